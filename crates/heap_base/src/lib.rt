@@ -1,0 +1,21 @@
+//! What every crate of the auditor stands on: names and numbers with their limits, the traits of the
+//! outside (where bytes come from and go to, who watches the workers), and the program's statuses.
+#![tactic(auto)]
+
+mod errors;
+mod gate;
+mod ids;
+mod names;
+mod sink;
+mod source;
+mod status;
+mod task;
+
+pub use errors::{Failed, OutOfMemory};
+pub use gate::{Gate, OpenGate};
+pub use ids::{ObjId, ThreadNo};
+pub use names::Name;
+pub use sink::{Sink, put_all};
+pub use source::Source;
+pub use status::Status;
+pub use task::Task;

@@ -1,0 +1,67 @@
+ghost use Rattle.std.specs.Prelude.{◌≡◌, Some, None, IfOk, IsTrue, if◌then◌else◌};
+ghost use Rattle.std.specs.List.{list_all};
+ghost use Rattle.heap_base.specs.Names.{is_name, is_name_byte};
+
+use crate::OutOfMemory;
+use std::alloc::Global;
+use std::marker::Model;
+
+/// The name of a type or of a root: 1 to 256 bytes of UTF-8, none of them a control character of ASCII
+/// (below 0x20, or 0x7F). Contracts see it as its bytes.
+#[derive(Debug, Drop)]
+pub struct Name {
+    text: String,
+}
+
+impl Model for Name {
+    ghost use Rattle.std.specs.Prelude.{List, ℕ, IsTrue};
+    ghost use Rattle.std.specs.String.{string_bytes};
+    ghost use Rattle.heap_base.specs.Names.{is_name};
+
+    ghost Value = { List ℕ };
+
+    ghost view = { λ n. string_bytes n.text };
+
+    ghost invariant = { λ n. IsTrue (is_name (string_bytes n.text)) };
+}
+
+impl Name {
+    /// The name with this text, and `Ok(None)` exactly where the text is no name.
+    pub fn of(alloc: Global, text: &str) -> Result<Option<Name>, OutOfMemory>
+        ensures { IfOk result (λ name. name ≡ (if is_name text.now then Some text.now else None)) }
+    {
+        if !is_legal(text) {
+            return Ok(None);
+        }
+        let text = String::from_str(alloc, text)?;
+        Ok(Some(Name { text }))
+    }
+
+    /// Its text.
+    pub fn as_str(&self) -> &str
+        ensures text { result.now ≡ self.now }
+        ensures legal { IsTrue (is_name self.now) }
+    {
+        self.text.as_str()
+    }
+
+    /// An equal name.
+    pub fn copy(&self) -> Result<Name, OutOfMemory>
+        ensures { IfOk result (λ name. name ≡ self.now) }
+    {
+        let text = self.text.clone()?;
+        Ok(Name { text })
+    }
+}
+
+fn is_legal(text: &str) -> bool
+    ensures { result ≡ is_name text.now }
+{
+    1 <= text.len() && text.len() <= 256 && has_no_control(text.as_bytes())
+}
+
+fn has_no_control(bytes: &[u8]) -> bool
+    ensures { result ≡ list_all is_name_byte bytes.now }
+{
+    bytes.iter().all(|b| 32 <= *b && *b != 127)
+}
