@@ -1,0 +1,87 @@
+-- What a heap is, as a trace describes it.
+use Rattle.std.specs.Prelude.{ℕ, List, [], ◌∷◌, ◌==◌, Bool, Option, None, Some, is_some, find, map, length, replicate, filter, slice_index_or, sum_by, option_and_then}
+use Rattle.std.specs.List.{list_any, filter_map}
+use Rattle.std.specs.Option.{option_map_or}
+use Rattle.std.specs.Ordering.{nat_cmp}
+use Rattle.std.specs.declared.cmp.Ordering.{Ordering}
+use Rattle.std.specs.Cmp.Lexicographic.{slice_cmp}
+use Rattle.std.specs.Str.{bytes_eq}
+
+-- An object: its id, the name of its type, and what its slots hold, each nothing or the id of an object.
+pub record Object : Type 0 where
+  pub id : ℕ
+  pub kind : List ℕ
+  pub slots : List (Option ℕ)
+
+-- The objects by id rising; the roots by the bytes of their names rising, each with the id of the object that it
+-- holds; the greatest id that was ever allocated, 0 before the first; and the type names that were seen, in the
+-- order in which they first came.
+pub record Table : Type 0 where
+  pub objects : List Object
+  pub roots : List (List ℕ × ℕ)
+  pub greatest : ℕ
+  pub kinds : List (List ℕ)
+
+-- A heap: its table; the ids asserted dead and those asserted unshared, each by id rising; for each thread, at the
+-- place of its number, its open regions, the innermost first, each the ids of its objects; the limits of types, by
+-- the bytes of their names; and the owners by assertion, as pairs of an ownee and its owner, by the ownee's id.
+pub record Heap : Type 0 where
+  pub table : Table
+  pub dead : List ℕ
+  pub unshared : List ℕ
+  pub regions : List (List (List ℕ))
+  pub limits : List (List ℕ × ℕ)
+  pub owners : List (ℕ × ℕ)
+
+-- names in the order of their bytes
+abbrev pub name_cmp : List ℕ → List ℕ → Ordering
+name_cmp = slice_cmp nat_cmp
+
+abbrev pub empty_table : Table
+empty_table = record { objects = []; roots = []; greatest = 0; kinds = [] }
+
+-- no region of any of the 1,024 threads is open
+abbrev pub no_regions : List (List (List ℕ))
+no_regions = replicate 1024 []
+
+-- the heap at the beginning of a trace
+abbrev pub empty_heap : Heap
+empty_heap = record { table = empty_table; dead = []; unshared = []; regions = no_regions; limits = []; owners = [] }
+
+-- the object with this id
+abbrev pub object_at : List Object → ℕ → Option Object
+object_at objects id = find (λ o. o.id == id) objects
+
+abbrev pub is_live : Table → ℕ → Bool
+is_live t id = is_some (object_at t.objects id)
+
+abbrev pub ids : Table → List ℕ
+ids t = map (λ o. o.id) t.objects
+
+-- the name of an object's type
+abbrev pub kind_at : Table → ℕ → List ℕ
+kind_at t id = option_map_or (λ o. o.kind) (object_at t.objects id) []
+
+-- how many slots all objects have together
+abbrev pub slot_count : Table → ℕ
+slot_count t = sum_by (λ o. length o.slots) t.objects
+
+-- whether a type name was seen
+abbrev pub is_seen : List (List ℕ) → List ℕ → Bool
+is_seen kinds kind = list_any (bytes_eq kind) kinds
+
+-- the open regions of a thread
+abbrev pub regions_of : List (List (List ℕ)) → ℕ → List (List ℕ)
+regions_of regions thread = slice_index_or regions thread []
+
+-- What a slot leads to. This is the one place that says which slots are edges: those that hold an object.
+abbrev pub edge_of : Option ℕ → Option ℕ
+edge_of slot = slot
+
+-- what an edge from slot k of the object x leads to
+abbrev pub edge_at : Table → ℕ → ℕ → Option ℕ
+edge_at t x k = option_map_or (λ o. edge_of (slice_index_or o.slots k None)) (object_at t.objects x) None
+
+-- what the edges of an object lead to, in the order of its slots
+abbrev pub targets : Table → ℕ → List ℕ
+targets t x = option_map_or (λ o. filter_map edge_of o.slots) (object_at t.objects x) []

@@ -1,0 +1,5 @@
+pub mod Answers
+pub mod Collecting
+pub mod Heap
+pub mod Reach
+pub mod Step
