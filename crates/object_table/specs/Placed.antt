@@ -1,7 +1,7 @@
 -- A table with the places of its objects: each cell holds one object or is empty.
-use Rattle.std.specs.Prelude.{◌≡◌, ℕ, ◌≤◌, List, [], length, Bool, true, IsTrue, Option, None, Some, filter_map, option_and_then, slice_index_or}
+use Rattle.std.specs.Prelude.{◌≡◌, ℕ, ◌≤◌, List, [], ◌∷◌, length, All, Bool, true, false, IsTrue, Option, None, Some, option_and_then, slice_index_or}
 use Rattle.std.specs.Option.{option_map_or}
-use Rattle.std.specs.List.{zip}
+use Rattle.std.specs.List.{cons_option}
 use Rattle.graph_meaning.specs.Heap.{Object, Table, empty_table, object_at, is_live, targets}
 use Rattle.graph_meaning.specs.Reach.{has_id}
 

@@ -1,4 +1,4 @@
-ghost use Rattle.std.specs.Prelude.{◌≡◌, ◌<◌, ◌≤◌, ℕ, IsTrue, None, Some, Ok, Err, false, length, position, option_and_then, option_map, is_some, result_err, slice_get, slice_index_or, IsSome, IsNone, IfSome, IfNone, IfOk, OnOk, OnErr};
+ghost use Rattle.std.specs.Prelude.{◌≡◌, ◌<◌, ◌≤◌, ℕ, IsTrue, None, Some, true, false, length, position, option_and_then, is_some, slice_get, slice_index_or, IsSome, IfSome, IfNone, IfOk, OnOk, OnErr};
 ghost use Rattle.std.specs.Result.{result_err};
 ghost use Rattle.std.specs.Str.{bytes_eq};
 ghost use Rattle.graph_meaning.specs.Answers.{RefusesBy};
@@ -36,19 +36,165 @@ impl ObjectTable {
         Err(OutOfMemory)
     }
 
-    /// Why `alloc_object` would refuse this object: its id is not above every id before, or too many objects,
-    /// slots or types. `None` where it would not.
-    pub fn alloc_refusal(&self, _id: ObjId, _kind: &Name, _slots: u32) -> Option<Refusal>
-        ensures { result ≡ alloc_refusal self.now.table _id _kind.now _slots }
+    /// Why `alloc_object` would refuse this object, and `None` where it would not.
+    pub fn alloc_refusal(&self, id: ObjId, kind: &Name, slots: u32) -> Option<Refusal>
+        ensures { result ≡ alloc_refusal self.now.table id kind.now slots }
     {
         match self.never {}
     }
 
-    /// Adds an object with empty slots. After a refusal, and where memory is wanting, nothing has changed.
-    pub fn alloc_object(&mut self, _id: ObjId, _kind: &Name, _slots: u32) -> Result<(), Stop>
-        ensures refused { RefusesBy result (alloc_refusal self.old.table _id _kind.now _slots) }
-        ensures added { OnOk result (self.new.table ≡ allocated self.old.table _id _kind.now _slots) }
+    /// Adds an object with empty slots. It refuses, in this order, an id that is not above every id before
+    /// (`IdNotRising`), an object too many (1,048,576 are live), slots too many (16,777,216 in all), and a new
+    /// type too many (65,536 were seen). After a refusal, and where memory is wanting, nothing has changed.
+    pub fn alloc_object(&mut self, id: ObjId, kind: &Name, slots: u32) -> Result<(), Stop>
+        ensures refused { RefusesBy result (alloc_refusal self.old.table id kind.now slots) }
+        ensures added { OnOk result (self.new.table ≡ allocated self.old.table id kind.now slots) }
         ensures err { OnErr result (self.new ≡ self.old) }
+    {
+        match self.never {}
+    }
+
+    /// Lets a slot hold an object, or nothing. It refuses, in this order, an `at` that is not live
+    /// (`NotLive`), a slot that `at` does not have (`BadSlot`), and a `to` that is not live (`NotLive`).
+    pub fn store(&mut self, at: ObjId, slot: u32, to: Option<ObjId>) -> Result<(), Refusal>
+        ensures refused { result_err result ≡ store_refusal self.old.table at slot to }
+        ensures stored { OnOk result (self.new.table ≡ stored self.old.table at slot to) }
+        ensures cells { self.new.cells ≡ self.old.cells }
+        ensures err { OnErr result (self.new ≡ self.old) }
+    {
+        match self.never {}
+    }
+
+    /// Lets a root name hold an object, or takes the name away, also where it is not there. It refuses, in
+    /// this order, a `to` that is not live (`NotLive`), and a new name where 65,536 are there
+    /// (`TooManyRoots`). Only a new name may want memory.
+    pub fn set_root(&mut self, name: &Name, to: Option<ObjId>) -> Result<(), Stop>
+        ensures refused { RefusesBy result (root_refusal self.old.table name.now to) }
+        ensures set { OnOk result (self.new.table ≡ with_root self.old.table name.now to) }
+        ensures cells { self.new.cells ≡ self.old.cells }
+        ensures memory { result ≡ Err Stop.OutOfMemory → IsSome to × (is_root self.old.table name.now ≡ false) }
+        ensures err { OnErr result (self.new ≡ self.old) }
+    {
+        match self.never {}
+    }
+
+    /// The number of a type, from 0 in the order in which the types first came, and `None` where it was not seen.
+    pub fn kind_number(&self, name: &Name) -> Option<u32>
+        ensures { result ≡ position (bytes_eq name.now) self.now.table.kinds }
+    {
+        match self.never {}
+    }
+
+    /// The number of a type, which is seen from now on. It refuses a new type where 65,536 were seen (`TooManyTypes`).
+    pub fn kind_of(&mut self, name: &Name) -> Result<u32, Stop>
+        ensures refused { RefusesBy result (kind_refusal self.old.table name.now) }
+        ensures number { IfOk result (λ n. position (bytes_eq name.now) self.new.table.kinds ≡ Some n) }
+        ensures seen { OnOk result (self.new.table ≡ record self.old.table { kinds = with_kind self.old.table.kinds name.now }) }
+        ensures cells { self.new.cells ≡ self.old.cells }
+        ensures err { OnErr result (self.new ≡ self.old) }
+    {
+        match self.never {}
+    }
+
+    /// How many types were seen.
+    pub fn kinds(&self) -> u32
+        ensures { result ≡ length self.now.table.kinds }
+    {
+        match self.never {}
+    }
+
+    /// The name of a type.
+    pub fn kind_name(&self, kind: u32) -> &Name
+        requires { kind < length self.now.table.kinds }
+        ensures { slice_get self.now.table.kinds kind ≡ Some result.now }
+    {
+        match self.never {}
+    }
+
+    /// How many cells there are, at most 1,048,576. Each object stands in one of them.
+    pub fn cells(&self) -> u32
+        ensures count { result ≡ length self.now.cells }
+        ensures placed { IsPlaced self.now }
+    {
+        match self.never {}
+    }
+
+    /// How many objects are live.
+    pub fn live(&self) -> u32
+        ensures { result ≡ length self.now.table.objects }
+    {
+        match self.never {}
+    }
+
+    /// The cell that holds the object, and `None` where it is not live.
+    pub fn cell_of(&self, id: ObjId) -> Option<u32>
+        ensures cell { IfSome result (λ cell. id_in self.now cell ≡ Some id) }
+        ensures none { IfNone result (is_live self.now.table id ≡ false) }
+    {
+        match self.never {}
+    }
+
+    /// The object that a cell holds, and `None` where it is empty.
+    pub fn id_at(&self, cell: u32) -> Option<ObjId>
+        requires { cell < length self.now.cells }
+        ensures { result ≡ id_in self.now cell }
+    {
+        match self.never {}
+    }
+
+    /// The number of the type of the object in a cell.
+    pub fn kind_at(&self, cell: u32) -> u32
+        requires { IsSome (id_in self.now cell) }
+        ensures { IfSome (object_in self.now cell) (λ o. slice_get self.now.table.kinds result ≡ Some o.kind) }
+    {
+        match self.never {}
+    }
+
+    /// How many slots the object in a cell has.
+    pub fn slots_at(&self, cell: u32) -> u32
+        requires { IsSome (id_in self.now cell) }
+        ensures { result ≡ length (slots_in self.now cell) }
+    {
+        match self.never {}
+    }
+
+    /// The cell of what a slot of the object in a cell leads to, and `None` where it leads nowhere.
+    pub fn slot_at(&self, cell: u32, slot: u32) -> Option<u32>
+        requires { slot < length (slots_in self.now cell) }
+        ensures leads { option_and_then (id_in self.now) result ≡ edge_of (slice_index_or (slots_in self.now cell) slot None) }
+        ensures in_a_cell { is_some result ≡ is_some (edge_of (slice_index_or (slots_in self.now cell) slot None)) }
+    {
+        match self.never {}
+    }
+
+    /// How many roots there are. They are numbered from 0 by the bytes of their names.
+    pub fn roots(&self) -> u32
+        ensures { result ≡ length self.now.table.roots }
+    {
+        match self.never {}
+    }
+
+    /// The name of a root.
+    pub fn root_name(&self, root: u32) -> &Name
+        requires { root < length self.now.table.roots }
+        ensures { IfSome (slice_get self.now.table.roots root) (λ r. result.now ≡ r.0) }
+    {
+        match self.never {}
+    }
+
+    /// The cell of the object that a root names.
+    pub fn root_cell(&self, root: u32) -> u32
+        requires { root < length self.now.table.roots }
+        ensures { IfSome (slice_get self.now.table.roots root) (λ r. id_in self.now result ≡ Some r.1) }
+    {
+        match self.never {}
+    }
+
+    /// Frees every object whose cell is not kept. Cells may be numbered anew.
+    pub fn keep(&mut self, kept: &[bool])
+        requires each { length kept.now ≡ length self.old.cells }
+        requires closed { LeadsToKept self.old.table (kept_ids self.old.cells kept.now) }
+        ensures { self.new.table ≡ only (kept_ids self.old.cells kept.now) self.old.table }
     {
         match self.never {}
     }
