@@ -1,0 +1,197 @@
+-- What one line of a trace is: no operation, an operation, or the first reason why it is refused.
+use Rattle.std.specs.Prelude.{ℕ, ◌==◌, ◌^◌, List, [], ◌∷◌, ◌++◌, Bool, true, false, ◌&&◌, ◌||◌, not, nat_le, nat_lt, if◌then◌else◌, Option, None, Some, option_map, option_and_then, Result, Ok, Err, codes}
+use Rattle.std.specs.List.{list_all}
+use Rattle.std.specs.Str.{bytes_eq, is_utf8}
+use Rattle.serde_json.specs.Data.{Data, null, boolean, number, string, array, object}
+use Rattle.serde_json.specs.Read.{read}
+use Rattle.serde_json.specs.Find.{get, as_number, as_object, as_str, as_u64}
+use Rattle.heap_base.specs.Names.{is_name}
+use Rattle.graph_meaning.specs.declared.event.Event.{Event}
+use Rattle.graph_meaning.specs.declared.event.Event.TheVariants.{Alloc, Store, Root, AssertDead, StartRegion, AssertAllDead, AssertInstances, AssertUnshared, AssertOwnedBy, Collect}
+use Rattle.graph_meaning.specs.declared.refusal.FieldName.{FieldName}
+use Rattle.graph_meaning.specs.declared.refusal.FieldName.TheVariants.{OpField, IdField, TypeField, SlotsField, ThreadField, AtField, SlotField, ToField, NameField, LimitField, OwnerField, OwneeField}
+use Rattle.graph_meaning.specs.declared.refusal.Refusal.{Refusal}
+use Rattle.graph_meaning.specs.declared.refusal.Refusal.TheVariants.{NotJson, NotObject, UnknownOp, MissingField, BadField}
+
+-- What a line of a trace is.
+pub data Item : Type 0 where
+  blank : Item
+  event : Event → Item
+  refused : Refusal → Item
+
+-- ---- fields
+
+-- how a field is spelled in a trace
+abbrev pub field_text : FieldName → List ℕ
+field_text OpField = codes "op"
+field_text IdField = codes "id"
+field_text TypeField = codes "type"
+field_text SlotsField = codes "slots"
+field_text ThreadField = codes "thread"
+field_text AtField = codes "at"
+field_text SlotField = codes "slot"
+field_text ToField = codes "to"
+field_text NameField = codes "name"
+field_text LimitField = codes "limit"
+field_text OwnerField = codes "owner"
+field_text OwneeField = codes "ownee"
+
+-- a value if it passes the test
+abbrev pub only_if : {A : Type 0} → (A → Bool) → A → Option A
+only_if test a = if test a then Some a else None
+
+-- a whole number, written without a fraction, an exponent or a sign, below 2^64
+abbrev pub whole_number : Data → Option ℕ
+whole_number d = option_and_then as_u64 (as_number d)
+
+-- an id is a whole number from 1 to 4,294,967,295
+abbrev pub id_value : Data → Option ℕ
+id_value d = option_and_then (only_if (λ n. nat_le 1 n && nat_lt n (2 ^ 32))) (whole_number d)
+
+-- a slot number, a number of slots or a limit is a whole number from 0 to 4,294,967,295
+abbrev pub count_value : Data → Option ℕ
+count_value d = option_and_then (only_if (λ n. nat_lt n (2 ^ 32))) (whole_number d)
+
+-- a thread is a whole number from 0 to 1,023
+abbrev pub thread_value : Data → Option ℕ
+thread_value d = option_and_then (only_if (λ n. nat_lt n 1024)) (whole_number d)
+
+-- what a slot or a root is to hold is an id, or null for nothing
+abbrev pub target_value : Data → Option (Option ℕ)
+target_value null = Some None
+target_value d = option_map Some (id_value d)
+
+-- a name is a text that may be a name
+abbrev pub name_value : Data → Option (List ℕ)
+name_value d = option_and_then (only_if is_name) (as_str d)
+
+-- ---- steps that may be refused
+
+infixl 10 ◌>>=◌
+abbrev pub ◌>>=◌ : {A B : Type 0} → Result A Refusal → (A → Result B Refusal) → Result B Refusal
+(Ok x) >>= f = f x
+(Err r) >>= f = Err r
+
+-- the value that is there, if it is good
+abbrev pub good : {A : Type 0} → FieldName → Option A → Result A Refusal
+good f None = Err (BadField f)
+good f (Some a) = Ok a
+
+abbrev pub needed_in : {A : Type 0} → FieldName → (Data → Option A) → Option Data → Result A Refusal
+needed_in f value None = Err (MissingField f)
+needed_in f value (Some d) = good f (value d)
+
+-- a field that must be there
+abbrev pub needed : {A : Type 0} → FieldName → (Data → Option A) → Data → Result A Refusal
+needed f value d = needed_in f value (get (field_text f) d)
+
+abbrev pub optional_in : {A : Type 0} → FieldName → (Data → Option A) → A → Option Data → Result A Refusal
+optional_in f value default None = Ok default
+optional_in f value default (Some d) = good f (value d)
+
+-- a field that may be missing, and is the default then
+abbrev pub optional : {A : Type 0} → FieldName → (Data → Option A) → A → Data → Result A Refusal
+optional f value default d = optional_in f value default (get (field_text f) d)
+
+-- ---- the ten operations, each with its fields in the order in which they are tested
+
+unfoldable pub alloc_in : Data → Result Event Refusal
+alloc_in d = do
+  id ← needed IdField id_value d
+  kind ← needed TypeField name_value d
+  slots ← optional SlotsField count_value 0 d
+  thread ← optional ThreadField thread_value 0 d
+  Ok (Alloc id kind slots thread)
+
+unfoldable pub store_in : Data → Result Event Refusal
+store_in d = do
+  at ← needed AtField id_value d
+  slot ← needed SlotField count_value d
+  to ← needed ToField target_value d
+  Ok (Store at slot to)
+
+unfoldable pub root_in : Data → Result Event Refusal
+root_in d = do
+  name ← needed NameField name_value d
+  to ← needed ToField target_value d
+  Ok (Root name to)
+
+unfoldable pub dead_in : Data → Result Event Refusal
+dead_in d = do
+  id ← needed IdField id_value d
+  Ok (AssertDead id)
+
+unfoldable pub start_in : Data → Result Event Refusal
+start_in d = do
+  thread ← optional ThreadField thread_value 0 d
+  Ok (StartRegion thread)
+
+unfoldable pub all_dead_in : Data → Result Event Refusal
+all_dead_in d = do
+  thread ← optional ThreadField thread_value 0 d
+  Ok (AssertAllDead thread)
+
+unfoldable pub instances_in : Data → Result Event Refusal
+instances_in d = do
+  kind ← needed TypeField name_value d
+  limit ← needed LimitField count_value d
+  Ok (AssertInstances kind limit)
+
+unfoldable pub unshared_in : Data → Result Event Refusal
+unshared_in d = do
+  id ← needed IdField id_value d
+  Ok (AssertUnshared id)
+
+unfoldable pub owned_in : Data → Result Event Refusal
+owned_in d = do
+  owner ← needed OwnerField id_value d
+  ownee ← needed OwneeField id_value d
+  Ok (AssertOwnedBy owner ownee)
+
+-- the operation of this name, from its fields
+unfoldable pub operation : List ℕ → Data → Result Event Refusal
+operation op d =
+    if bytes_eq op (codes "alloc") then alloc_in d
+    else (if bytes_eq op (codes "store") then store_in d
+    else (if bytes_eq op (codes "root") then root_in d
+    else (if bytes_eq op (codes "assert-dead") then dead_in d
+    else (if bytes_eq op (codes "start-region") then start_in d
+    else (if bytes_eq op (codes "assert-alldead") then all_dead_in d
+    else (if bytes_eq op (codes "assert-instances") then instances_in d
+    else (if bytes_eq op (codes "assert-unshared") then unshared_in d
+    else (if bytes_eq op (codes "assert-ownedby") then owned_in d
+    else (if bytes_eq op (codes "collect") then Ok Collect
+    else Err UnknownOp)))))))))
+
+-- an object's operation is named by its field `op`; fields that the operation does not name are ignored
+unfoldable pub event_in : Data → Result Event Refusal
+event_in (object members) = do
+  op ← needed OpField as_str (object members)
+  operation op (object members)
+event_in null = Err NotObject
+event_in (boolean b) = Err NotObject
+event_in (number n) = Err NotObject
+event_in (string s) = Err NotObject
+event_in (array ds) = Err NotObject
+
+-- ---- a line
+
+-- a space, a tab or a carriage return
+abbrev pub is_blank : ℕ → Bool
+is_blank b = b == 32 || b == 9 || b == 13
+
+-- the JSON value (RFC 8259) of a whole line, which must be UTF-8
+abbrev pub json_of : List ℕ → Option Data
+json_of line = if is_utf8 line then read line else None
+
+abbrev pub event_of_json : Option Data → Result Event Refusal
+event_of_json None = Err NotJson
+event_of_json (Some d) = event_in d
+
+abbrev pub item_from : Result Event Refusal → Item
+item_from (Ok e) = event e
+item_from (Err r) = refused r
+
+-- what a line is, without its newline
+unfoldable pub item_of_line : List ℕ → Item
+item_of_line line = if list_all is_blank line then blank else item_from (event_of_json (json_of line))

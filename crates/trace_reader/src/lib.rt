@@ -1,0 +1,10 @@
+//! Reads a trace: cuts its bytes into lines, and reads each line as an operation.
+#![tactic(auto)]
+
+mod cutter;
+mod error;
+mod line;
+
+pub use cutter::LineCutter;
+pub use error::CutError;
+pub use line::event_of;
