@@ -1,0 +1,34 @@
+-- What an auditor stands for: a heap, and totals over the collections so far.
+use Rattle.std.specs.Prelude.{ℕ, ◌+◌, length, Bool, true, false}
+use Rattle.graph_meaning.specs.declared.event.Event.{Event}
+use Rattle.graph_meaning.specs.declared.event.Event.TheVariants.{Alloc, Store, Root, AssertDead, StartRegion, AssertAllDead, AssertInstances, AssertUnshared, AssertOwnedBy, Collect}
+use Rattle.graph_meaning.specs.Heap.{Heap, empty_heap}
+use Rattle.graph_meaning.specs.Collecting.{after_collection, verdicts_of}
+
+-- The heap as it stands, how many collections were made, and how many verdicts they had together.
+pub record Audit : Type 0 where
+  pub heap : Heap
+  pub collections : ℕ
+  pub violations : ℕ
+
+-- an auditor at the beginning of a trace
+abbrev pub first_audit : Audit
+first_audit = record { heap = empty_heap; collections = 0; violations = 0 }
+
+-- after one more collection
+unfoldable pub collected : Audit → Audit
+collected a =
+    record { heap = after_collection a.heap; collections = a.collections + 1; violations = a.violations + length (verdicts_of a.heap) }
+
+-- the operations that an auditor applies, beside a collection
+abbrev pub is_applied : Event → Bool
+is_applied (Alloc id kind slots thread) = true
+is_applied (Store at slot to) = true
+is_applied (Root name to) = true
+is_applied (AssertDead id) = true
+is_applied (StartRegion thread) = false
+is_applied (AssertAllDead thread) = false
+is_applied (AssertInstances kind limit) = false
+is_applied (AssertUnshared id) = false
+is_applied (AssertOwnedBy owner ownee) = false
+is_applied Collect = false
