@@ -9,6 +9,7 @@ mod names;
 mod sink;
 mod source;
 mod status;
+mod stdio;
 mod task;
 
 pub use errors::{Failed, OutOfMemory};
@@ -18,4 +19,5 @@ pub use names::Name;
 pub use sink::{Sink, put_all};
 pub use source::Source;
 pub use status::Status;
+pub use stdio::{StdSink, StdSource};
 pub use task::Task;
