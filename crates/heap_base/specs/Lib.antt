@@ -1,4 +1,6 @@
 pub mod Causes
+pub mod Counts
+pub mod Memory
 pub mod Names
 pub mod Sinks
 pub mod Streams

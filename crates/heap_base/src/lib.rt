@@ -5,16 +5,20 @@
 mod errors;
 mod gate;
 mod ids;
+mod memory;
 mod names;
 mod sink;
 mod source;
 mod status;
 mod stdio;
 mod task;
+#[cfg(test)]
+mod tests;
 
 pub use errors::{Failed, OutOfMemory};
 pub use gate::{Gate, OpenGate};
 pub use ids::{ObjId, ThreadNo};
+pub use memory::{MemSink, MemSource};
 pub use names::Name;
 pub use sink::{Sink, put_all};
 pub use source::Source;

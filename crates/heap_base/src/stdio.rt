@@ -1,4 +1,7 @@
-ghost use Rattle.std.specs.Prelude.{◌≡◌};
+ghost use Rattle.std.specs.Prelude.{◌≡◌, ◌<◌, ◌≤◌, length, IfOk};
+ghost use Rattle.std.specs.Io.KnownBytes.{ReadConsumes, WriteAppends};
+ghost use Rattle.heap_base.specs.Causes.{HasCause};
+ghost use Rattle.heap_base.specs.Counts.{CountsFault};
 
 use crate::{Failed, Sink, Source};
 use std::io::{Read, Write};
@@ -34,7 +37,13 @@ impl<R: Read> Source for StdSource<R> {
 
     ghost faults = { λ s. s.faults };
 
-    fn read(&mut self, into: &mut [u8]) -> Result<usize, Failed> {
+    fn read(&mut self, into: &mut [u8]) -> Result<usize, Failed>
+        requires { 0 < length into.old }
+        ensures bound { IfOk result (λ n. n ≤ length into.old) }
+        ensures bytes { ReadConsumes self.old.bytes self.new.bytes result into.new }
+        ensures cause { HasCause self.old.faults self.new.faults result }
+        ensures counted { CountsFault self.old.faults self.new.faults result }
+    {
         match self.reader.read(into) {
             Ok(n) => Ok(n),
             Err(_) => {
@@ -75,7 +84,13 @@ impl<W: Write> Sink for StdSink<W> {
 
     ghost faults = { λ s. s.faults };
 
-    fn write(&mut self, piece: &[u8]) -> Result<usize, Failed> {
+    fn write(&mut self, piece: &[u8]) -> Result<usize, Failed>
+        requires { 0 < length piece.now }
+        ensures bound { IfOk result (λ n. (0 < n) × (n ≤ length piece.now)) }
+        ensures bytes { WriteAppends self.old.bytes self.new.bytes result piece.now }
+        ensures cause { HasCause self.old.faults self.new.faults result }
+        ensures counted { CountsFault self.old.faults self.new.faults result }
+    {
         match self.writer.write(piece) {
             Ok(n) if 0 < n => Ok(n),
             _ => {
