@@ -1,5 +1,6 @@
 //! What every crate of the auditor stands on: names and numbers with their limits, the traits of the
-//! outside (where bytes come from and go to, who watches the workers), and the program's statuses.
+//! outside (where bytes come from and go to, who watches the workers), sources and sinks in memory and over
+//! std's readers and writers, and the program's statuses.
 #![tactic(auto)]
 
 mod errors;

@@ -11,31 +11,31 @@ use std::marker::Model;
 #[derive(Debug, Drop)]
 struct Calls {
     fails: Vec<u64>,
-    calls: u64,
+    made: u64,
     faults: u64,
 }
 
 impl Calls {
     fn make(alloc: Global, fails: &[u64]) -> Result<Calls, OutOfMemory>
         ensures fails { IfOk result (λ c. c.fails.items ≡ fails.now) }
-        ensures calls { IfOk result (λ c. c.calls ≡ 0) }
+        ensures made { IfOk result (λ c. c.made ≡ 0) }
         ensures faults { IfOk result (λ c. c.faults ≡ 0) }
     {
         let fails = fails.to_vec(alloc)?;
         Ok(Calls {
             fails,
-            calls: 0,
+            made: 0,
             faults: 0,
         })
     }
 
     /// Counts a call, and says whether it fails by its number.
     fn next_fails(&mut self) -> bool
-        ensures answer { result ≡ is_listed self.old.fails.items self.new.calls }
-        ensures counted { self.new ≡ record self.old { calls = one_more self.old.calls } }
+        ensures answer { result ≡ is_listed self.old.fails.items self.new.made }
+        ensures counted { self.new ≡ record self.old { made = one_more self.old.made } }
     {
-        self.calls = self.calls.saturating_add(1);
-        self.fails.contains(&self.calls)
+        self.made = self.made.saturating_add(1);
+        self.fails.contains(&self.made)
     }
 
     /// Counts a fault, and gives its error.
@@ -67,7 +67,7 @@ impl Model for MemSource {
       left = drop s.begin s.bytes.items;
       piece = s.piece;
       fails = s.calls.fails.items;
-      calls = s.calls.calls;
+      calls = s.calls.made;
       faults = s.calls.faults;
     } };
 
@@ -163,7 +163,7 @@ impl Model for MemSink {
       room = s.room;
       piece = s.piece;
       fails = s.calls.fails.items;
-      calls = s.calls.calls;
+      calls = s.calls.made;
       faults = s.calls.faults;
     } };
 
@@ -222,7 +222,7 @@ impl Sink for MemSink {
           faults = one_more self.old.faults;
         }) }
 
-        // Any other call takes as many bytes as the most of one write, what it is handed and the room allow.
+        // Any other call takes as many bytes as the piece, what it is handed and the room left allow.
         ensures count { IfOk result (λ n. n ≡ min self.old.piece
             (min (length piece.now) (self.old.room - length self.old.held))) }
         ensures taken { IfOk result (λ n. self.new ≡ record self.old {
@@ -230,11 +230,11 @@ impl Sink for MemSink {
           calls = one_more self.old.calls;
         }) }
     {
-        let room = self.room as usize - self.held.len();
-        if self.calls.next_fails() || room == 0 {
+        let room_left = self.room as usize - self.held.len();
+        if self.calls.next_fails() || room_left == 0 {
             return Err(self.calls.fault());
         }
-        let n = (self.piece as usize).min(piece.len()).min(room);
+        let n = (self.piece as usize).min(piece.len()).min(room_left);
         match self.held.extend_from_slice(&piece[..n]) {
             Ok(()) => Ok(n),
             Err(_) => unreachable!(),

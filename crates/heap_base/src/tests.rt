@@ -1,6 +1,6 @@
 use crate::{
-    Failed, Gate, MemSink, MemSource, Name, ObjId, OpenGate, Sink, Source, Status, StdSink,
-    StdSource, ThreadNo, put_all,
+    Failed, Gate, MemSink, MemSource, Name, ObjId, OpenGate, OutOfMemory, Sink, Source, Status,
+    StdSink, StdSource, ThreadNo, put_all,
 };
 use std::test::Fail;
 
@@ -25,6 +25,13 @@ fn names_have_1_to_256_bytes_and_no_control(rt: HostRuntime) -> Result<(), Fail>
             None => assert!(rt; !legal),
         }
     }
+    Ok(())
+}
+
+#[test]
+fn errors_are_printed(rt: HostRuntime) -> Result<(), Fail> {
+    let text = format!(in rt.alloc(); "{Failed}; {OutOfMemory}")?;
+    assert_eq!(rt; text.as_str(), "a read or a write failed; out of memory");
     Ok(())
 }
 
