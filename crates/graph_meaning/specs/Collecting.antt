@@ -1,6 +1,6 @@
 -- What a collection finds in a heap, and what it leaves.
 -- The assertions are those of E. Aftandilian and S. Guyer, "GC Assertions", PLDI 2009.
-use Rattle.std.specs.Prelude.{ℕ, ◌-◌, List, length, map, filter, Bool, true}
+use Rattle.std.specs.Prelude.{ℕ, ◌-◌, List, length, map, filter, true}
 use Rattle.graph_meaning.specs.declared.collection.Collection.{Collection}
 use Rattle.graph_meaning.specs.declared.collection.Verdict.{Verdict}
 use Rattle.graph_meaning.specs.declared.collection.Verdict.TheVariants.{Dead}

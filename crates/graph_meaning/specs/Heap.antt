@@ -1,5 +1,5 @@
 -- What a heap is, as a trace describes it.
-use Rattle.std.specs.Prelude.{ℕ, List, [], ◌∷◌, ◌==◌, Bool, Option, None, Some, is_some, find, map, length, replicate, filter, slice_index_or, sum_by, option_and_then}
+use Rattle.std.specs.Prelude.{ℕ, List, [], ◌==◌, Bool, Option, None, is_some, find, map, length, replicate, slice_index_or, sum_by}
 use Rattle.std.specs.List.{list_any, filter_map}
 use Rattle.std.specs.Option.{option_map_or}
 use Rattle.std.specs.Ordering.{nat_cmp}

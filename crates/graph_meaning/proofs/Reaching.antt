@@ -1,0 +1,138 @@
+-- What is computed round by round is what paths lead to.
+use Rattle.std.proofs.Common.{◌≡◌, ℕ, zero, suc, ◌<◌, ◌≤◌, Bool, true, ◌&&◌, ◌||◌, ◌⊎◌, inl, inr, ⊎_elim, List, [], ◌∷◌, ◌++◌, length, filter, sym, ap, refl, subst, ◌∙◌, arith, IsTrue}
+use Rattle.std.specs.List.{list_any}
+use Rattle.std.proofs.lemmas.Bool.{or_cases, or_left, or_right, and_parts, and_from, cases_lt}
+use Rattle.std.proofs.lemmas.Bool.Decides.{same_from_decides}
+use Rattle.graph_meaning.specs.Reach.{Graph, has_id, HasEdge, IsPath, IsReachable, further, within, reached, ReachedIsReachable}
+use Rattle.graph_meaning.proofs.Membership.{filter_itself, has_id-filter, list_any-from_has_id, has_id-from_list_any, length-filter_le, filter-same_length}
+
+-- a path and one more edge are a path
+pub IsPath-snoc : (g : Graph) (x : ℕ) (steps : List ℕ) (y z : ℕ) → IsPath g x steps y → IsTrue (g.passable y) → HasEdge g y z → IsPath g x (steps ++ z ∷ []) z
+IsPath-snoc g x [] y z path passes edge = (ap g.passable path ∙ passes, subst (λ w. HasEdge g w z) (sym path) edge, refl)
+IsPath-snoc g x (s ∷ steps) y z path passes edge = (path.0, path.1, IsPath-snoc g s steps y z path.2 passes edge)
+
+-- the tests m passes each source that is a node, and what an edge from a passable node that it passes leads to
+pub record IsClosed (g : Graph) (sources : List ℕ) (m : ℕ → Bool) : Type 0 where
+  pub from_sources : (x : ℕ) → IsTrue (has_id sources x) → IsTrue (has_id g.nodes x) → IsTrue (m x)
+  pub along_edges : (x y : ℕ) → IsTrue (m x) → IsTrue (g.passable x) → HasEdge g x y → IsTrue (m y)
+
+module _ (g : Graph) (sources : List ℕ) where
+  -- ---- a path leads to each node that is found
+
+  reachable_within : (n y : ℕ) → IsTrue (has_id (within g sources n) y) → IsReachable g sources y
+  unfolding within
+  reachable_within zero y at =
+      let both = and_parts _ _ (sym (has_id-filter (has_id sources) g.nodes y) ∙ at) in
+      (y, [], both.0, both.1, refl)
+  reachable_within (suc n) y at =
+      let found = within g sources n in
+      let both = and_parts _ _ (sym (has_id-filter (λ z. has_id found z || list_any (λ x. g.passable x && has_id (g.targets x) z) found) g.nodes y) ∙ at) in
+      ⊎_elim
+      (λ before. reachable_within n y before)
+      (λ beyond.
+      let step = has_id-from_list_any (λ x. g.passable x && has_id (g.targets x) y) found beyond in
+      let edge = and_parts _ _ step.2 in
+      let path = reachable_within n step.0 step.1 in
+      (path.0, path.1 ++ y ∷ [], path.2, path.3, IsPath-snoc g path.0 path.1 step.0 y path.4 edge.0 (edge.1, both.1)))
+      (or_cases _ _ both.0)
+
+  -- ---- as many rounds as there are nodes find all that there is to find
+
+  abbrev grown : List ℕ → ℕ → Bool
+  grown found y = has_id found y || list_any (λ x. g.passable x && has_id (g.targets x) y) found
+
+  -- each round keeps what was found, in the order of the nodes
+  within_is_filter : (n : ℕ) → filter (has_id (within g sources n)) g.nodes ≡ within g sources n
+  unfolding within
+  within_is_filter zero = filter_itself (has_id sources) g.nodes
+  within_is_filter (suc n) = filter_itself (grown (within g sources n)) g.nodes
+
+  within-in_nodes : (n y : ℕ) → IsTrue (has_id (within g sources n) y) → IsTrue (has_id g.nodes y)
+  within-in_nodes n y at =
+      (and_parts _ _ (sym (has_id-filter (has_id (within g sources n)) g.nodes y) ∙ ap (λ ys. has_id ys y) (within_is_filter n) ∙ at)).1
+
+  count_le : (n : ℕ) → length (within g sources n) ≤ length g.nodes
+  count_le n = subst (λ ys. length ys ≤ length g.nodes) (within_is_filter n) (length-filter_le (has_id (within g sources n)) g.nodes)
+
+  -- a round finds more, or it finds nothing new
+  more_or_same : (n : ℕ) → (length (within g sources n) < length (within g sources (suc n))) ⊎ (within g sources n ≡ within g sources (suc n))
+  unfolding within
+  more_or_same n =
+      let before = within g sources n in
+      ⊎_elim
+      (λ more. inl more)
+      (λ few. inr (sym (within_is_filter n) ∙ filter-same_length (has_id before) (grown before) (λ x at. or_left _ _ at) g.nodes (subst (λ ys. length (filter (grown before) g.nodes) ≤ length ys) (sym (within_is_filter n)) few)))
+      (cases_lt (length before) (length (within g sources (suc n))))
+
+  same_next : (n : ℕ) → within g sources n ≡ within g sources (suc n) → within g sources (suc n) ≡ within g sources (suc (suc n))
+  unfolding within
+  same_next n same = ap (further g) same
+
+  many_or_same : (n : ℕ) → (n < length (within g sources (suc n))) ⊎ (within g sources n ≡ within g sources (suc n))
+  many_or_same zero = ⊎_elim (λ more. inl (omega arith)) (λ same. inr same) (more_or_same zero)
+  many_or_same (suc n) =
+      ⊎_elim
+      (λ many. ⊎_elim (λ more. inl (omega arith)) (λ same. inr same) (more_or_same (suc n)))
+      (λ same. inr (same_next n same))
+      (many_or_same n)
+
+  same_at_last : within g sources (length g.nodes) ≡ within g sources (suc (length g.nodes))
+  same_at_last =
+      ⊎_elim
+      (λ many. absurd (omega (arith, count_le (suc (length g.nodes)))))
+      (λ same. same)
+      (many_or_same (length g.nodes))
+
+  source_within : (n x : ℕ) → IsTrue (has_id sources x) → IsTrue (has_id g.nodes x) → IsTrue (has_id (within g sources n) x)
+  unfolding within
+  source_within zero x source node = has_id-filter (has_id sources) g.nodes x ∙ and_from _ _ source node
+  source_within (suc n) x source node =
+      has_id-filter (grown (within g sources n)) g.nodes x ∙ and_from _ _ (or_left _ _ (source_within n x source node)) node
+
+-- one more round finds nothing new
+pub reached-further : (g : Graph) (sources : List ℕ) → further g (reached g sources) ≡ reached g sources
+unfolding reached within
+reached-further g sources = sym (same_at_last g sources)
+
+-- only nodes are reached
+pub reached-in_nodes : (g : Graph) (sources : List ℕ) (y : ℕ) → IsTrue (has_id (reached g sources) y) → IsTrue (has_id g.nodes y)
+unfolding reached
+reached-in_nodes g sources y at = within-in_nodes g sources (length g.nodes) y at
+
+-- the sources that are nodes are reached
+source_reached : (g : Graph) (sources : List ℕ) (x : ℕ) → IsTrue (has_id sources x) → IsTrue (has_id g.nodes x) → IsTrue (has_id (reached g sources) x)
+unfolding reached
+source_reached g sources x source node = source_within g sources (length g.nodes) x source node
+
+-- What is reached is closed.
+pub reached-closed : (g : Graph) (sources : List ℕ) → IsClosed g sources (has_id (reached g sources))
+reached-closed g sources = record {
+  from_sources = source_reached g sources;
+  along_edges = λ x y at passes edge.
+      let found = reached g sources in
+      subst (λ ys. has_id ys y ≡ true) (reached-further g sources)
+      (has_id-filter (grown g sources found) g.nodes y ∙ and_from _ _ (or_right _ _ (list_any-from_has_id (λ z. g.passable z && has_id (g.targets z) y) found x at (and_from _ _ passes edge.0))) edge.1);
+}
+
+-- a closed test passes the end of each path from what it passes
+closed_path : (g : Graph) (sources : List ℕ) (m : ℕ → Bool) → IsClosed g sources m → (x : ℕ) (steps : List ℕ) (y : ℕ) → IsTrue (m x) → IsPath g x steps y → IsTrue (m y)
+closed_path g sources m closed x [] y at path = ap m (sym path) ∙ at
+closed_path g sources m closed x (z ∷ steps) y at path =
+    closed_path g sources m closed z steps y (closed.along_edges x z at path.0 path.1) path.2
+
+-- a closed test passes all that is reachable
+pub IsClosed-reachable : (g : Graph) (sources : List ℕ) (m : ℕ → Bool) → IsClosed g sources m → (y : ℕ) → IsReachable g sources y → IsTrue (m y)
+IsClosed-reachable g sources m closed y r =
+    closed_path g sources m closed r.0 r.1 y (closed.from_sources r.0 r.2 r.3) r.4
+
+pub reached_is_reachable : ReachedIsReachable
+unfolding reached
+reached_is_reachable g sources y = (
+  reachable_within g sources (length g.nodes) y,
+  IsClosed-reachable g sources (has_id (reached g sources)) (reached-closed g sources) y,
+)
+
+-- A closed test that passes reachable nodes alone passes exactly what is reached.
+pub IsClosed-is_reached : (g : Graph) (sources : List ℕ) (m : ℕ → Bool) → IsClosed g sources m → ((y : ℕ) → IsTrue (m y) → IsReachable g sources y) → (y : ℕ) → m y ≡ has_id (reached g sources) y
+IsClosed-is_reached g sources m closed only y =
+    same_from_decides (m y) (has_id (reached g sources) y) (only y, IsClosed-reachable g sources m closed y) (reached_is_reachable g sources y)
