@@ -1,2 +1,3 @@
+pub mod HeapLemmas
 pub mod Membership
 pub mod Reaching

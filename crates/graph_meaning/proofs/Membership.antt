@@ -1,7 +1,15 @@
--- Facts on whether a number stands in a list, and on what a filter keeps.
-use Rattle.std.proofs.Common.{◌≡◌, ℕ, ◌≤◌, Bool, true, false, ◌&&◌, cond, ⊎_elim, List, [], ◌∷◌, length, filter, ap, refl, ◌∙◌, arith, eqb-true, eq-eqb, eqb}
-use Rattle.std.specs.List.{list_any}
-use Rattle.std.proofs.lemmas.Bool.{or_cases, or_left, or_right, false≢true}
+-- Facts on whether a number stands in a list, on what a filter keeps, and on what a search finds.
+use Rattle.std.proofs.Common.{◌≡◌, ℕ, zero, suc, ◌<◌, ◌≤◌, Bool, true, false, ◌&&◌, ◌||◌, cond, ⊎_elim, List, [], ◌∷◌, ◌++◌, length, get_or, filter, ap, refl, ◌∙◌, arith, eqb-true, eq-eqb, eqb}
+use Rattle.std.specs.List.{list_any, Contains, find}
+use Rattle.std.specs.Option.{option_map, is_some}
+use Rattle.std.specs.Prelude.{None, Some, ◌==◌, IsTrue, ◌↔◌, map}
+use Rattle.std.specs.Ordering.{nat_cmp, match_ordering}
+use Rattle.std.specs.declared.cmp.Ordering.{Ordering}
+use Rattle.std.specs.declared.cmp.Ordering.TheVariants.{Less, Equal, Greater}
+use Rattle.std.proofs.lemmas.Bool.Decides.{nat_tests}
+use Rattle.std.specs.BTreeSet.{insert_key}
+use Rattle.std.proofs.lemmas.List.Folds.{list_any-append}
+use Rattle.std.proofs.lemmas.Bool.{cases_Bool, or_cases, or_left, or_right, false≢true}
 use Rattle.std.proofs.lemmas.List.Sums.{length-filter, count_by-le-length}
 use Rattle.std.proofs.lemmas.Map.Views.{any-filter_same}
 use Rattle.graph_meaning.specs.Reach.{has_id}
@@ -74,3 +82,93 @@ filter_itself p xs = filter_agree_within (has_id (filter p xs)) p xs (λ x at. h
     and_at_true : (a : Bool) {b : Bool} → b ≡ true → (a && b) ≡ a
     and_at_true true e = e
     and_at_true false e = refl
+
+-- ---- membership of lists that are put together
+
+pub has_id-append : (xs ys : List ℕ) (y : ℕ) → has_id (xs ++ ys) y ≡ (has_id xs y || has_id ys y)
+has_id-append xs ys y = list_any-append (λ x. eqb x y) xs ys
+
+-- the test and the library's word for an element
+pub has_id-Contains : (xs : List ℕ) (y : ℕ) → IsTrue (has_id xs y) ↔ Contains xs y
+has_id-Contains xs y = (to xs, λ at. from xs at.0 at.1 at.2)
+  where
+    to : (zs : List ℕ) → has_id zs y ≡ true → Contains zs y
+    to [] at = absurd (false≢true at)
+    to (z ∷ zs) at =
+        ⊎_elim
+        (λ here. (zero, omega arith, eqb-true z y here))
+        (λ later. let at_rest = to zs later in (suc at_rest.0, omega (arith, at_rest.1), at_rest.2))
+        (or_cases _ _ at)
+
+    from : (zs : List ℕ) (k : ℕ) → k < length zs → get_or zs k y ≡ y → has_id zs y ≡ true
+    from [] k within same = absurd (omega arith)
+    from (z ∷ zs) zero within same = or_left _ _ (eq-eqb z y same)
+    from (z ∷ zs) (suc k) within same = or_right _ _ (from zs k (omega arith) same)
+
+or_twice : (a b : Bool) → (a || b) ≡ (a || (a || b))
+or_twice true b = refl
+or_twice false b = refl
+
+or_swapped : (a b c : Bool) → (a || (b || c)) ≡ (b || (a || c))
+or_swapped true true c = refl
+or_swapped true false c = refl
+or_swapped false b c = refl
+
+same_from_cmp : (a b : ℕ) → nat_cmp a b ≡ Equal → a ≡ b
+same_from_cmp a b tied = grind (arith, nat_tests)
+
+-- the key is inserted, and the others stay
+pub has_id-insert_key : (xs : List ℕ) (k y : ℕ) → has_id (insert_key nat_cmp xs k) y ≡ ((k == y) || has_id xs y)
+has_id-insert_key [] k y = refl
+has_id-insert_key (x ∷ xs) k y = go (nat_cmp k x) (same_from_cmp k x) (has_id-insert_key xs k y)
+  where
+    go : (o : Ordering) → (o ≡ Equal → k ≡ x) → has_id (insert_key nat_cmp xs k) y ≡ ((k == y) || has_id xs y) → has_id (match_ordering o (k ∷ x ∷ xs) (x ∷ xs) (x ∷ insert_key nat_cmp xs k)) y ≡ ((k == y) || ((x == y) || has_id xs y))
+    go Less same rest = refl
+    go Equal same rest = rw (same refl) (or_twice (x == y) (has_id xs y))
+    go Greater same rest = ap (λ b. (x == y) || b) rest ∙ or_swapped (x == y) (k == y) (has_id xs y)
+
+-- ---- what a search finds
+
+pub list_any-map : {X Y : Type 0} (p : Y → Bool) (f : X → Y) (xs : List X) → list_any p (map f xs) ≡ list_any (λ x. p (f x)) xs
+list_any-map p f [] = refl
+list_any-map p f (x ∷ xs) = ap (λ b. p (f x) || b) (list_any-map p f xs)
+
+pub is_some-find : {X : Type 0} (p : X → Bool) (xs : List X) → is_some (find p xs) ≡ list_any p xs
+is_some-find p [] = refl
+is_some-find {X} p (x ∷ xs) = go (p x) (is_some-find p xs)
+  where
+    go : (b : Bool) → is_some (find p xs) ≡ list_any p xs → is_some (cond b (Some x) (find p xs)) ≡ (b || list_any p xs)
+    go true rest = refl
+    go false rest = rest
+
+-- a search among mapped elements
+pub find-map : {X Y : Type 0} (p : Y → Bool) (f : X → Y) (xs : List X) → find p (map f xs) ≡ option_map f (find (λ x. p (f x)) xs)
+find-map p f [] = refl
+find-map {X} {Y} p f (x ∷ xs) = go (p (f x)) (find-map p f xs)
+  where
+    go : (b : Bool) → find p (map f xs) ≡ option_map f (find (λ z. p (f z)) xs) → cond b (Some (f x)) (find p (map f xs)) ≡ option_map f (cond b (Some x) (find (λ z. p (f z)) xs))
+    go true rest = refl
+    go false rest = rest
+
+-- tests that agree find the same
+pub find_agree : {X : Type 0} (p q : X → Bool) → ((x : X) → p x ≡ q x) → (xs : List X) → find p xs ≡ find q xs
+find_agree p q agree [] = refl
+find_agree {X} p q agree (x ∷ xs) = rw (agree x, find_agree p q agree xs) refl
+
+-- a search after a filter that gives one answer at all that the search would find
+pub find-filter : {X : Type 0} (p q : X → Bool) (b : Bool) → ((x : X) → p x ≡ true → q x ≡ b) → (xs : List X) → find p (filter q xs) ≡ cond b (find p xs) None
+find-filter p q true agree [] = refl
+find-filter p q false agree [] = refl
+find-filter {X} p q b agree (x ∷ xs) =
+    ⊎_elim
+    (λ passes. rw (agree x passes, passes) (found passes b (find-filter p q b agree xs)))
+    (λ fails. rw fails (passed fails (q x) ∙ find-filter p q b agree xs))
+    (cases_Bool (p x))
+  where
+    found : p x ≡ true → (c : Bool) → find p (filter q xs) ≡ cond c (find p xs) None → find p (cond c (x ∷ filter q xs) (filter q xs)) ≡ cond c (Some x) None
+    found passes true rest = rw passes refl
+    found passes false rest = rest
+
+    passed : p x ≡ false → (c : Bool) → find p (cond c (x ∷ filter q xs) (filter q xs)) ≡ find p (filter q xs)
+    passed fails true = rw fails refl
+    passed fails false = refl
