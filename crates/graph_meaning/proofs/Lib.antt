@@ -1,3 +1,4 @@
+pub mod Computed
 pub mod HeapLemmas
 pub mod Membership
 pub mod Reaching

@@ -1,5 +1,6 @@
 pub mod Answers
 pub mod Collecting
+pub mod Examples
 pub mod Heap
 pub mod Reach
 pub mod Step

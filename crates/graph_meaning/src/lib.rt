@@ -4,6 +4,7 @@
 
 mod collection;
 mod event;
+mod examples;
 mod laws;
 mod lists;
 mod paths;
@@ -12,6 +13,11 @@ mod views;
 
 pub use collection::{Collection, Verdict, VerdictList};
 pub use event::Event;
+pub use examples::{
+    a_cycle_that_no_root_leads_to_is_freed, an_object_asserted_dead_that_a_root_names_is_a_verdict,
+    an_object_belongs_to_each_region_that_is_open, an_object_that_two_ways_lead_to_is_traced_once,
+    an_object_that_was_freed_is_not_live, operations_are_refused,
+};
 pub use laws::reached_is_reached_by_a_path;
 pub use lists::Sequence;
 pub use paths::{PathFrom, PathStep, PathView, Shown, StepList};
