@@ -9,6 +9,8 @@ mod laws;
 mod lists;
 mod paths;
 mod refusal;
+#[cfg(test)]
+mod tests;
 mod views;
 
 pub use collection::{Collection, Verdict, VerdictList};
