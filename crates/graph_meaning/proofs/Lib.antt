@@ -2,3 +2,4 @@ pub mod Computed
 pub mod HeapLemmas
 pub mod Membership
 pub mod Reaching
+pub mod Live

@@ -20,7 +20,10 @@ pub use examples::{
     an_object_belongs_to_each_region_that_is_open, an_object_that_two_ways_lead_to_is_traced_once,
     an_object_that_was_freed_is_not_live, operations_are_refused,
 };
-pub use laws::reached_is_reached_by_a_path;
+pub use laws::{
+    a_collection_keeps_what_a_path_leads_to, reached_is_reached_by_a_path,
+    whatever_a_heap_refers_to_is_live,
+};
 pub use lists::Sequence;
 pub use paths::{PathFrom, PathStep, PathView, Shown, StepList};
 pub use refusal::{FieldName, Refusal, Stop};
