@@ -1,14 +1,15 @@
 -- Facts on the definitions of heaps and collections.
-use Rattle.std.proofs.Common.{◌≡◌, ℕ, zero, suc, Bool, true, false, ◌&&◌, ◌||◌, cond, List, [], ◌∷◌, ◌++◌, filter, map, replicate, get_or, sym, ap, refl, ◌∙◌, eqb-true, slice_set, IsTrue, ◌==◌, Option, None, Some}
+use Rattle.std.proofs.Common.{◌≡◌, ℕ, zero, suc, Bool, true, false, ◌&&◌, ◌||◌, cond, List, [], ◌∷◌, ◌++◌, filter, map, replicate, get_or, sym, ap, refl, ◌∙◌, All, eq-eqb, eqb-true, slice_set, IsTrue, ◌==◌, Option, None, Some}
 use Rattle.std.specs.Option.{option_map, option_or, is_some}
 use Rattle.std.proofs.lemmas.List.{set-get_or}
-use Rattle.std.proofs.lemmas.List.Folds.{find-append}
+use Rattle.std.proofs.lemmas.List.Elements.{All-weaker}
+use Rattle.std.proofs.lemmas.List.Folds.{find-append, list_any_at}
 use Rattle.graph_meaning.specs.Reach.{has_id}
 use Rattle.graph_meaning.specs.Heap.{Object, Table, object_at, is_live, ids, targets, no_regions}
 use Rattle.graph_meaning.specs.Collecting.{object_graph, root_ids, traced_ids, only}
 use Rattle.graph_meaning.specs.Step.{allocated, stored, with_root, with_slot, noted}
-use Rattle.graph_meaning.proofs.Membership.{list_any-map, is_some-find, find-map, find_agree, find-filter}
-use Rattle.graph_meaning.proofs.Reaching.{reached-closed, reached-in_nodes}
+use Rattle.graph_meaning.proofs.Membership.{filter_agree_all, list_any-map, is_some-find, find-map, find_agree, find-filter}
+use Rattle.graph_meaning.proofs.Reaching.{IsClosed, IsClosed-is_reached, reached_is_reachable, reached-closed, reached-in_nodes}
 
 -- the ids of the objects are those that are live
 pub has_id-ids : (t : Table) (id : ℕ) → has_id (ids t) id ≡ is_live t id
@@ -32,6 +33,17 @@ pub traced-along_edge : (t : Table) (x y : ℕ) → IsTrue (has_id (traced_ids t
 unfolding traced_ids
 traced-along_edge t x y at held live =
     (reached-closed (object_graph t) (root_ids t)).along_edges x y at refl (held, has_id-ids t y ∙ live)
+
+-- A test that passes traced objects alone, each live object that a root names, and each live object that an edge from
+-- one that it passes leads to, passes exactly the traced ones.
+pub traced-from_closed : (t : Table) (m : ℕ → Bool) → ((x : ℕ) → IsTrue (has_id (root_ids t) x) → IsTrue (is_live t x) → IsTrue (m x)) → ((x y : ℕ) → IsTrue (m x) → IsTrue (has_id (targets t x) y) → IsTrue (is_live t y) → IsTrue (m y)) → ((x : ℕ) → IsTrue (m x) → IsTrue (has_id (traced_ids t) x)) → (x : ℕ) → m x ≡ has_id (traced_ids t) x
+unfolding traced_ids
+traced-from_closed t m roots edges only_traced x =
+    let closed : IsClosed (object_graph t) (root_ids t) m = record {
+      from_sources = λ y named node. roots y named (sym (has_id-ids t y) ∙ node);
+      along_edges = λ y z at passes edge. edges y z at edge.0 (sym (has_id-ids t z) ∙ edge.1);
+    } in
+    IsClosed-is_reached (object_graph t) (root_ids t) m closed (λ y at. (reached_is_reachable (object_graph t) (root_ids t) y).0 (only_traced y at)) x
 
 is_some-or_cond : {X : Type 0} (o : Option X) (b : Bool) (new : X) → is_some (option_or o (cond b (Some new) None)) ≡ (is_some o || b)
 is_some-or_cond (Some x) b new = refl
@@ -84,6 +96,18 @@ object_at-only kept t x = find-filter (λ o. o.id == x) (λ o. has_id kept o.id)
 
 pub is_live-only : (kept : List ℕ) (t : Table) (x : ℕ) → is_live (only kept t) x ≡ (has_id kept x && is_live t x)
 is_live-only kept t x = ap is_some (object_at-only kept t x) ∙ is_some-cond (has_id kept x) (object_at t.objects x)
+
+-- each object is live
+pub All-objects_live : (t : Table) → All (λ o. IsTrue (is_live t o.id)) t.objects
+All-objects_live t k d within =
+    let id = (get_or t.objects k d).id in
+    is_some-find (λ (o : Object). o.id == id) t.objects ∙ list_any_at (λ (o : Object). o.id == id) t.objects k d within (eq-eqb id id refl)
+
+-- lists that have the same live ids keep the same objects
+pub only-same : (xs ys : List ℕ) (t : Table) → ((id : ℕ) → IsTrue (is_live t id) → has_id xs id ≡ has_id ys id) → only xs t ≡ only ys t
+unfolding only
+only-same xs ys t agree =
+    ap (λ objects. record t { objects = objects }) (filter_agree_all (λ (o : Object). has_id xs o.id) (λ o. has_id ys o.id) t.objects (All-weaker (λ (o : Object). IsTrue (is_live t o.id)) (λ o. has_id xs o.id ≡ has_id ys o.id) (λ o live. agree o.id live) t.objects (All-objects_live t)))
 
 -- ---- regions
 

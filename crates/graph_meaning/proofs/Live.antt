@@ -6,7 +6,7 @@ use Rattle.std.specs.Ordering.{nat_cmp}
 use Rattle.std.specs.BTreeMap.{insert_entry, is_at}
 use Rattle.std.specs.BTreeSet.{insert_key}
 use Rattle.std.proofs.lemmas.Bool.{cases_lt, false≢true, and_parts, and_from, or_left, or_right, or_cases}
-use Rattle.std.proofs.lemmas.List.{get_or_past}
+use Rattle.std.proofs.lemmas.List.{get_or_past, get_or-map, length-map}
 use Rattle.std.proofs.lemmas.List.Elements.{All-nil, All-cons, All-head, All-tail, All-weaker, All-filter, All-map, All-set, All-drop, All-push, All-replicate, Contains-get_or, filter_passes}
 use Rattle.std.proofs.lemmas.Map.Views.{All-insert_key, All-keys-insert_entry, All-values-insert_entry, All-map-remove_entry}
 use Rattle.graph_meaning.specs.declared.event.Event.{Event}
@@ -268,13 +268,22 @@ roots-traced t live k d within =
     let id = get_or (root_ids t) k d in
     traced-from_root t id ((has_id-Contains (root_ids t) id).1 (Contains-get_or (root_ids t) k d within)) (live k d within)
 
+-- the same of the roots themselves
+pub roots-lead_to_traced : (t : Table) → AllLive t (root_ids t) → All (λ r. IsTrue (has_id (traced_ids t) r.1)) t.roots
+roots-lead_to_traced t live k d within =
+    subst (λ id. IsTrue (has_id (traced_ids t) id)) (get_or-map (λ (r : List ℕ × ℕ). r.1) t.roots k d 0 within) (roots-traced t live k 0 (rw length-map within))
+
+-- an edge of a traced object leads to a traced one, where each edge leads to a live one
+pub edges-lead_to_traced : (t : Table) → ((x y : ℕ) → IsTrue (has_id (targets t x) y) → IsTrue (is_live t y)) → (x y : ℕ) → IsTrue (has_id (traced_ids t) x) → IsTrue (has_id (targets t x) y) → IsTrue (has_id (traced_ids t) y)
+edges-lead_to_traced t live x y at held = traced-along_edge t x y at held (live x y held)
+
 -- an edge of what stays leads to what stays
 edges-stay : (t : Table) → ((x y : ℕ) → IsTrue (has_id (targets t x) y) → IsTrue (is_live t y)) → (x y : ℕ) → IsTrue (has_id (targets (only (traced_ids t) t) x) y) → IsTrue (is_live (only (traced_ids t) t) y)
 edges-stay t live x y held =
     go (has_id (traced_ids t) x) refl (sym (ap (λ ys. has_id ys y) (targets-only (traced_ids t) t x)) ∙ held)
   where
     go : (b : Bool) → has_id (traced_ids t) x ≡ b → has_id (cond b (targets t x) []) y ≡ true → IsTrue (is_live (only (traced_ids t) t) y)
-    go true at held = traced-stays_live t y (traced-along_edge t x y at held (live x y held))
+    go true at held = traced-stays_live t y (edges-lead_to_traced t live x y at held)
     go false at held = absurd (false≢true held)
 
 collect_keeps : (h : Heap) → RefersToLive h → RefersToLive (after_collection h)

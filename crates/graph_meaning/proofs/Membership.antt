@@ -1,6 +1,6 @@
 -- Facts on whether a number stands in a list, on what a filter keeps, and on what a search finds.
 use Rattle.std.proofs.Common.{◌≡◌, ℕ, zero, suc, ◌<◌, ◌≤◌, Bool, true, false, ◌&&◌, ◌||◌, cond, ⊎_elim, List, [], ◌∷◌, ◌++◌, length, get_or, filter, ap, refl, ◌∙◌, arith, eqb-true, eq-eqb, eqb}
-use Rattle.std.specs.List.{list_any, Contains, find}
+use Rattle.std.specs.List.{list_any, Contains, find, All}
 use Rattle.std.specs.Option.{option_map, is_some}
 use Rattle.std.specs.Prelude.{None, Some, ◌==◌, IsTrue, ◌↔◌, map}
 use Rattle.std.specs.Ordering.{nat_cmp, match_ordering}
@@ -8,7 +8,8 @@ use Rattle.std.specs.declared.cmp.Ordering.{Ordering}
 use Rattle.std.specs.declared.cmp.Ordering.TheVariants.{Less, Equal, Greater}
 use Rattle.std.proofs.lemmas.Bool.Decides.{nat_tests}
 use Rattle.std.specs.BTreeSet.{insert_key}
-use Rattle.std.proofs.lemmas.List.Folds.{list_any-append}
+use Rattle.std.proofs.lemmas.List.Folds.{list_any-append, list_any_at}
+use Rattle.std.proofs.lemmas.List.Elements.{All-head, All-tail}
 use Rattle.std.proofs.lemmas.Bool.{cases_Bool, or_cases, or_left, or_right, false≢true}
 use Rattle.std.proofs.lemmas.List.Sums.{length-filter, count_by-le-length}
 use Rattle.std.proofs.lemmas.Map.Views.{any-filter_same}
@@ -40,13 +41,17 @@ has_id-from_list_any p (z ∷ xs) some =
 pub has_id-filter : (p : ℕ → Bool) (xs : List ℕ) (y : ℕ) → has_id (filter p xs) y ≡ (p y && has_id xs y)
 has_id-filter p xs y = any-filter_same (λ x. eqb x y) p (p y) (λ x same. ap p (eqb-true x y same)) xs
 
--- two tests that agree on the elements of a list keep the same of them
-pub filter_agree_within : (p q : ℕ → Bool) (xs : List ℕ) → ((x : ℕ) → has_id xs x ≡ true → p x ≡ q x) → filter p xs ≡ filter q xs
-filter_agree_within p q [] agree = refl
-filter_agree_within p q (x ∷ xs) agree =
-    let e = agree x (has_id-head xs x) in
-    let rest = filter_agree_within p q xs (λ z at. agree z (or_right _ _ at)) in
+-- two tests that agree at each element of a list keep the same of them
+pub filter_agree_all : {X : Type 0} (p q : X → Bool) (xs : List X) → All (λ x. p x ≡ q x) xs → filter p xs ≡ filter q xs
+filter_agree_all p q [] agree = refl
+filter_agree_all p q (x ∷ xs) agree =
+    let e = All-head (λ z. p z ≡ q z) x xs agree in
+    let rest = filter_agree_all p q xs (All-tail (λ z. p z ≡ q z) x xs agree) in
     rw (e, rest) refl
+
+-- each element is found
+pub All-has_id : (xs : List ℕ) → All (λ x. IsTrue (has_id xs x)) xs
+All-has_id xs k d within = list_any_at (λ z. eqb z (get_or xs k d)) xs k d within (eq-eqb _ _ refl)
 
 -- a test that passes more keeps no fewer elements
 pub length-filter_mono : {X : Type 0} (p q : X → Bool) → ((x : X) → p x ≡ true → q x ≡ true) → (xs : List X) → length (filter p xs) ≤ length (filter q xs)
@@ -77,7 +82,7 @@ filter-same_length {X} p q more (x ∷ xs) few =
 
 -- a filter of a list is its filter by the elements that are kept
 pub filter_itself : (p : ℕ → Bool) (xs : List ℕ) → filter (has_id (filter p xs)) xs ≡ filter p xs
-filter_itself p xs = filter_agree_within (has_id (filter p xs)) p xs (λ x at. has_id-filter p xs x ∙ and_at_true (p x) at)
+filter_itself p xs = filter_agree_all (has_id (filter p xs)) p xs (λ k d within. has_id-filter p xs _ ∙ and_at_true (p (get_or xs k d)) (All-has_id xs k d within))
   where
     and_at_true : (a : Bool) {b : Bool} → b ≡ true → (a && b) ≡ a
     and_at_true true e = e

@@ -11,35 +11,44 @@ pub IsPath-snoc : (g : Graph) (x : ℕ) (steps : List ℕ) (y z : ℕ) → IsPat
 IsPath-snoc g x [] y z path passes edge = (ap g.passable path ∙ passes, subst (λ w. HasEdge g w z) (sym path) edge, refl)
 IsPath-snoc g x (s ∷ steps) y z path passes edge = (path.0, path.1, IsPath-snoc g s steps y z path.2 passes edge)
 
--- the tests m passes each source that is a node, and what an edge from a passable node that it passes leads to
+-- a source that is a node is reachable
+pub IsReachable-source : (g : Graph) (sources : List ℕ) (x : ℕ) → IsTrue (has_id sources x) → IsTrue (has_id g.nodes x) → IsReachable g sources x
+IsReachable-source g sources x source node = (x, [], source, node, refl)
+
+-- what an edge from a passable node that is reachable leads to is reachable
+pub IsReachable-step : (g : Graph) (sources : List ℕ) (y z : ℕ) → IsReachable g sources y → IsTrue (g.passable y) → HasEdge g y z → IsReachable g sources z
+IsReachable-step g sources y z r passes edge =
+    (r.0, r.1 ++ z ∷ [], r.2, r.3, IsPath-snoc g r.0 r.1 y z r.4 passes edge)
+
+-- The test m passes each source that is a node, and what an edge from a passable node that it passes leads to.
 pub record IsClosed (g : Graph) (sources : List ℕ) (m : ℕ → Bool) : Type 0 where
   pub from_sources : (x : ℕ) → IsTrue (has_id sources x) → IsTrue (has_id g.nodes x) → IsTrue (m x)
   pub along_edges : (x y : ℕ) → IsTrue (m x) → IsTrue (g.passable x) → HasEdge g x y → IsTrue (m y)
 
 module _ (g : Graph) (sources : List ℕ) where
+  -- what stands among the nodes after one more round
+  abbrev grown : List ℕ → ℕ → Bool
+  grown found y = has_id found y || list_any (λ x. g.passable x && has_id (g.targets x) y) found
+
   -- ---- a path leads to each node that is found
 
   reachable_within : (n y : ℕ) → IsTrue (has_id (within g sources n) y) → IsReachable g sources y
   unfolding within
   reachable_within zero y at =
       let both = and_parts _ _ (sym (has_id-filter (has_id sources) g.nodes y) ∙ at) in
-      (y, [], both.0, both.1, refl)
+      IsReachable-source g sources y both.0 both.1
   reachable_within (suc n) y at =
       let found = within g sources n in
-      let both = and_parts _ _ (sym (has_id-filter (λ z. has_id found z || list_any (λ x. g.passable x && has_id (g.targets x) z) found) g.nodes y) ∙ at) in
+      let both = and_parts _ _ (sym (has_id-filter (grown found) g.nodes y) ∙ at) in
       ⊎_elim
       (λ before. reachable_within n y before)
       (λ beyond.
       let step = has_id-from_list_any (λ x. g.passable x && has_id (g.targets x) y) found beyond in
       let edge = and_parts _ _ step.2 in
-      let path = reachable_within n step.0 step.1 in
-      (path.0, path.1 ++ y ∷ [], path.2, path.3, IsPath-snoc g path.0 path.1 step.0 y path.4 edge.0 (edge.1, both.1)))
+      IsReachable-step g sources step.0 y (reachable_within n step.0 step.1) edge.0 (edge.1, both.1))
       (or_cases _ _ both.0)
 
   -- ---- as many rounds as there are nodes find all that there is to find
-
-  abbrev grown : List ℕ → ℕ → Bool
-  grown found y = has_id found y || list_any (λ x. g.passable x && has_id (g.targets x) y) found
 
   -- each round keeps what was found, in the order of the nodes
   within_is_filter : (n : ℕ) → filter (has_id (within g sources n)) g.nodes ≡ within g sources n
