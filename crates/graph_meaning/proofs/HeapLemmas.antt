@@ -28,7 +28,7 @@ unfolding traced_ids
 traced-from_root t id named live =
     (reached-closed (object_graph t) (root_ids t)).from_sources id named (has_id-ids t id ∙ live)
 
--- a live object that a slot of a traced object holds is traced
+-- a live object that an edge from a traced object leads to is traced
 pub traced-along_edge : (t : Table) (x y : ℕ) → IsTrue (has_id (traced_ids t) x) → IsTrue (has_id (targets t x) y) → IsTrue (is_live t y) → IsTrue (has_id (traced_ids t) y)
 unfolding traced_ids
 traced-along_edge t x y at held live =
@@ -59,7 +59,7 @@ is_some-option_map f None = refl
 is_some-option_map f (Some x) = refl
 
 -- a store changes no id
-id-with_slot : (at slot : ℕ) (to : Option ℕ) (o : Object) → (with_slot at slot to o).id ≡ o.id
+pub id-with_slot : (at slot : ℕ) (to : Option ℕ) (o : Object) → (with_slot at slot to o).id ≡ o.id
 id-with_slot at slot to o = go (o.id == at)
   where
     go : (b : Bool) → (cond b (record o { slots = slice_set o.slots slot to }) o).id ≡ o.id

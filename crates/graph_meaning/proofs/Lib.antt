@@ -3,3 +3,4 @@ pub mod HeapLemmas
 pub mod Membership
 pub mod Reaching
 pub mod Live
+pub mod Rising

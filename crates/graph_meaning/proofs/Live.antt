@@ -18,17 +18,17 @@ use Rattle.graph_meaning.specs.Heap.{Object, Table, Heap, empty_heap, empty_tabl
 use Rattle.graph_meaning.specs.Collecting.{object_graph, root_ids, traced_ids, only, after_collection}
 use Rattle.graph_meaning.specs.Step.{first_of, when, not_live, target_refusal, store_refusal, root_refusal, allocated, stored, with_root, with_slot, noted, unless, step}
 use Rattle.graph_meaning.specs.Laws.{AllLive, RefersToLive, StepsReferToLive, KeepsWhatIsReachable}
-use Rattle.graph_meaning.proofs.Membership.{has_id-Contains, has_id-head}
+use Rattle.graph_meaning.proofs.Membership.{map-filter, has_id-Contains, has_id-head}
 use Rattle.graph_meaning.proofs.Reaching.{reached_is_reachable}
 use Rattle.graph_meaning.proofs.HeapLemmas.{is_live-allocated, is_live-stored, is_live-only, object_at-allocated, object_at-stored, object_at-only, traced-is_live, traced-from_root, traced-along_edge}
 
 -- ---- what a refusal that isn't there says
 
-first_of-None : (a b : Option Refusal) → first_of a b ≡ None → (a ≡ None) × (b ≡ None)
+pub first_of-None : (a b : Option Refusal) → first_of a b ≡ None → (a ≡ None) × (b ≡ None)
 first_of-None None b none = (refl, none)
 first_of-None (Some r) b none = absurd (cc)
 
-when-None : (b : Bool) (r : Refusal) → when b r ≡ None → b ≡ false
+pub when-None : (b : Bool) (r : Refusal) → when b r ≡ None → b ≡ false
 when-None true r none = absurd (cc)
 when-None false r none = refl
 
@@ -49,6 +49,11 @@ target_refusal-None t (Some other) none id same =
 pub store_refusal-None : (t : Table) (at slot : ℕ) (to : Option ℕ) → store_refusal t at slot to ≡ None → target_refusal t to ≡ None
 unfolding store_refusal
 store_refusal-None t at slot to none = (first_of-None _ _ (first_of-None _ _ none).1).1
+
+-- what holds of the heap that an operation leaves where it isn't refused
+pub IfOk-unless : (P : Heap → Type 0) (refusal : Option Refusal) (h : Heap) → (refusal ≡ None → P h) → IfOk (unless refusal h) P
+IfOk-unless P None h holds = holds refl
+IfOk-unless P (Some r) h holds = tt
 
 -- ---- edges
 
@@ -150,10 +155,6 @@ noted-live t rs thread id new live =
 
 -- ---- each operation
 
-unless_ok : (refusal : Option Refusal) (h : Heap) → (refusal ≡ None → RefersToLive h) → IfOk (unless refusal h) RefersToLive
-unless_ok None h keeps = keeps refl
-unless_ok (Some r) h keeps = tt
-
 alloc_keeps : (h : Heap) (id : ℕ) (kind : List ℕ) (slots thread : ℕ) → RefersToLive h → RefersToLive (record h { table = allocated h.table id kind slots; regions = noted h.regions thread id })
 unfolding allocated
 alloc_keeps h id kind slots thread live =
@@ -250,14 +251,6 @@ AllLive-only : (t : Table) (kept : List ℕ) (xs : List ℕ) → AllLive t xs �
 AllLive-only t kept xs live k d within =
     is_live-only kept t (get_or (filter (has_id kept) xs) k d) ∙ and_from _ _ (filter_passes (has_id kept) xs k d within) (All-filter (has_id kept) (λ id. IsTrue (is_live t id)) xs live k d within)
 
-map-filter : {X Y : Type 0} (p : Y → Bool) (f : X → Y) (xs : List X) → map f (filter (λ x. p (f x)) xs) ≡ filter p (map f xs)
-map-filter p f [] = refl
-map-filter {X} {Y} p f (x ∷ xs) = go (p (f x)) (map-filter p f xs)
-  where
-    go : (b : Bool) → map f (filter (λ z. p (f z)) xs) ≡ filter p (map f xs) → map f (cond b (x ∷ filter (λ z. p (f z)) xs) (filter (λ z. p (f z)) xs)) ≡ cond b (f x ∷ filter p (map f xs)) (filter p (map f xs))
-    go true rest = ap (λ ys. f x ∷ ys) rest
-    go false rest = rest
-
 -- what is traced stays live
 pub traced-stays_live : (t : Table) (id : ℕ) → IsTrue (has_id (traced_ids t) id) → IsTrue (is_live (only (traced_ids t) t) id)
 traced-stays_live t id at = is_live-only (traced_ids t) t id ∙ and_from _ _ at (traced-is_live t id at)
@@ -315,16 +308,16 @@ empty_refers = record {
 
 step_keeps : (h : Heap) (event : Event) → RefersToLive h → IfOk (step h event) RefersToLive
 unfolding step
-step_keeps h (Alloc id kind slots thread) live = unless_ok _ _ (λ none. alloc_keeps h id kind slots thread live)
-step_keeps h (Store at slot to) live = unless_ok _ _ (λ none. store_keeps h at slot to none live)
-step_keeps h (Root name to) live = unless_ok _ _ (λ none. root_keeps h name to none live)
-step_keeps h (AssertDead id) live = unless_ok _ _ (λ none. assert_dead_keeps h id none live)
+step_keeps h (Alloc id kind slots thread) live = IfOk-unless RefersToLive _ _ (λ none. alloc_keeps h id kind slots thread live)
+step_keeps h (Store at slot to) live = IfOk-unless RefersToLive _ _ (λ none. store_keeps h at slot to none live)
+step_keeps h (Root name to) live = IfOk-unless RefersToLive _ _ (λ none. root_keeps h name to none live)
+step_keeps h (AssertDead id) live = IfOk-unless RefersToLive _ _ (λ none. assert_dead_keeps h id none live)
 step_keeps h (StartRegion thread) live =
-    unless_ok _ _ (λ none. regions_keep h thread _ h.dead (All-cons (AllLive h.table) [] (regions_of h.regions thread) (All-nil _) (regions_of-live h.table h.regions thread live.regions)) live.dead live)
+    IfOk-unless RefersToLive _ _ (λ none. regions_keep h thread _ h.dead (All-cons (AllLive h.table) [] (regions_of h.regions thread) (All-nil _) (regions_of-live h.table h.regions thread live.regions)) live.dead live)
 step_keeps h (AssertAllDead thread) live =
     let opened = regions_of-live h.table h.regions thread live.regions in
-    unless_ok _ _ (λ none. regions_keep h thread _ _ (All-drop (AllLive h.table) 1 _ opened) (keys_live-fold h.table _ h.dead (innermost-live h.table _ opened) live.dead) live)
-step_keeps h (AssertInstances kind limit) live = unless_ok _ _ (λ none. record {
+    IfOk-unless RefersToLive _ _ (λ none. regions_keep h thread _ _ (All-drop (AllLive h.table) 1 _ opened) (keys_live-fold h.table _ h.dead (innermost-live h.table _ opened) live.dead) live)
+step_keeps h (AssertInstances kind limit) live = IfOk-unless RefersToLive _ _ (λ none. record {
   roots = live.roots;
   edges = live.edges;
   dead = live.dead;
@@ -332,9 +325,9 @@ step_keeps h (AssertInstances kind limit) live = unless_ok _ _ (λ none. record 
   regions = live.regions;
   ownees = live.ownees;
 })
-step_keeps h (AssertUnshared id) live = unless_ok _ _ (λ none. assert_unshared_keeps h id none live)
+step_keeps h (AssertUnshared id) live = IfOk-unless RefersToLive _ _ (λ none. assert_unshared_keeps h id none live)
 step_keeps h (AssertOwnedBy owner ownee) live =
-    unless_ok _ _ (λ none. assert_ownedby_keeps h owner ownee (first_of-None _ _ (first_of-None _ _ none).1).0 live)
+    IfOk-unless RefersToLive _ _ (λ none. assert_ownedby_keeps h owner ownee (first_of-None _ _ (first_of-None _ _ none).1).0 live)
 step_keeps h Collect live = collect_keeps h live
 
 pub steps_refer_to_live : StepsReferToLive

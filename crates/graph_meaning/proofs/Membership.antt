@@ -177,3 +177,19 @@ find-filter {X} p q b agree (x ∷ xs) =
     passed : p x ≡ false → (c : Bool) → find p (cond c (x ∷ filter q xs) (filter q xs)) ≡ find p (filter q xs)
     passed fails true = rw fails refl
     passed fails false = refl
+
+-- ---- maps
+
+-- a map that a later one doesn't see
+pub map_agree : {X Y : Type 0} (g : X → X) (f : X → Y) → ((x : X) → f (g x) ≡ f x) → (xs : List X) → map f (map g xs) ≡ map f xs
+map_agree g f agree [] = refl
+map_agree g f agree (x ∷ xs) = rw (agree x, map_agree g f agree xs) refl
+
+-- a filter by what a map gives
+pub map-filter : {X Y : Type 0} (p : Y → Bool) (f : X → Y) (xs : List X) → map f (filter (λ x. p (f x)) xs) ≡ filter p (map f xs)
+map-filter p f [] = refl
+map-filter {X} {Y} p f (x ∷ xs) = go (p (f x)) (map-filter p f xs)
+  where
+    go : (b : Bool) → map f (filter (λ z. p (f z)) xs) ≡ filter p (map f xs) → map f (cond b (x ∷ filter (λ z. p (f z)) xs) (filter (λ z. p (f z)) xs)) ≡ cond b (f x ∷ filter p (map f xs)) (filter p (map f xs))
+    go true rest = ap (λ ys. f x ∷ ys) rest
+    go false rest = rest

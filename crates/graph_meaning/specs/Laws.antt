@@ -1,7 +1,7 @@
 -- Laws of heaps and collections.
-use Rattle.std.specs.Prelude.{ℕ, List, map, All, IsTrue, ◌↔◌, IfOk}
+use Rattle.std.specs.Prelude.{ℕ, ◌<◌, ◌≤◌, List, map, All, AllPairs, IsTrue, ◌↔◌, IfOk}
 use Rattle.graph_meaning.specs.declared.event.Event.{Event}
-use Rattle.graph_meaning.specs.Heap.{Table, Heap, empty_heap, is_live, targets}
+use Rattle.graph_meaning.specs.Heap.{Table, Heap, empty_table, empty_heap, is_live, ids, targets}
 use Rattle.graph_meaning.specs.Reach.{has_id, IsReachable}
 use Rattle.graph_meaning.specs.Collecting.{object_graph, root_ids, after_collection}
 use Rattle.graph_meaning.specs.Step.{step}
@@ -28,3 +28,13 @@ pub record RefersToLive (h : Heap) : Type 0 where
 abbrev pub StepsReferToLive : Type 0
 StepsReferToLive =
     RefersToLive empty_heap × ((h : Heap) (event : Event) → RefersToLive h → IfOk (step h event) RefersToLive)
+
+-- The ids of the objects rise, and none is above the greatest that was ever allocated.
+pub record IdsRise (t : Table) : Type 0 where
+  pub rising : AllPairs (λ x y. x < y) (ids t)
+  pub within : All (λ id. id ≤ t.greatest) (ids t)
+
+-- It is so at the beginning, and each operation keeps it.
+abbrev pub StepsKeepIdsRising : Type 0
+StepsKeepIdsRising =
+    IdsRise empty_table × ((h : Heap) (event : Event) → IdsRise h.table → IfOk (step h event) (λ next. IdsRise next.table))

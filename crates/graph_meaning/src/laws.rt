@@ -1,4 +1,4 @@
-ghost use Rattle.graph_meaning.specs.Laws.{KeepsWhatIsReachable, StepsReferToLive};
+ghost use Rattle.graph_meaning.specs.Laws.{KeepsWhatIsReachable, StepsKeepIdsRising, StepsReferToLive};
 ghost use Rattle.graph_meaning.specs.Reach.{ReachedIsReachable};
 
 /// What is computed round by round is what paths lead to.
@@ -15,4 +15,10 @@ pub fn a_collection_keeps_what_a_path_leads_to()
 /// what is asserted and what belongs to a region is live.
 pub fn whatever_a_heap_refers_to_is_live()
     ensures { StepsReferToLive }
+{}
+
+/// In the empty heap, and after each operation on, the ids of the objects rise, and none is above the greatest
+/// that was ever allocated.
+pub fn the_ids_of_objects_rise()
+    ensures { StepsKeepIdsRising }
 {}

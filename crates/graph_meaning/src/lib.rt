@@ -21,7 +21,7 @@ pub use examples::{
     an_object_that_was_freed_is_not_live, operations_are_refused,
 };
 pub use laws::{
-    a_collection_keeps_what_a_path_leads_to, reached_is_reached_by_a_path,
+    a_collection_keeps_what_a_path_leads_to, reached_is_reached_by_a_path, the_ids_of_objects_rise,
     whatever_a_heap_refers_to_is_live,
 };
 pub use lists::Sequence;
