@@ -89,6 +89,12 @@ Cuts old new bytes faults_before faults_after (Err ReadFault) = GivesNone old ne
 Cuts old new bytes faults_before faults_after (Err LineTooLong) = GivesNone old new bytes × IsLineTooLong new
 Cuts old new bytes faults_before faults_after (Err TraceTooLong) = GivesNone old new bytes × ((n : ℕ) × IsTraceTooLong new n)
 
+-- A cutter that may ask its source: it holds no newline, did not read the source's end and stands at no refusal.
+pub record MayRead (old : Cutting) : Type 0 where
+  pub one_line : HasNoNewline old.pending
+  pub not_at_end : old.at_end ≡ false
+  pub stopped : old.stopped ≡ None
+
 -- One step of the cutter: it takes bytes from its source, none once the source's end was read or a refusal was met,
 -- and cuts.
 pub record StepsOn (old new : Cutting) (left_before left_after : Option (List ℕ)) (faults_before faults_after : ℕ) (result : Result (Option ℕ) CutError) (took : List ℕ) : Type 0 where
@@ -97,6 +103,7 @@ pub record StepsOn (old new : Cutting) (left_before left_after : Option (List �
   pub at_end : IsTrue new.at_end → IsTrue old.at_end ⊎ IsAtEnd left_after
   pub stays_at_end : IsTrue old.at_end → IsTrue new.at_end × (took ≡ [])
   pub limit : new.limit ≡ old.limit
+  pub reads : MayRead old ⊎ ((left_after ≡ left_before) × (faults_after ≡ faults_before))
   pub later : faults_before ≤ faults_after
 
 -- the answer to a line is what the line is, unless memory was wanting

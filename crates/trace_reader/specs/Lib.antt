@@ -1,3 +1,6 @@
+pub mod Cuts
 pub mod Cutting
 pub mod Items
 pub mod Meaning
+pub mod Reading
+pub mod Windows

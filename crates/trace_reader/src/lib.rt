@@ -1,9 +1,11 @@
 //! Reads a trace: cuts its bytes into lines, and reads each line as an operation.
 #![tactic(auto)]
 
+mod cut;
 mod cutter;
 mod error;
 mod line;
+mod window;
 
 pub use cutter::LineCutter;
 pub use error::CutError;
