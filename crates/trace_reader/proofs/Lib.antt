@@ -1,2 +1,3 @@
 pub mod Newlines
 pub mod Ranges
+pub mod Steps

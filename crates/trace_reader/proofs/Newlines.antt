@@ -1,7 +1,6 @@
 -- Fronts of a list of bytes that have no newline.
-use Rattle.std.proofs.Common.{◌≡◌, ◌≢◌, ℕ, ◌+◌, ◌-◌, ◌<◌, ◌≤◌, min, List, ◌++◌, length, take, drop, get_or, sym, ap, ◌∙◌, arith, subst, inl, inr}
-use Rattle.std.specs.List.{All}
-use Rattle.std.proofs.lemmas.List.{take_all, get_or-take, get_or-drop, length-take-le, length-drop, length-take}
+use Rattle.std.proofs.Common.{◌≡◌, ◌≢◌, ℕ, ◌+◌, ◌-◌, ◌<◌, ◌≤◌, min, List, length, take, drop, get_or, sym, ◌∙◌, arith, subst, inl, inr}
+use Rattle.std.proofs.lemmas.List.{take_all, get_or-take, get_or-drop, length-take-le, length-drop}
 use Rattle.std.proofs.lemmas.List.Elements.{All-take, All-append, All-more}
 use Rattle.std.proofs.lemmas.Bool.Decides.{leb_tells}
 use Rattle.std.proofs.Math.Seq.{take-take, take-add}
@@ -24,7 +23,7 @@ pub front_searched : (xs : List ℕ) (searched end reach : ℕ) → searched ≤
 front_searched xs searched end reach h k p q =
     let all : HasNoNewline (take end xs) = subst (λ n. HasNoNewline (take n xs)) (omega arith) (front_and_part xs searched (end - searched) p q) in
     elim (leb_tells reach (length xs)) as (λ _. HasNoNewline (take reach xs)) [
-      inl short ↦ let s : reach ≤ length xs = short.1 in front_of_front xs reach end (omega arith) all
+      | inl short ↦ let s : reach ≤ length xs = short.1 in front_of_front xs reach end (omega arith) all
       | inr long ↦ let l : length xs < reach = long.1 in subst HasNoNewline (sym (take_all reach xs (omega arith))) (front_is_all xs end (omega arith) all)
     ]
 
@@ -63,7 +62,7 @@ pub ends_past_limit : (xs : List ℕ) (allowed : ℕ) → allowed < length xs �
 ends_past_limit xs allowed h not_long p =
     let at_most : allowed ≤ 65536 =
     elim (leb_tells allowed 65536) as (λ _. allowed ≤ 65536) [
-      inl low ↦ low.1
+      | inl low ↦ low.1
       | inr high ↦ absurd (not_long (too_long_below xs allowed (let l : 65536 < allowed = high.1 in omega arith) high.1 p))
     ] in
     record {
@@ -76,7 +75,7 @@ pub line_front : (xs : List ℕ) (allowed : ℕ) → length xs ≤ allowed → (
 line_front xs allowed h not_long p =
     let short : length xs ≤ 65536 =
     elim (leb_tells (length xs) 65536) as (λ _. length xs ≤ 65536) [
-      inl low ↦ low.1
+      | inl low ↦ low.1
       | inr high ↦ absurd (not_long (too_long_below xs allowed high.1 (let l : 65536 < length xs = high.1 in omega arith) p))
     ] in
     record {

@@ -1,7 +1,7 @@
 -- What stands in a range of a buffer, as its ends move and bytes are written behind it.
-use Rattle.std.proofs.Common.{◌≡◌, ℕ, ◌+◌, ◌-◌, ◌≤◌, List, [], ◌++◌, length, take, drop, refl, sym, ap, ◌∙◌, arith, append_assoc, append-nil}
+use Rattle.std.proofs.Common.{◌≡◌, ℕ, ◌+◌, ◌-◌, ◌≤◌, List, ◌++◌, length, take, drop, sym, ap, ◌∙◌, arith, append_assoc, append-nil}
 use Rattle.std.specs.List.{slice_range, copy_within}
-use Rattle.std.proofs.lemmas.List.{drop-take, drop-drop, drop-append-le, length-drop, length-append, length-take-le, take-append-le}
+use Rattle.std.proofs.lemmas.List.{drop-take, drop-drop, drop-append-le, length-drop, length-take-le, take-append-le}
 use Rattle.std.proofs.lemmas.List.Edits.{take-paste}
 use Rattle.std.proofs.Math.Seq.{take-append-add, take-take}
 

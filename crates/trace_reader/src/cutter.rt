@@ -135,11 +135,9 @@ fn settle<S: Source>(
 ) -> Result<Cut, Failed>
     requires within { searched ≤ length window.old }
     requires searched { HasNoNewline (take searched window.old) }
-    ensures {
-        let old : Reading = record { held = window.old; at_end = at_end.old; left = S.left source.old; faults = S.faults source.old } in
+    ensures { let old : Reading = record { held = window.old; at_end = at_end.old; left = S.left source.old; faults = S.faults source.old } in
         let new : Reading = record { held = window.new; at_end = at_end.new; left = S.left source.new; faults = S.faults source.new } in
-        (took : List ℕ) × ReadsOn old new took × Settles old new allowed result
-    }
+        (took : List ℕ) × ReadsOn old new took × Settles old new allowed result }
 {
     let mut searched = searched;
     loop {

@@ -8,16 +8,14 @@ returns-then-held-allowed c =
     ends_past_limit c.args.held.now c.args.allowed (omega arith) (λ long. false≢true (c.if-is_too_long.ensures.1 long)) c.requires
 
 pub returns-then-not-at_end : goal.returns-then-not-at_end
-returns-then-not-at_end c =
-    (
-      line_front c.args.held.now c.args.allowed (omega arith) (λ long. false≢true (c.if-is_too_long.ensures.1 long)) c.requires,
-      c.if-not-at_end.true,
-    )
+returns-then-not-at_end c = (
+  line_front c.args.held.now c.args.allowed (omega arith) (λ long. false≢true (c.if-is_too_long.ensures.1 long)) c.requires,
+  c.if-not-at_end.true,
+)
 
 pub returns-else-is_empty : goal.returns-else-is_empty
-returns-else-is_empty c =
-    (
-      line_front c.args.held.now c.args.allowed (omega arith) (λ long. false≢true (c.if-is_too_long.ensures.1 long)) c.requires,
-      omega (arith, eqb-false (length c.args.held.now) 0 (sym c.if-is_empty.ensures)),
-      c.if-not-at_end.false,
-    )
+returns-else-is_empty c = (
+  line_front c.args.held.now c.args.allowed (omega arith) (λ long. false≢true (c.if-is_too_long.ensures.1 long)) c.requires,
+  omega (arith, eqb-false (length c.args.held.now) 0 (sym c.if-is_empty.ensures)),
+  c.if-not-at_end.false,
+)

@@ -14,7 +14,7 @@ returns c =
     let allowed = c.args.allowed in
     let long : HasTooLongLine held allowed =
     elim c.else-allowed-2.branch as (λ _. HasTooLongLine held allowed) [
-      else-allowed-2-via-then-allowed-2+else-held-eq10 w ↦ too_long_at held allowed (omega arith) (omega arith) c.requires w.if-held-eq10.false
+      | else-allowed-2-via-then-allowed-2+else-held-eq10 w ↦ too_long_at held allowed (omega arith) (omega arith) c.requires w.if-held-eq10.false
       | else-allowed-2-via-else-allowed-2 w ↦ too_long_below held allowed (omega arith) (let apart = w.if-allowed-2.false in omega arith) c.requires
     ] in
     (λ _. long, λ _. refl)

@@ -1,4 +1,4 @@
-use Rattle.std.proofs.Common.{◌≡◌, ◌<◌, ◌≤◌, ◌∙◌, ◌+◌, ◌-◌, ◌++◌, ap, arith, length, length-take-le, length-take, length-drop, take}
+use Rattle.std.proofs.Common.{◌≡◌, ◌≤◌, ◌∙◌, ◌+◌, ◌-◌, ◌++◌, ap, arith, length, length-take-le, length-take, length-drop, take}
 use Rattle.std.specs.List.{slice_range}
 use Rattle.std.proofs.lemmas.Result.{err_from_is_err_and}
 use Rattle.trace_reader.proofs.Ranges.{range-kept, range-read}
@@ -26,13 +26,12 @@ returns-clause-reads g c =
     room.ensures.held ∙ ap (λ bytes. slice_range bytes inside.start inside.end) c.as_mut_slice-buffer.ensures.value ∙ c.self.view_is in
     let size : length c.read.new.into ≡ length room.new.buffer - end = omega (arith, simp (length-take, length-drop) at c.read.auto.into) in
     let bound : n ≤ length room.new.buffer - end = omega (arith, simp (length-take, length-drop) at c.in_ok-n.ensures.bound) in
-    let fits : end + n ≤ inside.buffer.len = omega (arith, room.auto.buffer, c.as_mut_slice-buffer.ensures.len) in
-    (
+    let fits : end + n ≤ inside.buffer.len = omega (arith, room.auto.buffer, c.as_mut_slice-buffer.ensures.len) in (
       took,
       record {
         held =
-          range-read room.new.buffer c.read.new.into _ _ room.result end n inside.buffer.len (omega arith) (omega arith) fits (omega arith)
-          ∙ ap (λ bytes. bytes ++ took) before;
+            range-read room.new.buffer c.read.new.into _ _ room.result end n inside.buffer.len (omega arith) (omega arith) fits (omega arith)
+            ∙ ap (λ bytes. bytes ++ took) before;
         count = length-take-le n c.read.new.into (omega arith);
         consumes = c.in_ok-n.ensures.bytes.0;
         at_end = λ e. c.in_ok-n.ensures.bytes.1 e (omega arith);

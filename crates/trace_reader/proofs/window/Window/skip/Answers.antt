@@ -1,4 +1,4 @@
-use Rattle.std.proofs.Common.{◌≡◌, ◌≤◌, ◌+◌, ◌-◌, ◌∙◌, length, ap, drop, arith, length-take, length-drop}
+use Rattle.std.proofs.Common.{◌≤◌, ◌-◌, ◌∙◌, length, ap, drop, arith, length-take, length-drop}
 use Rattle.trace_reader.proofs.Ranges.{range-skip}
 use Rattle.trace_reader.proofs.window.Window.skip.Goals as goal
 
