@@ -1,5 +1,5 @@
 -- What one line of a trace is: no operation, an operation, or the first reason why it is refused.
-use Rattle.std.specs.Prelude.{ℕ, ◌==◌, ◌^◌, List, Bool, ◌&&◌, ◌||◌, nat_le, nat_lt, if◌then◌else◌, Option, None, Some, option_map, option_and_then, Result, Ok, Err, codes}
+use Rattle.std.specs.Prelude.{◌≡◌, ⊤, ℕ, ◌==◌, ◌^◌, List, Bool, ◌&&◌, ◌||◌, nat_le, nat_lt, if◌then◌else◌, Option, None, Some, option_map, option_and_then, Result, Ok, Err, codes}
 use Rattle.std.specs.List.{list_all}
 use Rattle.std.specs.Str.{bytes_eq, is_utf8}
 use Rattle.serde_json.specs.Data.{Data, null, boolean, number, string, array, object}
@@ -11,6 +11,8 @@ use Rattle.graph_meaning.specs.declared.event.Event.TheVariants.{Alloc, Store, R
 use Rattle.graph_meaning.specs.declared.refusal.FieldName.{FieldName}
 use Rattle.graph_meaning.specs.declared.refusal.FieldName.TheVariants.{OpField, IdField, TypeField, SlotsField, ThreadField, AtField, SlotField, ToField, NameField, LimitField, OwnerField, OwneeField}
 use Rattle.graph_meaning.specs.declared.refusal.Refusal.{Refusal}
+use Rattle.graph_meaning.specs.declared.refusal.Stop.{Stop}
+use Rattle.graph_meaning.specs.declared.refusal.Stop.TheVariants.{Refused, OutOfMemory}
 use Rattle.graph_meaning.specs.declared.refusal.Refusal.TheVariants.{NotJson, NotObject, UnknownOp, MissingField, BadField}
 
 -- What a line of a trace is.
@@ -92,6 +94,12 @@ optional_in f value default (Some d) = good f (value d)
 -- a field that may be missing, and is the default then
 abbrev pub optional : {A : Type 0} → FieldName → (Data → Option A) → A → Data → Result A Refusal
 optional f value default d = optional_in f value default (get (field_text f) d)
+
+-- the answer is what the definition gives, unless memory was wanting
+abbrev pub Gives : {A : Type 0} → Result A Stop → Result A Refusal → Type 0
+Gives (Ok a) given = given ≡ Ok a
+Gives (Err (Refused r)) given = given ≡ Err r
+Gives (Err OutOfMemory) given = ⊤
 
 -- ---- the ten operations, each with its fields in the order in which they are tested
 

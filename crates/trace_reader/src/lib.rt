@@ -4,6 +4,7 @@
 mod cut;
 mod cutter;
 mod error;
+mod field;
 mod line;
 mod window;
 

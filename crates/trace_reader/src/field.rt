@@ -1,0 +1,139 @@
+ghost use Rattle.std.specs.Prelude.{◌≡◌, ◌^◌, ◌<◌, IfOk, Some, None, Ok, Err, option_map, MatchResult};
+ghost use Rattle.serde_json.specs.Find.{get, as_u64, as_number};
+ghost use Rattle.serde_json.specs.View.{view};
+ghost use Rattle.trace_reader.specs.Meaning.{Gives, field_text, good, needed, optional, id_value, count_value, thread_value, target_value, name_value};
+
+use graph_meaning::{FieldName, Refusal, Stop};
+use heap_base::{Name, ObjId, OutOfMemory, ThreadNo};
+use serde_json::Value;
+use std::alloc::Global;
+
+/// An id, in a field that must be there.
+pub fn id_field(object: &Value, field: FieldName) -> Result<ObjId, Stop>
+    ensures { Gives result (needed field id_value (view object.now)) }
+{
+    good_field(field, id_in(needed_field(object, field)?))
+}
+
+/// A slot number or a limit, in a field that must be there.
+pub fn count_field(object: &Value, field: FieldName) -> Result<u32, Stop>
+    ensures { Gives result (needed field count_value (view object.now)) }
+{
+    good_field(field, count_in(needed_field(object, field)?))
+}
+
+/// An id, or null for nothing, in a field that must be there.
+pub fn target_field(object: &Value, field: FieldName) -> Result<Option<ObjId>, Stop>
+    ensures { Gives result (needed field target_value (view object.now)) }
+{
+    good_field(field, target_in(needed_field(object, field)?))
+}
+
+/// A name, in a field that must be there.
+pub fn name_field(alloc: Global, object: &Value, field: FieldName) -> Result<Name, Stop>
+    ensures { Gives result (needed field name_value (view object.now)) }
+{
+    match name_in(alloc, needed_field(object, field)?) {
+        Ok(name) => good_field(field, name),
+        Err(OutOfMemory) => Err(Stop::OutOfMemory),
+    }
+}
+
+/// A number of slots, 0 where the field is missing.
+pub fn slots_field(object: &Value) -> Result<u32, Stop>
+    ensures { Gives result (optional FieldName.SlotsField count_value 0 (view object.now)) }
+{
+    match object.get(text_of(FieldName::SlotsField)) {
+        None => Ok(0),
+        Some(value) => good_field(FieldName::SlotsField, count_in(value)),
+    }
+}
+
+/// A thread, number 0 where the field is missing.
+pub fn thread_field(object: &Value) -> Result<ThreadNo, Stop>
+    ensures { Gives result (optional FieldName.ThreadField thread_value 0 (view object.now)) }
+{
+    let thread = match object.get(text_of(FieldName::ThreadField)) {
+        None => ThreadNo::of(0),
+        Some(value) => thread_in(value),
+    };
+    good_field(FieldName::ThreadField, thread)
+}
+
+/// The value of a field that must be there.
+pub fn needed_field(object: &Value, field: FieldName) -> Result<&Value, Stop>
+    ensures { MatchResult result (λ value. get (field_text field) (view object.now) ≡ Some (view value.now))
+        (λ stop. (stop ≡ Stop.Refused (Refusal.MissingField field)) × (get (field_text field) (view object.now) ≡ None)) }
+{
+    match object.get(text_of(field)) {
+        None => Err(Stop::Refused(Refusal::MissingField(field))),
+        Some(value) => Ok(value),
+    }
+}
+
+/// The value of a field, if it is one that the field may have.
+pub fn good_field<T>(field: FieldName, value: Option<T>) -> Result<T, Stop>
+    ensures { Gives result (good field value) }
+{
+    match value {
+        None => Err(Stop::Refused(Refusal::BadField(field))),
+        Some(value) => Ok(value),
+    }
+}
+
+// How a field is spelled in a trace.
+fn text_of(field: FieldName) -> &'static str
+    ensures { result.now ≡ field_text field }
+{
+    match field {
+        FieldName::OpField => "op",
+        FieldName::IdField => "id",
+        FieldName::TypeField => "type",
+        FieldName::SlotsField => "slots",
+        FieldName::ThreadField => "thread",
+        FieldName::AtField => "at",
+        FieldName::SlotField => "slot",
+        FieldName::ToField => "to",
+        FieldName::NameField => "name",
+        FieldName::LimitField => "limit",
+        FieldName::OwnerField => "owner",
+        FieldName::OwneeField => "ownee",
+    }
+}
+
+fn count_in(value: &Value) -> Option<u32>
+    ensures { result ≡ count_value (view value.now) }
+{
+    let n = value.as_u64()?;
+    if n < 4_294_967_296 { Some(n as u32) } else { None }
+}
+
+fn id_in(value: &Value) -> Option<ObjId>
+    ensures { result ≡ id_value (view value.now) }
+{
+    ObjId::of(count_in(value)?)
+}
+
+fn thread_in(value: &Value) -> Option<ThreadNo>
+    ensures { result ≡ thread_value (view value.now) }
+{
+    ThreadNo::of(count_in(value)?)
+}
+
+fn target_in(value: &Value) -> Option<Option<ObjId>>
+    ensures { result ≡ target_value (view value.now) }
+{
+    match value {
+        Value::Null => Some(None),
+        _ => Some(Some(id_in(value)?)),
+    }
+}
+
+fn name_in(alloc: Global, value: &Value) -> Result<Option<Name>, OutOfMemory>
+    ensures { IfOk result (λ name. name ≡ name_value (view value.now)) }
+{
+    match value.as_str() {
+        None => Ok(None),
+        Some(text) => Name::of(alloc, text),
+    }
+}
