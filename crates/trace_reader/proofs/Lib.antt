@@ -1,3 +1,4 @@
+pub mod Json
 pub mod Newlines
 pub mod Ranges
 pub mod Steps

@@ -105,7 +105,11 @@ fn count_in(value: &Value) -> Option<u32>
     ensures { result ≡ count_value (view value.now) }
 {
     let n = value.as_u64()?;
-    if n < 4_294_967_296 { Some(n as u32) } else { None }
+    if n < 4_294_967_296 {
+        Some(n as u32)
+    } else {
+        None
+    }
 }
 
 fn id_in(value: &Value) -> Option<ObjId>

@@ -6,6 +6,7 @@ mod cutter;
 mod error;
 mod field;
 mod line;
+mod operation;
 mod window;
 
 pub use cutter::LineCutter;

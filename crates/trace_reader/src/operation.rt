@@ -1,0 +1,128 @@
+ghost use Rattle.serde_json.specs.View.{view};
+ghost use Rattle.trace_reader.specs.Meaning.{Gives, operation, event_in, alloc_in, store_in, root_in, dead_in, start_in, all_dead_in, instances_in, unshared_in, owned_in};
+
+use crate::field::{
+    count_field, good_field, id_field, name_field, needed_field, slots_field, target_field,
+    thread_field,
+};
+use graph_meaning::{Event, FieldName, Refusal, Stop};
+use serde_json::Value;
+use std::alloc::Global;
+
+/// The operation that a value is: an object whose field `op` names it.
+#[tactic(auto, unfolding(crate::specs::Meaning::event_in))]
+pub fn event_of_value(alloc: Global, value: &Value) -> Result<Event, Stop>
+    ensures { Gives result (event_in (view value.now)) }
+{
+    if !value.is_object() {
+        return Err(Stop::Refused(Refusal::NotObject));
+    }
+    let op = needed_field(value, FieldName::OpField)?;
+    let op = good_field(FieldName::OpField, op.as_str())?;
+    operation_named(alloc, op, value)
+}
+
+// The operation of this name. The fields of each are tested in the order in which they are read here.
+#[tactic(auto, unfolding(crate::specs::Meaning::operation))]
+fn operation_named(alloc: Global, op: &str, object: &Value) -> Result<Event, Stop>
+    ensures { Gives result (operation op.now (view object.now)) }
+{
+    match op {
+        "alloc" => alloc_event(alloc, object),
+        "store" => store_event(object),
+        "root" => root_event(alloc, object),
+        "assert-dead" => dead_event(object),
+        "start-region" => start_event(object),
+        "assert-alldead" => all_dead_event(object),
+        "assert-instances" => instances_event(alloc, object),
+        "assert-unshared" => unshared_event(object),
+        "assert-ownedby" => owned_event(object),
+        "collect" => Ok(Event::Collect),
+        _ => Err(Stop::Refused(Refusal::UnknownOp)),
+    }
+}
+
+#[tactic(auto, unfolding(crate::specs::Meaning::alloc_in))]
+fn alloc_event(alloc: Global, object: &Value) -> Result<Event, Stop>
+    ensures { Gives result (alloc_in (view object.now)) }
+{
+    let id = id_field(object, FieldName::IdField)?;
+    let kind = name_field(alloc, object, FieldName::TypeField)?;
+    let slots = slots_field(object)?;
+    let thread = thread_field(object)?;
+    Ok(Event::Alloc {
+        id,
+        kind,
+        slots,
+        thread,
+    })
+}
+
+#[tactic(auto, unfolding(crate::specs::Meaning::store_in))]
+fn store_event(object: &Value) -> Result<Event, Stop>
+    ensures { Gives result (store_in (view object.now)) }
+{
+    let at = id_field(object, FieldName::AtField)?;
+    let slot = count_field(object, FieldName::SlotField)?;
+    let to = target_field(object, FieldName::ToField)?;
+    Ok(Event::Store { at, slot, to })
+}
+
+#[tactic(auto, unfolding(crate::specs::Meaning::root_in))]
+fn root_event(alloc: Global, object: &Value) -> Result<Event, Stop>
+    ensures { Gives result (root_in (view object.now)) }
+{
+    let name = name_field(alloc, object, FieldName::NameField)?;
+    let to = target_field(object, FieldName::ToField)?;
+    Ok(Event::Root { name, to })
+}
+
+#[tactic(auto, unfolding(crate::specs::Meaning::dead_in))]
+fn dead_event(object: &Value) -> Result<Event, Stop>
+    ensures { Gives result (dead_in (view object.now)) }
+{
+    let id = id_field(object, FieldName::IdField)?;
+    Ok(Event::AssertDead { id })
+}
+
+#[tactic(auto, unfolding(crate::specs::Meaning::start_in))]
+fn start_event(object: &Value) -> Result<Event, Stop>
+    ensures { Gives result (start_in (view object.now)) }
+{
+    let thread = thread_field(object)?;
+    Ok(Event::StartRegion { thread })
+}
+
+#[tactic(auto, unfolding(crate::specs::Meaning::all_dead_in))]
+fn all_dead_event(object: &Value) -> Result<Event, Stop>
+    ensures { Gives result (all_dead_in (view object.now)) }
+{
+    let thread = thread_field(object)?;
+    Ok(Event::AssertAllDead { thread })
+}
+
+#[tactic(auto, unfolding(crate::specs::Meaning::instances_in))]
+fn instances_event(alloc: Global, object: &Value) -> Result<Event, Stop>
+    ensures { Gives result (instances_in (view object.now)) }
+{
+    let kind = name_field(alloc, object, FieldName::TypeField)?;
+    let limit = count_field(object, FieldName::LimitField)?;
+    Ok(Event::AssertInstances { kind, limit })
+}
+
+#[tactic(auto, unfolding(crate::specs::Meaning::unshared_in))]
+fn unshared_event(object: &Value) -> Result<Event, Stop>
+    ensures { Gives result (unshared_in (view object.now)) }
+{
+    let id = id_field(object, FieldName::IdField)?;
+    Ok(Event::AssertUnshared { id })
+}
+
+#[tactic(auto, unfolding(crate::specs::Meaning::owned_in))]
+fn owned_event(object: &Value) -> Result<Event, Stop>
+    ensures { Gives result (owned_in (view object.now)) }
+{
+    let owner = id_field(object, FieldName::OwnerField)?;
+    let ownee = id_field(object, FieldName::OwneeField)?;
+    Ok(Event::AssertOwnedBy { owner, ownee })
+}
