@@ -7,6 +7,8 @@ mod error;
 mod field;
 mod line;
 mod operation;
+#[cfg(test)]
+mod tests;
 mod window;
 
 pub use cutter::LineCutter;

@@ -1,0 +1,420 @@
+use crate::{CutError, LineCutter, event_of};
+use graph_meaning::FieldName::{
+    AtField, IdField, LimitField, NameField, OpField, OwneeField, OwnerField, SlotField,
+    SlotsField, ThreadField, ToField, TypeField,
+};
+use graph_meaning::Refusal::{BadField, MissingField, NotJson, NotObject, UnknownOp};
+use graph_meaning::{Event, Refusal, Stop};
+use heap_base::MemSource;
+use std::alloc::Global;
+use std::process::Abort;
+use std::test::Fail;
+
+const TRACE_LIMIT: u64 = 1 << 40;
+
+// Asserts the next line, and its number.
+fn gives(
+    rt: &impl Abort,
+    cutter: &mut LineCutter,
+    source: &mut MemSource,
+    number: u64,
+    line: &[u8],
+) {
+    assert_eq!(rt; cutter.next(source), Ok(Some(number)));
+    assert_eq!(rt; cutter.line(), line);
+}
+
+#[test]
+fn a_trace_may_have_as_many_bytes_as_its_limit(rt: HostRuntime) -> Result<(), Fail> {
+    let mut cutter = LineCutter::make(rt.alloc(), 10)?;
+    let mut source = MemSource::make(rt.alloc(), b"abc\ndefgh\n", 100, &[])?;
+    gives(&rt, &mut cutter, &mut source, 1, b"abc");
+    gives(&rt, &mut cutter, &mut source, 2, b"defgh");
+    assert_eq!(rt; cutter.next(&mut source), Ok(None));
+    assert_eq!(rt; cutter.next(&mut source), Ok(None));
+    Ok(())
+}
+
+#[test]
+fn a_trace_may_not_have_one_byte_more(rt: HostRuntime) -> Result<(), Fail> {
+    let mut cutter = LineCutter::make(rt.alloc(), 10)?;
+    let mut source = MemSource::make(rt.alloc(), b"abc\ndefghij", 100, &[])?;
+    gives(&rt, &mut cutter, &mut source, 1, b"abc");
+    assert_eq!(rt; cutter.next(&mut source), Err(CutError::TraceTooLong));
+    assert_eq!(rt; cutter.next(&mut source), Err(CutError::TraceTooLong));
+    Ok(())
+}
+
+#[test]
+fn lines_end_at_newlines_in_whatever_pieces_they_come(rt: HostRuntime) -> Result<(), Fail> {
+    let trace = b"{\"op\":\"collect\"}\r\n\n{\"op\":\"collect\"}";
+    for piece in [1, 7, 100] {
+        let mut cutter = LineCutter::make(rt.alloc(), TRACE_LIMIT)?;
+        let mut source = MemSource::make(rt.alloc(), trace, piece, &[])?;
+        gives(&rt, &mut cutter, &mut source, 1, b"{\"op\":\"collect\"}\r");
+        gives(&rt, &mut cutter, &mut source, 2, b"");
+        gives(&rt, &mut cutter, &mut source, 3, b"{\"op\":\"collect\"}");
+        assert_eq!(rt; cutter.next(&mut source), Ok(None));
+    }
+    Ok(())
+}
+
+#[test]
+fn a_failed_read_loses_no_byte(rt: HostRuntime) -> Result<(), Fail> {
+    let mut cutter = LineCutter::make(rt.alloc(), TRACE_LIMIT)?;
+    let mut source = MemSource::make(rt.alloc(), b"abcdefgh\nij\n", 5, &[2, 4])?;
+    assert_eq!(rt; cutter.next(&mut source), Err(CutError::ReadFault));
+    gives(&rt, &mut cutter, &mut source, 1, b"abcdefgh");
+    assert_eq!(rt; cutter.next(&mut source), Err(CutError::ReadFault));
+    gives(&rt, &mut cutter, &mut source, 2, b"ij");
+    assert_eq!(rt; cutter.next(&mut source), Ok(None));
+    Ok(())
+}
+
+// What the first call of `next` answers for an operation, so many spaces behind it, and an end.
+fn first_answer(
+    alloc: Global,
+    spaces: usize,
+    end: &str,
+    limit: u64,
+) -> Result<Result<Option<u64>, CutError>, Fail> {
+    let spaces = " ".repeat(alloc, spaces)?;
+    let mut trace = String::from_str(alloc, "{\"op\":\"collect\"}")?;
+    trace.push_str(spaces.as_str())?;
+    trace.push_str(end)?;
+    let mut cutter = LineCutter::make(alloc, limit)?;
+    let mut source = MemSource::make(alloc, trace.as_bytes(), 9_999, &[])?;
+    let answer = cutter.next(&mut source);
+    if answer.is_err() && cutter.next(&mut source) != answer {
+        return Ok(Ok(None));
+    }
+    Ok(answer)
+}
+
+#[test]
+fn a_line_has_at_most_65536_bytes(rt: HostRuntime) -> Result<(), Fail> {
+    let cases = [
+        (65_520, "\n", TRACE_LIMIT, Ok(Some(1))),
+        (65_520, "", TRACE_LIMIT, Ok(Some(1))),
+        (65_521, "\n", TRACE_LIMIT, Err(CutError::LineTooLong)),
+        (65_521, "", TRACE_LIMIT, Err(CutError::LineTooLong)),
+        // The limit of the trace is met by the same byte, or by one before it.
+        (65_521, "", 65_536, Err(CutError::LineTooLong)),
+        (65_520, "\n", 65_536, Err(CutError::TraceTooLong)),
+        (65_520, "", 65_536, Ok(Some(1))),
+        (65_521, "", 65_535, Err(CutError::TraceTooLong)),
+        (65_520, "\n", 65_537, Ok(Some(1))),
+        (0, "", 0, Err(CutError::TraceTooLong)),
+    ];
+    for (spaces, end, limit, want) in cases {
+        let answer = first_answer(rt.alloc(), spaces, end, limit)?;
+        assert_eq!(rt; answer, want, "{spaces} spaces within {limit}");
+    }
+    Ok(())
+}
+
+#[test]
+fn a_long_trace_is_cut_to_its_end(rt: HostRuntime) -> Result<(), Fail> {
+    let trace = "0123456789\nabc\n\n".repeat(rt.alloc(), 20_000)?;
+    let mut cutter = LineCutter::make(rt.alloc(), TRACE_LIMIT)?;
+    let mut source = MemSource::make(rt.alloc(), trace.as_bytes(), 50_001, &[])?;
+    let mut number = 0;
+    for _ in 0..20_000 {
+        gives(&rt, &mut cutter, &mut source, number + 1, b"0123456789");
+        gives(&rt, &mut cutter, &mut source, number + 2, b"abc");
+        gives(&rt, &mut cutter, &mut source, number + 3, b"");
+        number += 3;
+    }
+    assert_eq!(rt; cutter.next(&mut source), Ok(None));
+    Ok(())
+}
+
+// The operation of a line that has one.
+fn event(rt: &impl Abort, alloc: Global, line: &str) -> Event {
+    match event_of(alloc, line.as_bytes()) {
+        Ok(Some(event)) => event,
+        _ => panic!(rt; "no operation: {line}"),
+    }
+}
+
+#[test]
+fn each_operation_is_read(rt: HostRuntime) {
+    let line = "{\"op\":\"alloc\",\"id\":7,\"type\":\"Order\",\"slots\":2,\"thread\":1}";
+    let Event::Alloc {
+        id,
+        kind,
+        slots,
+        thread,
+    } = event(&rt, rt.alloc(), line)
+    else {
+        panic!(rt; "{line}");
+    };
+    assert_eq!(rt; (id.number(), slots, thread.number()), (7, 2, 1));
+    assert_eq!(rt; kind.as_str(), "Order");
+
+    let line = "{\"op\":\"store\",\"at\":3,\"slot\":0,\"to\":7}";
+    let Event::Store { at, slot, to } = event(&rt, rt.alloc(), line) else {
+        panic!(rt; "{line}");
+    };
+    assert_eq!(rt; (at.number(), slot), (3, 0));
+    assert_eq!(rt; to.map(|to| to.number()), Some(7));
+
+    let line = "{\"op\":\"root\",\"name\":\"a\",\"to\":7}";
+    let Event::Root { name, to } = event(&rt, rt.alloc(), line) else {
+        panic!(rt; "{line}");
+    };
+    assert_eq!(rt; name.as_str(), "a");
+    assert_eq!(rt; to.map(|to| to.number()), Some(7));
+
+    let line = "{\"op\":\"assert-instances\",\"type\":\"Config\",\"limit\":1}";
+    let Event::AssertInstances { kind, limit } = event(&rt, rt.alloc(), line) else {
+        panic!(rt; "{line}");
+    };
+    assert_eq!(rt; kind.as_str(), "Config");
+    assert_eq!(rt; limit, 1);
+
+    let line = "{\"op\":\"assert-ownedby\",\"owner\":3,\"ownee\":5}";
+    let Event::AssertOwnedBy { owner, ownee } = event(&rt, rt.alloc(), line) else {
+        panic!(rt; "{line}");
+    };
+    assert_eq!(rt; (owner.number(), ownee.number()), (3, 5));
+}
+
+// A short name of an operation that has one number at most, and the number.
+fn in_short(event: &Event) -> (&'static str, u32) {
+    match event {
+        Event::Alloc { slots, .. } => ("alloc", *slots),
+        Event::Store { to: None, .. } => ("store nothing", 0),
+        Event::Store { .. } => ("store", 0),
+        Event::Root { to: None, .. } => ("root of nothing", 0),
+        Event::Root { .. } => ("root", 0),
+        Event::AssertDead { id } => ("dead", id.number()),
+        Event::StartRegion { thread } => ("start", thread.number()),
+        Event::AssertAllDead { thread } => ("all dead", thread.number()),
+        Event::AssertInstances { limit, .. } => ("instances", *limit),
+        Event::AssertUnshared { id } => ("unshared", id.number()),
+        Event::AssertOwnedBy { .. } => ("owned", 0),
+        Event::Collect => ("collect", 0),
+    }
+}
+
+#[test]
+fn lines_are_taken(rt: HostRuntime) {
+    let cases = [
+        ("{\"op\":\"assert-dead\",\"id\":7}", ("dead", 7)),
+        ("{\"op\":\"start-region\",\"thread\":1023}", ("start", 1023)),
+        ("{\"op\":\"start-region\"}", ("start", 0)),
+        ("{\"op\":\"assert-alldead\",\"thread\":5}", ("all dead", 5)),
+        ("{\"op\":\"assert-alldead\"}", ("all dead", 0)),
+        (
+            "{\"op\":\"assert-unshared\",\"id\":4294967295}",
+            ("unshared", 4_294_967_295),
+        ),
+        ("{\"op\":\"collect\"}", ("collect", 0)),
+        ("{\"op\":\"collect\",\"note\":1}", ("collect", 0)),
+        (
+            "{\"op\":\"root\",\"name\":\"a\",\"to\":null}",
+            ("root of nothing", 0),
+        ),
+        (
+            "{\"op\":\"store\",\"at\":1,\"slot\":0,\"to\":null}",
+            ("store nothing", 0),
+        ),
+        ("{\"op\":\"alloc\",\"id\":1,\"type\":\"A\"}", ("alloc", 0)),
+        (
+            "{\"op\":\"alloc\",\"id\":1,\"type\":\"A\",\"slots\":4294967295}",
+            ("alloc", 4_294_967_295),
+        ),
+        // Any order of the fields, a key by an escape, white space, and fields of any shape that no operation names.
+        (
+            "{\"thread\":0,\"slots\":3,\"type\":\"A\",\"id\":1,\"op\":\"alloc\"}",
+            ("alloc", 3),
+        ),
+        ("{\"\\u006fp\":\"collect\"}", ("collect", 0)),
+        ("\t{ \"op\" :\"collect\" } \r", ("collect", 0)),
+        (
+            "{\"x\":[1.5,{\"op\":0}],\"y\":{\"\":false},\"op\":\"collect\",\"z\":-1e9}",
+            ("collect", 0),
+        ),
+        (
+            "{\"op\":\"collect\",\"thread\":1024,\"x\":\"\\u0001\"}",
+            ("collect", 0),
+        ),
+    ];
+    for (line, want) in cases {
+        let event = event(&rt, rt.alloc(), line);
+        assert_eq!(rt; in_short(&event), want, "{line}");
+    }
+}
+
+#[test]
+fn a_line_of_blanks_is_no_operation(rt: HostRuntime) -> Result<(), Fail> {
+    for line in ["", " ", "\t", "\r", " \t \r"] {
+        assert!(rt;
+            event_of(rt.alloc(), line.as_bytes())?.is_none(),
+            "{line:?}"
+        );
+    }
+    Ok(())
+}
+
+// The refusal of a line that has one.
+fn refusal(rt: &impl Abort, alloc: Global, line: &[u8]) -> Refusal {
+    match event_of(alloc, line) {
+        Err(Stop::Refused(refusal)) => refusal,
+        _ => panic!(rt; "not refused: {line:?}"),
+    }
+}
+
+#[test]
+fn lines_are_refused(rt: HostRuntime) {
+    let cases = [
+        ("{\"op\":\"collect\"", NotJson),
+        ("[1]", NotObject),
+        ("\"op\"", NotObject),
+        ("7", NotObject),
+        ("null", NotObject),
+        ("{\"op\":\"sweep\"}", UnknownOp),
+        ("{\"op\":\"\"}", UnknownOp),
+        ("{\"op\":\"Collect\"}", UnknownOp),
+        ("{}", MissingField(OpField)),
+        ("{\"op\":3}", BadField(OpField)),
+        ("{\"op\":null}", BadField(OpField)),
+        ("{\"op\":\"alloc\",\"type\":\"A\"}", MissingField(IdField)),
+        (
+            "{\"op\":\"alloc\",\"id\":0,\"type\":\"A\"}",
+            BadField(IdField),
+        ),
+        (
+            "{\"op\":\"alloc\",\"id\":1.0,\"type\":\"A\"}",
+            BadField(IdField),
+        ),
+        (
+            "{\"op\":\"alloc\",\"id\":4294967296,\"type\":\"A\"}",
+            BadField(IdField),
+        ),
+        (
+            "{\"op\":\"alloc\",\"id\":1,\"type\":\"\"}",
+            BadField(TypeField),
+        ),
+        (
+            "{\"op\":\"alloc\",\"id\":1,\"type\":\"A\",\"thread\":1024}",
+            BadField(ThreadField),
+        ),
+        (
+            "{\"op\":\"store\",\"at\":1,\"slot\":0}",
+            MissingField(ToField),
+        ),
+        // The first field in the order of the operation decides.
+        ("{\"op\":\"alloc\",\"id\":0}", BadField(IdField)),
+        (
+            "{\"op\":\"alloc\",\"id\":1,\"slots\":-1}",
+            MissingField(TypeField),
+        ),
+        (
+            "{\"op\":\"alloc\",\"id\":1,\"type\":\"A\",\"thread\":-1,\"slots\":-1}",
+            BadField(SlotsField),
+        ),
+        ("{\"op\":\"store\",\"slot\":-1}", MissingField(AtField)),
+        (
+            "{\"op\":\"store\",\"at\":1,\"slot\":-1}",
+            BadField(SlotField),
+        ),
+        ("{\"op\":\"root\",\"to\":0}", MissingField(NameField)),
+        ("{\"op\":\"root\",\"name\":7,\"to\":0}", BadField(NameField)),
+        (
+            "{\"op\":\"root\",\"name\":\"a\",\"to\":0}",
+            BadField(ToField),
+        ),
+        ("{\"op\":\"assert-dead\"}", MissingField(IdField)),
+        (
+            "{\"op\":\"assert-instances\",\"limit\":1}",
+            MissingField(TypeField),
+        ),
+        (
+            "{\"op\":\"assert-instances\",\"type\":\"A\"}",
+            MissingField(LimitField),
+        ),
+        (
+            "{\"op\":\"assert-unshared\",\"id\":\"1\"}",
+            BadField(IdField),
+        ),
+        (
+            "{\"op\":\"assert-ownedby\",\"ownee\":0}",
+            MissingField(OwnerField),
+        ),
+        (
+            "{\"op\":\"assert-ownedby\",\"owner\":1,\"ownee\":0}",
+            BadField(OwneeField),
+        ),
+        // Null is a missing field's value nowhere.
+        (
+            "{\"op\":\"alloc\",\"id\":1,\"type\":\"A\",\"slots\":null}",
+            BadField(SlotsField),
+        ),
+        (
+            "{\"op\":\"start-region\",\"thread\":null}",
+            BadField(ThreadField),
+        ),
+        ("{\"op\":\"assert-dead\",\"id\":null}", BadField(IdField)),
+        // Numbers that are no whole numbers below 2^64.
+        ("{\"op\":\"assert-dead\",\"id\":1e2}", BadField(IdField)),
+        (
+            "{\"op\":\"store\",\"at\":1,\"slot\":-0,\"to\":null}",
+            BadField(SlotField),
+        ),
+        (
+            "{\"op\":\"assert-dead\",\"id\":18446744073709551616}",
+            BadField(IdField),
+        ),
+        ("{\"op\":\"assert-dead\",\"id\":01}", NotJson),
+        // Control characters, by an escape and raw, and a surrogate alone.
+        (
+            "{\"op\":\"root\",\"name\":\"a\\u0001\",\"to\":null}",
+            BadField(NameField),
+        ),
+        ("{\"op\":\"root\",\"name\":\"a\u{1}\",\"to\":null}", NotJson),
+        ("{\"op\":\"collect\",\"x\":\"\\ud800\"}", NotJson),
+        ("{\"op\":\"collect\",\"x\":\"\\udc00\\ud800\"}", NotJson),
+        ("{\"op\":\"collect\"}{}", NotJson),
+        ("\u{b}", NotJson),
+    ];
+    for (line, want) in cases {
+        assert_eq!(rt; refusal(&rt, rt.alloc(), line.as_bytes()), want, "{line}");
+    }
+}
+
+#[test]
+fn bytes_that_are_no_text_are_refused(rt: HostRuntime) {
+    let cases: [&[u8]; 5] = [
+        b"{\"op\":\"collect\",\"x\":\"\xff\"}",
+        b"{\"op\":\"collect\",\"x\":\"\xed\xa0\x80\"}",
+        b"\xef\xbb\xbf{\"op\":\"collect\"}",
+        b"\0",
+        b"{\"op\":\"collect\"}\0",
+    ];
+    for line in cases {
+        assert_eq!(rt; refusal(&rt, rt.alloc(), line), NotJson, "{line:?}");
+    }
+}
+
+// An operation with a field in which arrays nest.
+fn nested(alloc: Global, arrays: usize) -> Result<String, Fail> {
+    let mut line = String::from_str(alloc, "{\"op\":\"collect\",\"x\":")?;
+    line.push_str("[".repeat(alloc, arrays)?.as_str())?;
+    line.push_str("]".repeat(alloc, arrays)?.as_str())?;
+    line.push_str("}")?;
+    Ok(line)
+}
+
+#[test]
+fn values_nest_101_levels_and_not_201(rt: HostRuntime) -> Result<(), Fail> {
+    let line = nested(rt.alloc(), 100)?;
+    assert_eq!(rt;
+        in_short(&event(&rt, rt.alloc(), line.as_str())),
+        ("collect", 0)
+    );
+    let line = nested(rt.alloc(), 200)?;
+    assert_eq!(rt; refusal(&rt, rt.alloc(), line.as_bytes()), NotJson);
+    Ok(())
+}
