@@ -31,7 +31,7 @@ step_of_cut old new held left_before left_after before after result took going l
 }
 
 -- a line and its newline, and what is behind them
-line_split : (held : List ℕ) (n : ℕ) → IsFirstNewline held n → held ≡ (take n held ++ 10 ∷ []) ++ drop (n + 1) held
+pub line_split : (held : List ℕ) (n : ℕ) → IsFirstNewline held n → held ≡ (take n held ++ 10 ∷ []) ++ drop (n + 1) held
 line_split held n first =
     split_at held n 0 first.there
     ∙ ap (λ b. take n held ++ b ∷ drop (suc n) held) first.newline

@@ -118,12 +118,10 @@ fn a_long_trace_is_cut_to_its_end(rt: HostRuntime) -> Result<(), Fail> {
     let trace = "0123456789\nabc\n\n".repeat(rt.alloc(), 20_000)?;
     let mut cutter = LineCutter::make(rt.alloc(), TRACE_LIMIT)?;
     let mut source = MemSource::make(rt.alloc(), trace.as_bytes(), 50_001, &[])?;
-    let mut number = 0;
-    for _ in 0..20_000 {
-        gives(&rt, &mut cutter, &mut source, number + 1, b"0123456789");
-        gives(&rt, &mut cutter, &mut source, number + 2, b"abc");
-        gives(&rt, &mut cutter, &mut source, number + 3, b"");
-        number += 3;
+    for turn in 0..20_000u64 {
+        gives(&rt, &mut cutter, &mut source, 3 * turn + 1, b"0123456789");
+        gives(&rt, &mut cutter, &mut source, 3 * turn + 2, b"abc");
+        gives(&rt, &mut cutter, &mut source, 3 * turn + 3, b"");
     }
     assert_eq!(rt; cutter.next(&mut source), Ok(None));
     Ok(())
