@@ -1,6 +1,8 @@
 //! The table of objects, their slots, the roots and the types.
 #![tactic(auto)]
 
+mod kinds;
+mod object;
 mod table;
 
 pub use table::ObjectTable;

@@ -1,0 +1,97 @@
+ghost use Rattle.std.specs.Prelude.{◌≡◌, ◌<◌, ◌≤◌, ◌++◌, ◌∷◌, [], length, position, slice_get, Some, None, false, IfOk, OnOk, OnErr};
+ghost use Rattle.std.specs.Str.{bytes_eq};
+ghost use Rattle.graph_meaning.specs.Heap.{is_seen};
+ghost use Rattle.graph_meaning.specs.Step.{with_kind};
+
+use heap_base::{Name, OutOfMemory};
+use std::alloc::Global;
+use std::collections::HashMap;
+use std::marker::Model;
+
+/// The type names that were seen, at most 65,536, in the order in which they first came. Contracts see their
+/// list.
+#[derive(Drop)]
+pub struct Kinds {
+    names: Vec<Name>,
+    // the place of each name, by its text
+    numbers: HashMap<String, u32>,
+    alloc: Global,
+}
+
+impl Model for Kinds {
+    ghost use Rattle.std.specs.Prelude.{List, ℕ};
+
+    ghost Value = { List (List ℕ) };
+
+    ghost use Rattle.object_table.specs.Indexed.{IsIndexed};
+
+    ghost view = { λ k. k.names.items };
+
+    ghost invariant = { λ k. IsIndexed k.names.items k.numbers };
+}
+
+impl Kinds {
+    /// No name.
+    pub fn make(alloc: Global) -> Kinds
+        ensures { result ≡ [] }
+    {
+        Kinds {
+            names: Vec::new(alloc),
+            numbers: HashMap::new(alloc),
+            alloc,
+        }
+    }
+
+    /// The place of the name, from 0, and `None` where it was not seen.
+    pub fn find(&self, name: &Name) -> Option<u32>
+        ensures { result ≡ position (bytes_eq name.now) self.now }
+    {
+        self.numbers.get(name.as_str()).copied()
+    }
+
+    /// How many names there are.
+    pub fn len(&self) -> u32
+        ensures count { result ≡ length self.now }
+        ensures few { result ≤ 65536 }
+    {
+        self.names.len() as u32
+    }
+
+    /// The name at this place.
+    pub fn name(&self, place: u32) -> &Name
+        requires { place < length self.now }
+        ensures { slice_get self.now place ≡ Some result.now }
+    {
+        &self.names[place as usize]
+    }
+
+    /// The place of the name, which is put last where it was not seen.
+    pub fn number(&mut self, name: &Name) -> Result<u32, OutOfMemory>
+        requires { is_seen self.old name.now ≡ false → length self.old < 65536 }
+        ensures number { IfOk result (λ n. position (bytes_eq name.now) self.new ≡ Some n) }
+        ensures seen { OnOk result (self.new ≡ with_kind self.old name.now) }
+        ensures err { OnErr result (self.new ≡ self.old) }
+    {
+        match self.find(name) {
+            Some(number) => Ok(number),
+            None => self.add(name),
+        }
+    }
+
+    fn add(&mut self, name: &Name) -> Result<u32, OutOfMemory>
+        requires new { position (bytes_eq name.now) self.old ≡ None }
+        requires room { length self.old < 65536 }
+        ensures number { IfOk result (λ n. position (bytes_eq name.now) self.new ≡ Some n) }
+        ensures seen { OnOk result (self.new ≡ with_kind self.old name.now) }
+        ensures err { OnErr result (self.new ≡ self.old) }
+    {
+        let number = self.names.len() as u32;
+        let key = String::from_str(self.alloc, name.as_str())?;
+        self.names.push(name.copy()?)?;
+        let Ok(_) = self.numbers.insert(key, number) else {
+            self.names.pop();
+            return Err(OutOfMemory);
+        };
+        Ok(number)
+    }
+}
