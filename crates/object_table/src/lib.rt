@@ -3,6 +3,7 @@
 
 mod kinds;
 mod object;
+mod objects;
 mod table;
 
 pub use table::ObjectTable;
