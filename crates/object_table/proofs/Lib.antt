@@ -1,3 +1,5 @@
+pub mod Entries
 pub mod Indexes
+pub mod Named
 pub mod Positions
 pub mod Rows

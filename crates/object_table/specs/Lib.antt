@@ -1,3 +1,4 @@
 pub mod Indexed
+pub mod Ordered
 pub mod Placed
 pub mod Rows

@@ -4,6 +4,7 @@
 mod kinds;
 mod object;
 mod objects;
+mod roots;
 mod table;
 
 pub use table::ObjectTable;

@@ -1,0 +1,72 @@
+-- A search for a name among the roots, and what an edit where it ends does.
+use Rattle.std.proofs.Common.{◌≡◌, ℕ, ◌+◌, ◌<◌, ◌≤◌, List, length, set, get_or, Bool, true, Option, None, is_some, Result, Ok, Err, is_ok, IfOk, IfErr, OnErr, Ordering, Less, Equal, Greater, refl, sym, ◌∙◌, ap, subst, arith}
+use Rattle.std.specs.List.{AllPairs, HoldsAt, insert, remove}
+use Rattle.std.specs.List.Sorted.{IsNonDecreasingBy, IsPartitionPoint, IsSearchInRange, IsBinarySearchResult}
+use Rattle.std.specs.Ordering.{ordering_index, ordering_reverse, nat_cmp, is_lt}
+use Rattle.std.specs.Cmp.{IsTotalOrder}
+use Rattle.std.specs.Map.{lookup, remove_entry}
+use Rattle.std.specs.BTreeMap.{insert_entry, is_at}
+use Rattle.std.proofs.lemmas.Cmp.{nat_list_cmp_total}
+use Rattle.std.proofs.lemmas.List.Edits.{length-insert}
+use Rattle.std.proofs.lemmas.List.Sorted.{searchable_from_sorted}
+use Rattle.graph_meaning.specs.Heap.{name_cmp}
+use Rattle.object_table.specs.Ordered.{IsOrdered, IsNamedAt, IsGapFor}
+use Rattle.object_table.proofs.Entries.{insert_at_gap, insert_at_place, remove_at_gap, remove_at_place, lookup-gap, lookup-place, rises-insert}
+
+abbrev pub Roots : Type 0
+Roots = List (List ℕ × ℕ)
+
+abbrev total : IsTotalOrder name_cmp
+total = nat_list_cmp_total
+
+-- a name compared with a root's, and the root's with the name
+flipped : (a b : List ℕ) (r s : Ordering) → name_cmp a b ≡ r → ordering_reverse r ≡ s → name_cmp b a ≡ s
+flipped a b r s is back = total.antisymm b a ∙ ap ordering_reverse is ∙ back
+
+-- the names rise, as a binary search asks
+names_rise : (roots : Roots) → IsOrdered roots → (name : List ℕ) → IsNonDecreasingBy (λ r. ordering_index (name_cmp r.0 name)) roots
+names_rise roots ordered name = searchable_from_sorted total (λ r. r.0) roots name (λ k d l h.
+    let below : name_cmp (get_or roots k d).0 (get_or roots (k + 1) d).0 ≡ Less = ordered.rising k (k + 1) d (omega arith) h in
+    ap is_lt (flipped (get_or roots k d).0 (get_or roots (k + 1) d).0 Less Greater below refl))
+
+-- what a binary search that compares the roots' names with this one answers
+pub searched : (roots xs : Roots) (name text : List ℕ) (r : Result ℕ ℕ) → xs ≡ roots → text ≡ name → IsOrdered roots → IsBinarySearchResult (λ e. name_cmp e.0 text) xs r → IfOk r (IsNamedAt name roots) × IfErr r (IsGapFor name roots)
+searched roots xs name text (Ok i) same is ordered equal = (λ d. flipped (get_or roots i d).0 name Equal Equal (rw (same, is) at (equal d)) refl, tt)
+searched roots xs name text (Err i) same is ordered parted =
+    let there = (rw (same, is) at parted) (names_rise roots ordered name) in
+    (tt, (λ k d l h. flipped (get_or roots k d).0 name Less Greater (there.0 k d l h) refl, λ k d l h. flipped (get_or roots k d).0 name Greater Less (there.1 k d l h) refl))
+
+-- ---- where the name is
+
+pub set_is : (roots : Roots) (name : List ℕ) (i id : ℕ) (r : List ℕ × ℕ) → r ≡ get_or roots i r → IsOrdered roots → i < length roots → IsNamedAt name roots i → set roots i (r.0, id) ≡ insert_entry name_cmp roots name id
+set_is roots name i id r is ordered h named = rw is (sym (insert_at_place total name id roots i r ordered.rising h named))
+
+pub remove_is : (roots : Roots) (name : List ℕ) (i : ℕ) → IsOrdered roots → i < length roots → IsNamedAt name roots i → remove roots i ≡ remove_entry (is_at (name_cmp name)) roots
+remove_is roots name i ordered h named = sym (remove_at_place total name roots i ordered.rising h named)
+
+-- ---- where the name would go
+
+pub IsOrdered-insert : (roots : Roots) (name : List ℕ) (i id : ℕ) → IsOrdered roots → i ≤ length roots → IsGapFor name roots i → length roots < 65536 → IsOrdered (insert roots i (name, id))
+IsOrdered-insert roots name i id ordered h gap room = record {
+  rising = rises-insert total name id roots i ordered.rising h gap;
+  few = omega (arith, length-insert roots i (name, id) h);
+}
+
+pub insert_is : (roots : Roots) (name : List ℕ) (i id : ℕ) → i ≤ length roots → IsGapFor name roots i → insert roots i (name, id) ≡ insert_entry name_cmp roots name id
+insert_is roots name i id h gap = sym (insert_at_gap total name id roots i h gap)
+
+pub remove_none : (roots : Roots) (name : List ℕ) (i : ℕ) → i ≤ length roots → IsGapFor name roots i → roots ≡ remove_entry (is_at (name_cmp name)) roots
+remove_none roots name i h gap = sym (remove_at_gap total name roots i h gap)
+
+pub lookup_none : (roots : Roots) (name : List ℕ) (i : ℕ) → i ≤ length roots → IsGapFor name roots i → lookup (is_at (name_cmp name)) roots ≡ None
+lookup_none roots name i h gap = lookup-gap total name roots i h gap
+
+-- the search finds the name exactly where a look-up does
+pub found_is : (roots : Roots) (name : List ℕ) (r : Result ℕ ℕ) → IsOrdered roots → IsSearchInRange r (length roots) → IfOk r (IsNamedAt name roots) → IfErr r (IsGapFor name roots) → is_ok r ≡ is_some (lookup (is_at (name_cmp name)) roots)
+found_is roots name (Ok i) ordered h named gap = sym (lookup-place total name roots i ordered.rising h named)
+found_is roots name (Err i) ordered h named gap = ap is_some (sym (lookup-gap total name roots i h gap))
+
+-- what holds anyway holds where a call fails
+pub OnErr-always : {T E P : Type 0} (r : Result T E) → P → OnErr r P
+OnErr-always (Ok x) p = tt
+OnErr-always (Err e) p = p

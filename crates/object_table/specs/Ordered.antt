@@ -1,0 +1,19 @@
+-- Roots by the bytes of their names.
+use Rattle.std.specs.Prelude.{◌≡◌, ℕ, ◌≤◌, List, length, HoldsAt}
+use Rattle.std.specs.List.{AllPairs}
+use Rattle.std.specs.List.Sorted.{IsPartitionPoint}
+use Rattle.std.specs.declared.cmp.Ordering.TheVariants.{Less, Equal, Greater}
+use Rattle.graph_meaning.specs.Heap.{name_cmp}
+
+-- Each name is below those after it, and there are at most 65,536.
+pub record IsOrdered (roots : List (List ℕ × ℕ)) : Type 0 where
+  pub rising : AllPairs (λ a b. name_cmp a.0 b.0 ≡ Less) roots
+  pub few : length roots ≤ 65536
+
+-- the root at this place has the name
+abbrev pub IsNamedAt : List ℕ → List (List ℕ × ℕ) → ℕ → Type 0
+IsNamedAt name roots place = HoldsAt (λ r. name_cmp name r.0 ≡ Equal) roots place
+
+-- a root with the name would stand at this place
+abbrev pub IsGapFor : List ℕ → List (List ℕ × ℕ) → ℕ → Type 0
+IsGapFor name roots place = IsPartitionPoint (λ r. name_cmp name r.0 ≡ Greater) (λ r. name_cmp name r.0 ≡ Less) roots place

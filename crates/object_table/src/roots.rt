@@ -1,0 +1,110 @@
+ghost use Rattle.std.specs.Prelude.{◌≡◌, ◌<◌, ◌≤◌, [], length, is_some, slice_get, IfSome, IfOk, IfErr, OnOk, OnErr, None};
+ghost use Rattle.std.specs.List.Sorted.{IsSearchInRange};
+ghost use Rattle.std.specs.Map.{lookup, remove_entry};
+ghost use Rattle.std.specs.BTreeMap.{insert_entry, is_at};
+ghost use Rattle.graph_meaning.specs.Heap.{name_cmp};
+ghost use Rattle.object_table.specs.Ordered.{IsOrdered, IsNamedAt, IsGapFor};
+
+use heap_base::{Name, ObjId, OutOfMemory};
+use std::alloc::Global;
+use std::marker::Model;
+
+/// The roots by the bytes of their names, at most 65,536, each with the object that it holds. Contracts see
+/// the list of those pairs.
+#[derive(Drop)]
+pub struct Roots {
+    entries: Vec<(Name, ObjId)>,
+}
+
+impl Model for Roots {
+    ghost use Rattle.std.specs.Prelude.{List, ℕ};
+    ghost use Rattle.object_table.specs.Ordered.{IsOrdered};
+
+    ghost Value = { List (List ℕ × ℕ) };
+
+    ghost view = { λ r. r.entries.items };
+
+    ghost invariant = { λ r. IsOrdered r.entries.items };
+}
+
+impl Roots {
+    /// No root.
+    pub fn make(alloc: Global) -> Roots
+        ensures { result ≡ [] }
+    {
+        Roots {
+            entries: Vec::new(alloc),
+        }
+    }
+
+    /// How many there are.
+    pub fn len(&self) -> u32
+        ensures count { result ≡ length self.now }
+        ensures few { result ≤ 65536 }
+    {
+        self.entries.len() as u32
+    }
+
+    /// The name of the root at this place.
+    pub fn name(&self, place: u32) -> &Name
+        requires { place < length self.now }
+        ensures { IfSome (slice_get self.now place) (λ r. result.now ≡ r.0) }
+    {
+        &self.entries[place as usize].0
+    }
+
+    /// The object that the root at this place holds.
+    pub fn id(&self, place: u32) -> ObjId
+        requires { place < length self.now }
+        ensures { IfSome (slice_get self.now place) (λ r. result ≡ r.1) }
+    {
+        self.entries[place as usize].1
+    }
+
+    /// Whether a root has this name.
+    pub fn has(&self, name: &Name) -> bool
+        ensures { result ≡ is_some (lookup (is_at (name_cmp name.now)) self.now) }
+    {
+        self.search(name).is_ok()
+    }
+
+    /// Lets the name hold the object. Only a new name wants memory.
+    pub fn set(&mut self, name: &Name, id: ObjId) -> Result<(), OutOfMemory>
+        requires { lookup (is_at (name_cmp name.now)) self.old ≡ None → length self.old < 65536 }
+        ensures set { OnOk result (self.new ≡ insert_entry name_cmp self.old name.now id) }
+        ensures err { OnErr result (self.new ≡ self.old) }
+        ensures memory { OnErr result (lookup (is_at (name_cmp name.now)) self.old ≡ None) }
+    {
+        match self.search(name) {
+            Ok(place) => {
+                self.entries[place].1 = id;
+                Ok(())
+            }
+            Err(place) => {
+                let name = name.copy()?;
+                Ok(self.entries.insert(place, (name, id))?)
+            }
+        }
+    }
+
+    /// Takes the name away, where it is there.
+    pub fn remove(&mut self, name: &Name)
+        ensures { self.new ≡ remove_entry (is_at (name_cmp name.now)) self.old }
+    {
+        if let Ok(place) = self.search(name) {
+            self.entries.remove(place);
+        }
+    }
+
+    // Where the name is, or where it would go.
+    fn search(&self, name: &Name) -> Result<usize, usize>
+        ensures in_range { IsSearchInRange result (length self.now) }
+        ensures found { IfOk result (IsNamedAt name.now self.now) }
+        ensures gap { IfErr result (IsGapFor name.now self.now) }
+        ensures ordered { IsOrdered self.now }
+    {
+        let text = name.as_str();
+        self.entries
+            .binary_search_by(|entry| entry.0.as_str().cmp(text))
+    }
+}
