@@ -3,7 +3,7 @@ use Rattle.std.specs.Prelude.{◌≡◌, ℕ, ◌<◌, ◌≤◌, List, length, 
 use Rattle.std.specs.List.{AllPairs}
 use Rattle.graph_meaning.specs.Heap.{Object}
 use Rattle.graph_meaning.specs.Reach.{has_id}
-use Rattle.object_table.specs.Placed.{kept_ids}
+use Rattle.object_table.specs.Placed.{Placed, kept_ids}
 
 -- An object: its id, the number of its type, and what its slots hold.
 pub record Row : Type 0 where
@@ -41,3 +41,17 @@ pub record IsHeld (rows : List Row) (slots : ℕ) : Type 0 where
   pub total : slots ≡ row_slots rows
   pub few : length rows ≤ 1048576
   pub few_slots : slots ≤ 16777216
+
+-- the table that the parts stand for, and its cells
+abbrev pub placed_of : List Row → List (List ℕ × ℕ) → List (List ℕ) → ℕ → Placed
+placed_of rows roots kinds greatest = record {
+  table = record { objects = map (object_of kinds) rows; roots = roots; greatest = greatest; kinds = kinds };
+  cells = cells_of rows;
+}
+
+-- The objects rise by id, each has a type that was seen and an id that was allocated, and each root holds an object.
+pub record IsJoined (rows : List Row) (roots : List (List ℕ × ℕ)) (kinds : List (List ℕ)) (greatest : ℕ) : Type 0 where
+  pub rising : AllPairs (λ r s. r.id < s.id) rows
+  pub known : All (λ r. r.kind < length kinds) rows
+  pub allocated : All (λ r. r.id ≤ greatest) rows
+  pub live : All (λ id. IsTrue (has_id (row_ids rows) id)) (map (λ r. r.1) roots)

@@ -2,6 +2,7 @@
 #![tactic(auto)]
 
 mod kinds;
+mod limits;
 mod object;
 mod objects;
 mod roots;

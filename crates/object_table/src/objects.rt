@@ -59,6 +59,7 @@ impl Objects {
         ensures in_range { IfSome result (λ place. place < length self.now) }
         ensures found { IfSome result (HoldsAt (λ r. r.id ≡ id) self.now) }
         ensures none { IfNone result (has_id (row_ids self.now) id ≡ false) }
+        ensures held { IsHeld self.now (row_slots self.now) }
     {
         match self.list.binary_search_by_key(&id.number(), |o| o.id().number()) {
             Ok(place) => Some(place as u32),
@@ -69,7 +70,8 @@ impl Objects {
     /// The object at a place.
     pub fn at(&self, place: u32) -> &Object
         requires { place < length self.now }
-        ensures { slice_get self.now place ≡ Some result.now }
+        ensures at { slice_get self.now place ≡ Some result.now }
+        ensures held { IsHeld self.now (row_slots self.now) }
     {
         &self.list[place as usize]
     }
@@ -79,6 +81,7 @@ impl Objects {
         requires above { All (λ r. r.id < id) self.old }
         requires room { length self.old < 1048576 }
         requires room_for_slots { row_slots self.old + slots ≤ 16777216 }
+        ensures held { IsHeld self.old (row_slots self.old) }
         ensures last { OnOk result (self.new ≡ self.old ++ record { id = id; kind = kind; slots = replicate slots None } ∷ []) }
         ensures err { OnErr result (self.new ≡ self.old) }
     {

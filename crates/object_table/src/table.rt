@@ -4,43 +4,66 @@ ghost use Rattle.std.specs.Str.{bytes_eq};
 ghost use Rattle.graph_meaning.specs.Answers.{RefusesBy};
 ghost use Rattle.graph_meaning.specs.Heap.{edge_of, is_live};
 ghost use Rattle.graph_meaning.specs.Collecting.{only};
-ghost use Rattle.graph_meaning.specs.Step.{alloc_refusal, allocated, store_refusal, stored, root_refusal, with_root, is_root, kind_refusal, with_kind};
+ghost use Rattle.graph_meaning.specs.Step.{alloc_refusal, allocated, not_live, target_refusal, store_refusal, stored, root_refusal, with_root, is_root, kind_refusal, with_kind};
 ghost use Rattle.object_table.specs.Placed.{nothing_placed, id_in, object_in, slots_in, IsPlaced, kept_ids, LeadsToKept};
 
+use crate::kinds::Kinds;
+use crate::limits::{MOST_KINDS, MOST_OBJECTS, MOST_ROOTS, MOST_SLOTS};
+use crate::objects::Objects;
+use crate::roots::Roots;
 use graph_meaning::{Refusal, Stop};
 use heap_base::{Name, ObjId, OutOfMemory};
 use std::alloc::Global;
-use std::convert::Infallible;
 use std::marker::Model;
 
 /// The objects of a heap in numbered cells, with their types, slots and roots. Contracts see the table that
 /// it stands for, by ids, and which object each cell holds.
 #[derive(Drop)]
 pub struct ObjectTable {
-    never: Infallible,
+    objects: Objects,
+    roots: Roots,
+    kinds: Kinds,
+    // the greatest id that was allocated, 0 before the first
+    greatest: u32,
 }
 
 impl Model for ObjectTable {
-    ghost use Rattle.object_table.specs.Placed.{Placed, nothing_placed};
+    ghost use Rattle.object_table.specs.Placed.{Placed};
+    ghost use Rattle.object_table.specs.Rows.{placed_of, IsJoined};
 
     ghost Value = { Placed };
 
-    ghost view = { λ t. nothing_placed };
+    ghost view = { λ t. placed_of t.objects t.roots t.kinds t.greatest };
+
+    ghost invariant = { λ t. IsJoined t.objects t.roots t.kinds t.greatest };
 }
 
 impl ObjectTable {
     /// The empty table.
-    pub fn make(_alloc: Global) -> Result<ObjectTable, OutOfMemory>
+    pub fn make(alloc: Global) -> Result<ObjectTable, OutOfMemory>
         ensures { IfOk result (λ t. t ≡ nothing_placed) }
     {
-        Err(OutOfMemory)
+        Ok(ObjectTable {
+            objects: Objects::make(alloc),
+            roots: Roots::make(alloc),
+            kinds: Kinds::make(alloc),
+            greatest: 0,
+        })
     }
 
     /// Why `alloc_object` would refuse this object, and `None` where it would not.
     pub fn alloc_refusal(&self, id: ObjId, kind: &Name, slots: u32) -> Option<Refusal>
         ensures { result ≡ alloc_refusal self.now.table id kind.now slots }
     {
-        match self.never {}
+        if id.number() <= self.greatest {
+            Some(Refusal::IdNotRising(id.number()))
+        } else if self.objects.len() >= MOST_OBJECTS {
+            Some(Refusal::TooManyObjects)
+        } else if slots > MOST_SLOTS - self.objects.slots() {
+            Some(Refusal::TooManySlots)
+        } else {
+            self.kind_refusal(kind)
+        }
     }
 
     /// Adds an object with empty slots. It refuses, in this order, an id that is not above every id before
@@ -51,7 +74,13 @@ impl ObjectTable {
         ensures added { OnOk result (self.new.table ≡ allocated self.old.table id kind.now slots) }
         ensures err { OnErr result (self.new ≡ self.old) }
     {
-        match self.never {}
+        if let Some(refusal) = self.alloc_refusal(id, kind, slots) {
+            return Err(Stop::Refused(refusal));
+        }
+        let Ok(()) = self.add_object(id, kind, slots) else {
+            return Err(Stop::OutOfMemory);
+        };
+        Ok(())
     }
 
     /// Lets a slot hold an object, or nothing. It refuses, in this order, an `at` that is not live
@@ -62,7 +91,9 @@ impl ObjectTable {
         ensures cells { self.new.cells ≡ self.old.cells }
         ensures err { OnErr result (self.new ≡ self.old) }
     {
-        match self.never {}
+        let place = self.store_place(at, slot, &to)?;
+        self.objects.store(place, slot, to);
+        Ok(())
     }
 
     /// Lets a root name hold an object, or takes the name away, also where it is not there. It refuses, in
@@ -75,14 +106,20 @@ impl ObjectTable {
         ensures memory { result ≡ Err Stop.OutOfMemory → IsSome to × (is_root self.old.table name.now ≡ false) }
         ensures err { OnErr result (self.new ≡ self.old) }
     {
-        match self.never {}
+        match to {
+            Some(id) => self.put_root(name, id),
+            None => {
+                self.roots.remove(name);
+                Ok(())
+            }
+        }
     }
 
     /// The number of a type, from 0 in the order in which the types first came, and `None` where it was not seen.
     pub fn kind_number(&self, name: &Name) -> Option<u32>
         ensures { result ≡ position (bytes_eq name.now) self.now.table.kinds }
     {
-        match self.never {}
+        self.kinds.find(name)
     }
 
     /// The number of a type, which is seen from now on. It refuses a new type where 65,536 were seen (`TooManyTypes`).
@@ -93,14 +130,20 @@ impl ObjectTable {
         ensures cells { self.new.cells ≡ self.old.cells }
         ensures err { OnErr result (self.new ≡ self.old) }
     {
-        match self.never {}
+        if let Some(refusal) = self.kind_refusal(name) {
+            return Err(Stop::Refused(refusal));
+        }
+        let Ok(number) = self.kinds.number(name) else {
+            return Err(Stop::OutOfMemory);
+        };
+        Ok(number)
     }
 
     /// How many types were seen.
     pub fn kinds(&self) -> u32
         ensures { result ≡ length self.now.table.kinds }
     {
-        match self.never {}
+        self.kinds.len()
     }
 
     /// The name of a type.
@@ -108,7 +151,7 @@ impl ObjectTable {
         requires { kind < length self.now.table.kinds }
         ensures { slice_get self.now.table.kinds kind ≡ Some result.now }
     {
-        match self.never {}
+        self.kinds.name(kind)
     }
 
     /// How many cells there are, at most 1,048,576. Each object stands in one of them.
@@ -116,14 +159,14 @@ impl ObjectTable {
         ensures count { result ≡ length self.now.cells }
         ensures placed { IsPlaced self.now }
     {
-        match self.never {}
+        self.objects.len()
     }
 
     /// How many objects are live.
     pub fn live(&self) -> u32
         ensures { result ≡ length self.now.table.objects }
     {
-        match self.never {}
+        self.objects.len()
     }
 
     /// The cell that holds the object, and `None` where it is not live.
@@ -131,7 +174,7 @@ impl ObjectTable {
         ensures cell { IfSome result (λ cell. id_in self.now cell ≡ Some id) }
         ensures none { IfNone result (is_live self.now.table id ≡ false) }
     {
-        match self.never {}
+        self.objects.place(id)
     }
 
     /// The object that a cell holds, and `None` where it is empty.
@@ -139,7 +182,7 @@ impl ObjectTable {
         requires { cell < length self.now.cells }
         ensures { result ≡ id_in self.now cell }
     {
-        match self.never {}
+        Some(self.objects.at(cell).id())
     }
 
     /// The number of the type of the object in a cell.
@@ -147,7 +190,7 @@ impl ObjectTable {
         requires { IsSome (id_in self.now cell) }
         ensures { IfSome (object_in self.now cell) (λ o. slice_get self.now.table.kinds result ≡ Some o.kind) }
     {
-        match self.never {}
+        self.objects.at(cell).kind()
     }
 
     /// How many slots the object in a cell has.
@@ -155,7 +198,7 @@ impl ObjectTable {
         requires { IsSome (id_in self.now cell) }
         ensures { result ≡ length (slots_in self.now cell) }
     {
-        match self.never {}
+        self.objects.at(cell).slots()
     }
 
     /// The cell of what a slot of the object in a cell leads to, and `None` where it leads nowhere.
@@ -164,14 +207,17 @@ impl ObjectTable {
         ensures leads { option_and_then (id_in self.now) result ≡ edge_of (slice_index_or (slots_in self.now cell) slot None) }
         ensures in_a_cell { is_some result ≡ is_some (edge_of (slice_index_or (slots_in self.now cell) slot None)) }
     {
-        match self.never {}
+        match self.objects.at(cell).slot(slot) {
+            Some(id) => self.objects.place(id),
+            None => None,
+        }
     }
 
     /// How many roots there are. They are numbered from 0 by the bytes of their names.
     pub fn roots(&self) -> u32
         ensures { result ≡ length self.now.table.roots }
     {
-        match self.never {}
+        self.roots.len()
     }
 
     /// The name of a root.
@@ -179,7 +225,7 @@ impl ObjectTable {
         requires { root < length self.now.table.roots }
         ensures { IfSome (slice_get self.now.table.roots root) (λ r. result.now ≡ r.0) }
     {
-        match self.never {}
+        self.roots.name(root)
     }
 
     /// The cell of the object that a root names.
@@ -187,7 +233,10 @@ impl ObjectTable {
         requires { root < length self.now.table.roots }
         ensures { IfSome (slice_get self.now.table.roots root) (λ r. id_in self.now result ≡ Some r.1) }
     {
-        match self.never {}
+        match self.objects.place(self.roots.id(root)) {
+            Some(cell) => cell,
+            None => 0,
+        }
     }
 
     /// Frees every object whose cell is not kept. Cells may be numbered anew.
@@ -196,6 +245,101 @@ impl ObjectTable {
         requires closed { LeadsToKept self.old.table (kept_ids self.old.cells kept.now) }
         ensures { self.new.table ≡ only (kept_ids self.old.cells kept.now) self.old.table }
     {
-        match self.never {}
+        self.objects.keep(kept);
+    }
+
+    // Why a new object may not have this type.
+    fn kind_refusal(&self, kind: &Name) -> Option<Refusal>
+        ensures { result ≡ kind_refusal self.now.table kind.now }
+    {
+        if self.kinds.find(kind).is_none() && self.kinds.len() >= MOST_KINDS {
+            Some(Refusal::TooManyTypes)
+        } else {
+            None
+        }
+    }
+
+    // Why a slot or a root may not hold this.
+    fn target_refusal(&self, to: &Option<ObjId>) -> Option<Refusal>
+        ensures { result ≡ target_refusal self.now.table to.now }
+    {
+        match to {
+            Some(id) => self.not_live(*id),
+            None => None,
+        }
+    }
+
+    // Why nothing may lead to this id.
+    fn not_live(&self, id: ObjId) -> Option<Refusal>
+        ensures { result ≡ not_live self.now.table id }
+    {
+        match self.objects.place(id) {
+            Some(_) => None,
+            None => Some(Refusal::NotLive(id.number())),
+        }
+    }
+
+    // Why a root with this name may not hold this.
+    fn root_refusal(&self, name: &Name, id: ObjId) -> Option<Refusal>
+        ensures { result ≡ root_refusal self.now.table name.now (Some id) }
+    {
+        if let Some(refusal) = self.not_live(id) {
+            return Some(refusal);
+        }
+        if !self.roots.has(name) && self.roots.len() >= MOST_ROOTS {
+            Some(Refusal::TooManyRoots)
+        } else {
+            None
+        }
+    }
+
+    // Lets the name hold the object.
+    fn put_root(&mut self, name: &Name, id: ObjId) -> Result<(), Stop>
+        ensures refused { RefusesBy result (root_refusal self.old.table name.now (Some id)) }
+        ensures set { OnOk result (self.new.table ≡ with_root self.old.table name.now (Some id)) }
+        ensures cells { self.new.cells ≡ self.old.cells }
+        ensures memory { result ≡ Err Stop.OutOfMemory → is_root self.old.table name.now ≡ false }
+        ensures err { OnErr result (self.new ≡ self.old) }
+    {
+        if let Some(refusal) = self.root_refusal(name, id) {
+            return Err(Stop::Refused(refusal));
+        }
+        let Ok(()) = self.roots.set(name, id) else {
+            return Err(Stop::OutOfMemory);
+        };
+        Ok(())
+    }
+
+    // The cell of the object that is stored into, or why the store is refused.
+    fn store_place(&self, at: ObjId, slot: u32, to: &Option<ObjId>) -> Result<u32, Refusal>
+        ensures refused { result_err result ≡ store_refusal self.now.table at slot to.now }
+        ensures place { IfOk result (λ place. id_in self.now place ≡ Some at) }
+    {
+        let Some(place) = self.objects.place(at) else {
+            return Err(Refusal::NotLive(at.number()));
+        };
+        if slot >= self.objects.at(place).slots() {
+            return Err(Refusal::BadSlot(slot));
+        }
+        match self.target_refusal(to) {
+            Some(refusal) => Err(refusal),
+            None => Ok(place),
+        }
+    }
+
+    // Puts the object last. Where memory is wanting, nothing has changed.
+    fn add_object(&mut self, id: ObjId, kind: &Name, slots: u32) -> Result<(), OutOfMemory>
+        requires { alloc_refusal self.old.table id kind.now slots ≡ None }
+        ensures added { OnOk result (self.new.table ≡ allocated self.old.table id kind.now slots) }
+        ensures err { OnErr result (self.new ≡ self.old) }
+    {
+        let number = self.kinds.find(kind).unwrap_or(self.kinds.len());
+        self.objects.push(id, number, slots)?;
+        let Ok(_) = self.kinds.number(kind) else {
+            self.objects.pop();
+            return Err(OutOfMemory);
+        };
+        self.greatest = id.number();
+        Ok(())
     }
 }

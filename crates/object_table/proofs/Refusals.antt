@@ -1,0 +1,115 @@
+-- What each refusal comes to, where the tests before it are decided.
+use Rattle.std.proofs.Common.{◌≡◌, ℕ, ◌+◌, ◌<◌, ◌≤◌, List, length, Bool, true, false, ◌&&◌, not, Option, Some, None, is_some, refl, sym, ◌∙◌, ap, arith}
+use Rattle.std.proofs.lemmas.Bool.Decides.{nat_tests}
+use Rattle.graph_meaning.specs.declared.refusal.Refusal.{Refusal}
+use Rattle.graph_meaning.specs.declared.refusal.Refusal.TheVariants.{IdNotRising, TooManyObjects, TooManySlots, NotLive, BadSlot, TooManyRoots, TooManyTypes}
+use Rattle.graph_meaning.specs.Heap.{Table, is_live, is_seen, slot_count}
+use Rattle.graph_meaning.specs.Step.{alloc_refusal, store_refusal, root_refusal, kind_refusal, target_refusal, not_live, slots_of, is_root}
+
+-- ---- types
+
+pub kind_full : (t : Table) (kind : List ℕ) → is_seen t.kinds kind ≡ false → 65536 ≤ length t.kinds → kind_refusal t kind ≡ Some TooManyTypes
+kind_full t kind new full = grind (arith, nat_tests)
+
+pub kind_seen : (t : Table) (kind : List ℕ) → is_seen t.kinds kind ≡ true → kind_refusal t kind ≡ None
+kind_seen t kind seen = rw seen refl
+
+pub kind_room : (t : Table) (kind : List ℕ) → length t.kinds < 65536 → kind_refusal t kind ≡ None
+kind_room t kind room = grind (arith, nat_tests)
+
+-- a new type that is not refused has room
+pub kind_fits : (t : Table) (kind : List ℕ) → kind_refusal t kind ≡ None → is_seen t.kinds kind ≡ false → length t.kinds < 65536
+kind_fits t kind allowed new = grind (arith, nat_tests)
+
+-- ---- a new object
+
+pub alloc_rising : (t : Table) (id : ℕ) (kind : List ℕ) (slots : ℕ) → id ≤ t.greatest → alloc_refusal t id kind slots ≡ Some (IdNotRising id)
+unfolding alloc_refusal
+alloc_rising t id kind slots h = grind (arith, nat_tests)
+
+pub alloc_full : (t : Table) (id : ℕ) (kind : List ℕ) (slots : ℕ) → t.greatest < id → 1048576 ≤ length t.objects → alloc_refusal t id kind slots ≡ Some TooManyObjects
+unfolding alloc_refusal
+alloc_full t id kind slots above h = grind (arith, nat_tests)
+
+pub alloc_slots : (t : Table) (id : ℕ) (kind : List ℕ) (slots : ℕ) → t.greatest < id → length t.objects < 1048576 → 16777216 < slot_count t + slots → alloc_refusal t id kind slots ≡ Some TooManySlots
+unfolding alloc_refusal
+alloc_slots t id kind slots above room h = grind (arith, nat_tests)
+
+pub alloc_kind : (t : Table) (id : ℕ) (kind : List ℕ) (slots : ℕ) → t.greatest < id → length t.objects < 1048576 → slot_count t + slots ≤ 16777216 → alloc_refusal t id kind slots ≡ kind_refusal t kind
+unfolding alloc_refusal
+alloc_kind t id kind slots above room h = grind (arith, nat_tests)
+
+-- what holds where an object is not refused
+pub record Fits (t : Table) (id : ℕ) (kind : List ℕ) (slots : ℕ) : Type 0 where
+  pub above : t.greatest < id
+  pub room : length t.objects < 1048576
+  pub room_for_slots : slot_count t + slots ≤ 16777216
+  pub allowed_kind : kind_refusal t kind ≡ None
+
+pub alloc_fits : (t : Table) (id : ℕ) (kind : List ℕ) (slots : ℕ) → alloc_refusal t id kind slots ≡ None → Fits t id kind slots
+unfolding alloc_refusal
+alloc_fits t id kind slots allowed = record {
+  above = grind (arith, nat_tests);
+  room = grind (arith, nat_tests);
+  room_for_slots = grind (arith, nat_tests);
+  allowed_kind = grind (arith, nat_tests);
+}
+
+-- ---- a store
+
+pub store_dead : (t : Table) (at slot : ℕ) (to : Option ℕ) → is_live t at ≡ false → store_refusal t at slot to ≡ Some (NotLive at)
+unfolding store_refusal
+store_dead t at slot to dead = rw dead refl
+
+pub store_bad : (t : Table) (at slot : ℕ) (to : Option ℕ) → is_live t at ≡ true → slots_of t at ≤ slot → store_refusal t at slot to ≡ Some (BadSlot slot)
+unfolding store_refusal
+store_bad t at slot to live h = grind (arith, nat_tests)
+
+pub store_target : (t : Table) (at slot : ℕ) (to : Option ℕ) → is_live t at ≡ true → slot < slots_of t at → store_refusal t at slot to ≡ target_refusal t to
+unfolding store_refusal
+store_target t at slot to live h = grind (arith, nat_tests)
+
+-- what holds where a store is not refused
+pub record Stores (t : Table) (at slot : ℕ) (to : Option ℕ) : Type 0 where
+  pub live : is_live t at ≡ true
+  pub a_slot : slot < slots_of t at
+  pub target : target_refusal t to ≡ None
+
+pub store_fits : (t : Table) (at slot : ℕ) (to : Option ℕ) → store_refusal t at slot to ≡ None → Stores t at slot to
+unfolding store_refusal
+store_fits t at slot to allowed = record {
+  live = grind (arith, nat_tests);
+  a_slot = grind (arith, nat_tests);
+  target = grind (arith, nat_tests);
+}
+
+-- ---- a root
+
+pub root_dead : (t : Table) (name : List ℕ) (id : ℕ) (r : Refusal) → not_live t id ≡ Some r → root_refusal t name (Some id) ≡ Some r
+unfolding root_refusal
+root_dead t name id r dead = rw dead refl
+
+pub root_full : (t : Table) (name : List ℕ) (id : ℕ) → not_live t id ≡ None → is_root t name ≡ false → 65536 ≤ length t.roots → root_refusal t name (Some id) ≡ Some TooManyRoots
+unfolding root_refusal
+root_full t name id live new full = grind (arith, nat_tests)
+
+pub root_there : (t : Table) (name : List ℕ) (id : ℕ) → not_live t id ≡ None → is_root t name ≡ true → root_refusal t name (Some id) ≡ None
+unfolding root_refusal
+root_there t name id live there = grind (arith, nat_tests)
+
+pub root_room : (t : Table) (name : List ℕ) (id : ℕ) → not_live t id ≡ None → length t.roots < 65536 → root_refusal t name (Some id) ≡ None
+unfolding root_refusal
+root_room t name id live room = grind (arith, nat_tests)
+
+-- a new root that is not refused has room, and its object is live
+pub root_fits : (t : Table) (name : List ℕ) (id : ℕ) → root_refusal t name (Some id) ≡ None → (not_live t id ≡ None) × (is_root t name ≡ false → length t.roots < 65536)
+unfolding root_refusal
+root_fits t name id allowed = (grind (arith, nat_tests), λ new. grind (arith, nat_tests))
+
+pub root_taken : (t : Table) (name : List ℕ) → root_refusal t name None ≡ None
+unfolding root_refusal
+root_taken t name = refl
+
+-- what is not refused is live
+pub live_from_allowed : (t : Table) (id : ℕ) → not_live t id ≡ None → is_live t id ≡ true
+live_from_allowed t id allowed = grind (arith, nat_tests)

@@ -1,0 +1,47 @@
+use Rattle.std.proofs.Common.{sym, ◌∙◌, refl, arith, Some, None}
+use Rattle.graph_meaning.specs.Heap.{Table}
+use Rattle.graph_meaning.specs.Step.{alloc_refusal, allocated}
+use Rattle.object_table.specs.Rows.{placed_of}
+use Rattle.object_table.proofs.Refusals.{alloc_fits, kind_fits}
+use Rattle.object_table.proofs.Tables.{length-objects, slot_count-is, take_pushed, joined_allocated, allocated_is}
+use Rattle.object_table.proofs.table.ObjectTable.add_object.Goals as goal
+
+pub push-requires-clause-above : goal.push-requires-clause-above
+push-requires-clause-above c k d h =
+    let t : Table = (placed_of c.self.inside.objects c.self.inside.roots c.self.inside.kinds c.self.inside.greatest).table in
+    let fits = alloc_fits t c.args.id c.args.kind.now c.args.slots (rw (← c.self.view_is) at c.requires) in
+    omega (arith, c.self.invariant.allocated k d h, fits.above)
+
+pub push-requires-clause-room : goal.push-requires-clause-room
+push-requires-clause-room c =
+    let t : Table = (placed_of c.self.inside.objects c.self.inside.roots c.self.inside.kinds c.self.inside.greatest).table in
+    let fits = alloc_fits t c.args.id c.args.kind.now c.args.slots (rw (← c.self.view_is) at c.requires) in
+    omega (arith, fits.room, length-objects c.self.inside.kinds c.self.inside.objects)
+
+pub push-requires-clause-room_for_slots : goal.push-requires-clause-room_for_slots
+push-requires-clause-room_for_slots c =
+    let t : Table = (placed_of c.self.inside.objects c.self.inside.roots c.self.inside.kinds c.self.inside.greatest).table in
+    let fits = alloc_fits t c.args.id c.args.kind.now c.args.slots (rw (← c.self.view_is) at c.requires) in
+    rw (slot_count-is c.self.inside.kinds c.self.inside.objects) at fits.room_for_slots
+
+pub number-requires : goal.number-requires
+number-requires c new =
+    let t : Table = (placed_of c.self.inside.objects c.self.inside.roots c.self.inside.kinds c.self.inside.greatest).table in
+    let fits = alloc_fits t c.args.id c.args.kind.now c.args.slots (rw (← c.self.view_is) at c.requires) in
+    kind_fits t c.args.kind.now fits.allowed_kind new
+
+-- without the last row the objects are what they were
+pub pop-requires : goal.pop-requires
+pop-requires c = rw (c.in_ok-push.ensures.last, take_pushed c.self.inside.objects _) c.in_ok-push.ensures.held
+
+pub invariant_of-self-2 : goal.invariant_of-self-2
+invariant_of-self-2 c =
+    let t : Table = (placed_of c.self.inside.objects c.self.inside.roots c.self.inside.kinds c.self.inside.greatest).table in
+    let fits = alloc_fits t c.args.id c.args.kind.now c.args.slots (rw (← c.self.view_is) at c.requires) in
+    let number = rw (c.find.ensures, c.len.ensures.count) at c.unwrap_or-number.ensures in
+    rw (c.in_ok-push.ensures.last, c.in-Ok.ensures.seen, c.number-self-inside.ensures.value) (joined_allocated c.self.inside.objects c.self.inside.roots c.self.inside.kinds c.self.inside.greatest c.args.id c.unwrap_or-number.result c.args.slots c.args.kind.now c.self.invariant fits.above number)
+
+pub returns-clause-added : goal.returns-clause-added
+returns-clause-added c =
+    let number = rw (c.find.ensures, c.len.ensures.count) at c.unwrap_or-number.ensures in
+    rw (← c.self.view_is, c.in_ok-push.ensures.last, c.in-Ok.ensures.seen, c.number-self-inside.ensures.value) (allocated_is c.self.inside.objects c.self.inside.roots c.self.inside.kinds c.self.inside.greatest c.args.id c.unwrap_or-number.result c.args.slots c.args.kind.now c.self.invariant.known number)

@@ -1,0 +1,7 @@
+use Rattle.std.proofs.Common.{◌∙◌, subst}
+use Rattle.object_table.specs.Placed.{IsPlaced}
+use Rattle.object_table.proofs.Tables.{is_placed}
+use Rattle.object_table.proofs.table.ObjectTable.cells.Goals as goal
+
+pub returns-clause-placed : goal.returns-clause-placed
+returns-clause-placed c = rw (← c.self.view_is) (is_placed c.self.inside.objects c.self.inside.roots c.self.inside.kinds c.self.inside.greatest _ c.len.ensures.held)

@@ -1,0 +1,34 @@
+use Rattle.std.proofs.Common.{◌≡◌, ◌<◌, length, get_or, None, Some, sym, ◌∙◌, ap}
+use Rattle.object_table.specs.Rows.{LeadsInto, row_ids}
+use Rattle.object_table.proofs.Tables.{object_in-row, cell_live, slot_leads, All-row}
+use Rattle.object_table.proofs.table.ObjectTable.slot_at.Goals as goal
+
+-- the slots are those of the row in the cell
+pub slot-requires : goal.slot-requires
+slot-requires c = rw (← c.self.view_is, object_in-row c.self.inside.objects c.self.inside.roots c.self.inside.kinds c.self.inside.greatest c.at.ensures.held.rising c.args.cell c.at.result.now c.at.ensures.at) at c.requires
+
+-- what a slot leads to is live, so it is found
+pub returns-in-Some-clause-leads : goal.returns-in-Some-clause-leads
+returns-in-Some-clause-leads c =
+    let row = object_in-row c.self.inside.objects c.self.inside.roots c.self.inside.kinds c.self.inside.greatest c.at.ensures.held.rising c.args.cell c.at.result.now c.at.ensures.at in
+    let is = sym c.slot.ensures ∙ c.in-Some.is in
+    let live = slot_leads (row_ids c.self.inside.objects) c.at.result.now c.args.slot c.in-Some.id (All-row (LeadsInto (row_ids c.self.inside.objects)) c.self.inside.objects c.args.cell c.at.result.now c.at.ensures.held.closed c.at.ensures.at) (rw (← c.self.view_is, row) at c.requires) is in
+    rw (← c.self.view_is, row, is) (cell_live c.self.inside.objects c.self.inside.roots c.self.inside.kinds c.self.inside.greatest c.in-Some.id c.place.result c.place.ensures.in_range c.place.ensures.found c.place.ensures.none live).0
+
+pub returns-in-Some-clause-in_a_cell : goal.returns-in-Some-clause-in_a_cell
+returns-in-Some-clause-in_a_cell c =
+    let row = object_in-row c.self.inside.objects c.self.inside.roots c.self.inside.kinds c.self.inside.greatest c.at.ensures.held.rising c.args.cell c.at.result.now c.at.ensures.at in
+    let is = sym c.slot.ensures ∙ c.in-Some.is in
+    let live = slot_leads (row_ids c.self.inside.objects) c.at.result.now c.args.slot c.in-Some.id (All-row (LeadsInto (row_ids c.self.inside.objects)) c.self.inside.objects c.args.cell c.at.result.now c.at.ensures.held.closed c.at.ensures.at) (rw (← c.self.view_is, row) at c.requires) is in
+    rw (← c.self.view_is, row, is) (cell_live c.self.inside.objects c.self.inside.roots c.self.inside.kinds c.self.inside.greatest c.in-Some.id c.place.result c.place.ensures.in_range c.place.ensures.found c.place.ensures.none live).1
+
+-- an empty slot leads nowhere
+pub returns-in-None-clause-leads : goal.returns-in-None-clause-leads
+returns-in-None-clause-leads c =
+    let row = object_in-row c.self.inside.objects c.self.inside.roots c.self.inside.kinds c.self.inside.greatest c.at.ensures.held.rising c.args.cell c.at.result.now c.at.ensures.at in
+    rw (← c.self.view_is, row) (sym c.in-None.is ∙ c.slot.ensures)
+
+pub returns-in-None-clause-in_a_cell : goal.returns-in-None-clause-in_a_cell
+returns-in-None-clause-in_a_cell c =
+    let row = object_in-row c.self.inside.objects c.self.inside.roots c.self.inside.kinds c.self.inside.greatest c.at.ensures.held.rising c.args.cell c.at.result.now c.at.ensures.at in
+    rw (← c.self.view_is, row, sym c.slot.ensures, c.in-None.is)
