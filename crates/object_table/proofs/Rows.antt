@@ -60,8 +60,8 @@ IsHeld-push rows total id kind slots held above room room_for_slots =
     record {
       rising = all_pairs_push (λ r s. r.id < s.id) rows r held.rising above;
       closed = All-push (LeadsInto (row_ids (rows ++ r ∷ []))) rows r
-        (All-weaker _ _ (LeadsInto-more (row_ids rows) (row_ids (rows ++ r ∷ [])) (has_id-push rows r)) rows held.closed)
-        (All-replicate (λ s. IfSome s (λ y. IsTrue (has_id (row_ids (rows ++ r ∷ [])) y))) slots None tt);
+          (All-weaker _ _ (LeadsInto-more (row_ids rows) (row_ids (rows ++ r ∷ [])) (has_id-push rows r)) rows held.closed)
+          (All-replicate (λ s. IfSome s (λ y. IsTrue (has_id (row_ids (rows ++ r ∷ [])) y))) slots None tt);
       total = grind (arith, sum_by-append (λ s. length s.slots) rows (r ∷ []), length-replicate {A = Option ℕ} slots None, held.total);
       few = grind (arith, length_push rows r);
       few_slots = room_for_slots;
@@ -77,7 +77,7 @@ row_ids-set rows i r d h same = map-set (λ s. s.id) rows i r ∙ (rw (same ∙ 
 pub rising-same_ids : (rows later : List Row) → length later ≡ length rows → row_ids later ≡ row_ids rows → Rising rows → Rising later
 rising-same_ids rows later long same rising i j d h l =
     let at : (k : ℕ) → k < length rows → (get_or later k d).id ≡ (get_or rows k d).id =
-      λ k b. sym (get_or-map (λ s. s.id) later k d 0 (omega arith)) ∙ ap (λ ids. get_or ids k 0) same ∙ get_or-map (λ s. s.id) rows k d 0 b in
+    λ k b. sym (get_or-map (λ s. s.id) later k d 0 (omega arith)) ∙ ap (λ ids. get_or ids k 0) same ∙ get_or-map (λ s. s.id) rows k d 0 b in
     grind (arith, at i, at j, rising i j d)
 
 pub IsHeld-store : (rows : List Row) (total i slot : ℕ) (to : Option ℕ) (r : Row) → IsHeld rows total → i < length rows → r ≡ get_or rows i r → IfSome to (λ id. IsTrue (has_id (row_ids rows) id)) → IsHeld (set rows i (record r { slots = set r.slots slot to })) total
@@ -129,10 +129,10 @@ IsHeld-filter kept rows total held closed =
     record {
       rising = AllPairs-filter (λ r s. r.id < s.id) p rows held.rising;
       closed = λ k d h.
-        let r : Row = get_or stay k d in
-        let into_kept : LeadsInto kept r = All-filter p (λ s. IsTrue (has_id kept s.id) → LeadsInto kept s) rows closed k d h (filter_passes p rows k d h) in
-        let into_old : LeadsInto (row_ids rows) r = All-filter p (LeadsInto (row_ids rows)) rows held.closed k d h in
-        λ s e l. both (get_or r.slots s e) (into_kept s e l) (into_old s e l);
+          let r : Row = get_or stay k d in
+          let into_kept : LeadsInto kept r = All-filter p (λ s. IsTrue (has_id kept s.id) → LeadsInto kept s) rows closed k d h (filter_passes p rows k d h) in
+          let into_old : LeadsInto (row_ids rows) r = All-filter p (LeadsInto (row_ids rows)) rows held.closed k d h in
+          λ s e l. both (get_or r.slots s e) (into_kept s e l) (into_old s e l);
       total = refl;
       few = omega (arith, length-filter_both p (λ r. not (p r)) (λ _. refl) rows, held.few);
       few_slots = omega (arith, sum_by-filter_both p (λ r. not (p r)) (λ _. refl) (λ r. length r.slots) rows, held.few_slots, held.total);

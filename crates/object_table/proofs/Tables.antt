@@ -109,9 +109,9 @@ module _ (rows : List Row) (roots : List (List ℕ × ℕ)) (kinds : List (List 
     live = λ cell id is. let row = row-id_in cell id is in live_is kinds rows id ∙ rw (sym row.2) (has_id-row rows cell row.0 row.1);
     somewhere = λ id live. let row = row-has_id rows id (sym (live_is kinds rows id) ∙ live) in (row.0, id_in-row row.0 row.1 row.2 ∙ ap Some row.3);
     once = λ cell other id is same.
-      let a = row-id_in cell id is in
-      let b = row-id_in other id same in
-      same_place rows held.rising cell other a.0 b.0 a.1 b.1 (a.2 ∙ sym b.2);
+        let a = row-id_in cell id is in
+        let b = row-id_in other id same in
+        same_place rows held.rising cell other a.0 b.0 a.1 b.1 (a.2 ∙ sym b.2);
   }
 
   -- where a search by id ended
@@ -296,8 +296,8 @@ joined_kept rows roots kinds greatest kept joined leads = record {
   known = All-filter (λ r. has_id kept r.id) (λ r. r.kind < length kinds) rows joined.known;
   allocated = All-filter (λ r. has_id kept r.id) (λ r. r.id ≤ greatest) rows joined.allocated;
   live = All-map (λ y. IsTrue (has_id (row_ids (filter (λ r. has_id kept r.id) rows)) y)) (λ q. q.1) roots (λ k d h.
-    let P : ℕ → Type 0 = λ y. IsTrue (has_id (row_ids rows) y) in
-    has_id-filter (has_id kept) rows (get_or roots k d).1 (leads.by_roots k d h) (subst P (get_or-map (λ q. q.1) roots k d 0 h) (joined.live k 0 (rw (length-map roots (λ q. q.1)) h))));
+      let P : ℕ → Type 0 = λ y. IsTrue (has_id (row_ids rows) y) in
+      has_id-filter (has_id kept) rows (get_or roots k d).1 (leads.by_roots k d h) (subst P (get_or-map (λ q. q.1) roots k d 0 h) (joined.live k 0 (rw (length-map roots (λ q. q.1)) h))));
 }
 
 -- ---- the roots after a change

@@ -7,5 +7,7 @@ mod object;
 mod objects;
 mod roots;
 mod table;
+#[cfg(test)]
+mod tests;
 
 pub use table::ObjectTable;

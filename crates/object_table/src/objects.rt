@@ -61,7 +61,10 @@ impl Objects {
         ensures none { IfNone result (has_id (row_ids self.now) id ≡ false) }
         ensures held { IsHeld self.now (row_slots self.now) }
     {
-        match self.list.binary_search_by_key(&id.number(), |o| o.id().number()) {
+        match self
+            .list
+            .binary_search_by_key(&id.number(), |o| o.id().number())
+        {
             Ok(place) => Some(place as u32),
             Err(_) => None,
         }
@@ -96,8 +99,9 @@ impl Objects {
         requires { IsHeld (take (length self.old - 1) self.old) (row_slots (take (length self.old - 1) self.old)) }
         ensures { self.new ≡ take (length self.old - 1) self.old }
     {
-        self.list.pop();
-        self.slots = slots_of(&self.list);
+        if let Some(object) = self.list.pop() {
+            self.slots -= object.slots();
+        }
     }
 
     /// Lets a slot of the object at a place hold an object, or nothing.
