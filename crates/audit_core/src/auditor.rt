@@ -5,33 +5,50 @@ ghost use Rattle.graph_meaning.specs.Collecting.{collection_of};
 ghost use Rattle.graph_meaning.specs.Step.{step};
 ghost use Rattle.audit_core.specs.Audit.{first_audit, collected, is_applied};
 
-use graph_meaning::{Collection, Event, Stop};
-use heap_base::OutOfMemory;
+use crate::dead::{forget_freed, verdicts};
+use crate::trace::traced_cells;
+use graph_meaning::{Collection, Event, Refusal, Stop};
+use heap_base::{Name, ObjId, OutOfMemory};
 use object_table::ObjectTable;
 use std::alloc::Global;
-use std::convert::Infallible;
+use std::collections::BTreeSet;
 use std::marker::Model;
 
 /// Follows the operations of a trace, and collects.
 #[derive(Drop)]
 pub struct Auditor {
-    never: Infallible,
+    table: ObjectTable,
+    // the objects that are asserted dead
+    dead: BTreeSet<ObjId>,
+    collections: u64,
+    violations: u64,
+    alloc: Global,
 }
 
 impl Model for Auditor {
-    ghost use Rattle.audit_core.specs.Audit.{Audit, first_audit};
+    ghost use Rattle.audit_core.specs.Audit.{Audit};
+    ghost use Rattle.audit_core.specs.Held.{heap_of, IsHeld};
 
     ghost Value = { Audit };
 
-    ghost view = { λ a. first_audit };
+    ghost view = { λ a. record { heap = heap_of a.table.table a.dead.keys; collections = a.collections; violations = a.violations } };
+
+    ghost invariant = { λ a. IsHeld a.table.table a.dead.keys a.collections a.violations };
 }
 
 impl Auditor {
     /// An auditor at the beginning of a trace.
-    pub fn make(_alloc: Global) -> Result<Auditor, OutOfMemory>
+    pub fn make(alloc: Global) -> Result<Auditor, OutOfMemory>
         ensures { IfOk result (λ a. a ≡ first_audit) }
     {
-        Err(OutOfMemory)
+        let table = ObjectTable::make(alloc)?;
+        Ok(Auditor {
+            table,
+            dead: BTreeSet::new(alloc),
+            collections: 0,
+            violations: 0,
+            alloc,
+        })
     }
 
     /// Applies an operation to the heap. It refuses what `step` of the definitions refuses, for the same
@@ -44,7 +61,18 @@ impl Auditor {
         ensures violations { self.new.violations ≡ self.old.violations }
         ensures err { OnErr result (self.new ≡ self.old) }
     {
-        match self.never {}
+        match event {
+            Event::Alloc {
+                id,
+                kind,
+                slots,
+                thread: _,
+            } => self.alloc_object(*id, kind, *slots),
+            Event::Store { at, slot, to } => self.store(*at, *slot, *to),
+            Event::Root { name, to } => self.set_root(name, *to),
+            Event::AssertDead { id } => self.assert_dead(*id),
+            _ => unreachable!(),
+        }
     }
 
     /// Traces the heap from its roots, checks the assertions, and frees what was not reached. Where memory is
@@ -55,27 +83,66 @@ impl Auditor {
         ensures after { OnOk result (self.new ≡ collected self.old) }
         ensures err { OnErr result (self.new ≡ self.old) }
     {
-        match self.never {}
+        let kept = traced_cells(self.alloc, &self.table)?;
+        let verdicts = verdicts(self.alloc, &self.table, &kept, &self.dead)?;
+        let live = self.table.live();
+        forget_freed(&mut self.dead, &self.table, &kept);
+        self.table.keep(&kept);
+        let traced = self.table.live();
+        self.collections += 1;
+        self.violations += verdicts.len() as u64;
+        Ok(Collection {
+            number: self.collections,
+            live,
+            traced,
+            freed: live - traced,
+            verdicts,
+        })
     }
 
     /// How many collections were made.
     pub fn collections(&self) -> u64
         ensures { result ≡ self.now.collections }
     {
-        match self.never {}
+        self.collections
     }
 
     /// How many verdicts all collections had together.
     pub fn violations(&self) -> u64
         ensures { result ≡ self.now.violations }
     {
-        match self.never {}
+        self.violations
     }
 
     /// The table of the heap.
     pub fn table(&self) -> &ObjectTable
         ensures { result.now.table ≡ self.now.heap.table }
     {
-        match self.never {}
+        &self.table
+    }
+
+    fn alloc_object(&mut self, id: ObjId, kind: &Name, slots: u32) -> Result<(), Stop> {
+        self.table.alloc_object(id, kind, slots)
+    }
+
+    fn store(&mut self, at: ObjId, slot: u32, to: Option<ObjId>) -> Result<(), Stop> {
+        match self.table.store(at, slot, to) {
+            Ok(()) => Ok(()),
+            Err(refusal) => Err(Stop::Refused(refusal)),
+        }
+    }
+
+    fn set_root(&mut self, name: &Name, to: Option<ObjId>) -> Result<(), Stop> {
+        self.table.set_root(name, to)
+    }
+
+    fn assert_dead(&mut self, id: ObjId) -> Result<(), Stop> {
+        if self.table.cell_of(id).is_none() {
+            return Err(Stop::Refused(Refusal::NotLive(id.number())));
+        }
+        match self.dead.insert(id) {
+            Ok(_) => Ok(()),
+            Err(_) => Err(Stop::OutOfMemory),
+        }
     }
 }

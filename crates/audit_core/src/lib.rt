@@ -2,5 +2,7 @@
 #![tactic(auto)]
 
 mod auditor;
+mod dead;
+mod trace;
 
 pub use auditor::Auditor;
