@@ -1,2 +1,3 @@
+pub mod Asserted
 pub mod Kept
 pub mod Tracing

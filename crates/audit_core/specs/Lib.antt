@@ -1,3 +1,4 @@
 pub mod Audit
 pub mod Held
 pub mod Tracing
+pub mod Verdicts

@@ -1,9 +1,10 @@
-ghost use Rattle.std.specs.Prelude.{◌≡◌, ◌≤◌, length, map, filter, is_some, All, IsTrue, IfOk, IfSome, Some};
+ghost use Rattle.std.specs.Prelude.{◌≡◌, ◌≤◌, length, filter, is_some, All, IsTrue, IfOk, IfSome, Some};
 ghost use Rattle.graph_meaning.specs.Reach.{has_id};
-ghost use Rattle.graph_meaning.specs.Heap.{is_live, kind_at};
+ghost use Rattle.graph_meaning.specs.Heap.{is_live};
 ghost use Rattle.graph_meaning.specs.Collecting.{traced_ids};
 ghost use Rattle.object_table.specs.Placed.{id_in};
 ghost use Rattle.audit_core.specs.Tracing.{KeepsTraced};
+ghost use Rattle.audit_core.specs.Verdicts.{dead_verdict, dead_verdicts};
 
 use graph_meaning::{Shown, Verdict, VerdictList};
 use heap_base::{ObjId, OutOfMemory};
@@ -20,7 +21,7 @@ pub(crate) fn verdicts(
 ) -> Result<VerdictList, OutOfMemory>
     requires kept { KeepsTraced table.now kept.now }
     requires live { All (λ id. IsTrue (is_live table.now.table id)) dead.now.keys }
-    ensures each { IfOk result (λ verdicts. verdicts ≡ map (λ id. Verdict.Dead id (kind_at table.now.table id) Shown.LeftOut) (filter (has_id (traced_ids table.now.table)) dead.now.keys)) }
+    ensures each { IfOk result (λ verdicts. verdicts ≡ dead_verdicts table.now.table dead.now.keys) }
     ensures few { IfOk result (λ verdicts. length verdicts ≤ 1048576) }
 {
     let mut verdicts = VerdictList::empty(alloc);
@@ -54,7 +55,7 @@ fn kept_cell(table: &ObjectTable, kept: &[bool], id: ObjId) -> Option<u32>
 fn verdict(table: &ObjectTable, cell: u32, id: ObjId) -> Result<Verdict, OutOfMemory>
     requires held { id_in table.now cell ≡ Some id }
     requires live { IsTrue (is_live table.now.table id) }
-    ensures { IfOk result (λ v. v ≡ Verdict.Dead id (kind_at table.now.table id) Shown.LeftOut) }
+    ensures { IfOk result (λ v. v ≡ dead_verdict table.now.table id) }
 {
     let kind = table.kind_name(table.kind_at(cell)).copy()?;
     Ok(Verdict::Dead {
