@@ -1,3 +1,5 @@
 pub mod Asserted
+pub mod Collected
 pub mod Kept
+pub mod Steps
 pub mod Tracing

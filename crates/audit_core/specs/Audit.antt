@@ -1,8 +1,12 @@
 -- What an auditor stands for: a heap, and totals over the collections so far.
-use Rattle.std.specs.Prelude.{ℕ, ◌+◌, length, Bool, true, false}
+use Rattle.std.specs.Prelude.{◌≡◌, ℕ, ◌+◌, length, Bool, true, false, Result, Ok, OnOk, OnErr}
+use Rattle.std.specs.Result.{result_err}
 use Rattle.graph_meaning.specs.declared.event.Event.{Event}
 use Rattle.graph_meaning.specs.declared.event.Event.TheVariants.{Alloc, Store, Root, AssertDead, StartRegion, AssertAllDead, AssertInstances, AssertUnshared, AssertOwnedBy, Collect}
+use Rattle.graph_meaning.specs.declared.refusal.Stop.{Stop}
+use Rattle.graph_meaning.specs.Answers.{RefusesBy}
 use Rattle.graph_meaning.specs.Heap.{Heap, empty_heap}
+use Rattle.graph_meaning.specs.Step.{step}
 use Rattle.graph_meaning.specs.Collecting.{after_collection, verdicts_of}
 
 -- The heap as it stands, how many collections were made, and how many verdicts they had together.
@@ -32,3 +36,12 @@ is_applied (AssertInstances kind limit) = false
 is_applied (AssertUnshared id) = false
 is_applied (AssertOwnedBy owner ownee) = false
 is_applied Collect = false
+
+-- One operation: what `step` refuses is refused, else the heap is what `step` leaves, and after an error nothing has
+-- changed. The totals stay.
+pub record Follows {T : Type 0} (before : Audit) (event : Event) (result : Result T Stop) (after : Audit) : Type 0 where
+  pub refused : RefusesBy result (result_err (step before.heap event))
+  pub applied : OnOk result (step before.heap event ≡ Ok after.heap)
+  pub collections : after.collections ≡ before.collections
+  pub violations : after.violations ≡ before.violations
+  pub err : OnErr result (after ≡ before)

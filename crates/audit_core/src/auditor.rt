@@ -1,11 +1,11 @@
-ghost use Rattle.std.specs.Prelude.{◌≡◌, ◌+◌, ◌<◌, ◌^◌, Ok, IsTrue, IfOk, OnOk, OnErr};
+ghost use Rattle.std.specs.Prelude.{◌≡◌, ℕ, ◌+◌, ◌<◌, ◌^◌, Ok, IsTrue, IfOk, OnOk, OnErr};
 ghost use Rattle.std.specs.Result.{result_err};
 ghost use Rattle.graph_meaning.specs.Answers.{RefusesBy};
 ghost use Rattle.graph_meaning.specs.Collecting.{collection_of};
 ghost use Rattle.graph_meaning.specs.Step.{step};
-ghost use Rattle.audit_core.specs.Audit.{first_audit, collected, is_applied};
+ghost use Rattle.audit_core.specs.Audit.{first_audit, collected, is_applied, Follows};
 
-use crate::dead::{forget_freed, verdicts};
+use crate::dead::{forget_freed, is_object, verdicts};
 use crate::trace::traced_cells;
 use graph_meaning::{Collection, Event, Refusal, Stop};
 use heap_base::{Name, ObjId, OutOfMemory};
@@ -121,28 +121,37 @@ impl Auditor {
         &self.table
     }
 
-    fn alloc_object(&mut self, id: ObjId, kind: &Name, slots: u32) -> Result<(), Stop> {
+    // The thread has no open region, so the object is in none.
+    fn alloc_object(&mut self, id: ObjId, kind: &Name, slots: u32) -> Result<(), Stop>
+        ensures { (thread : ℕ) → Follows self.old (Event.Alloc id kind.now slots thread) result self.new }
+    {
         self.table.alloc_object(id, kind, slots)
     }
 
-    fn store(&mut self, at: ObjId, slot: u32, to: Option<ObjId>) -> Result<(), Stop> {
+    fn store(&mut self, at: ObjId, slot: u32, to: Option<ObjId>) -> Result<(), Stop>
+        ensures { Follows self.old (Event.Store at slot to) result self.new }
+    {
         match self.table.store(at, slot, to) {
             Ok(()) => Ok(()),
             Err(refusal) => Err(Stop::Refused(refusal)),
         }
     }
 
-    fn set_root(&mut self, name: &Name, to: Option<ObjId>) -> Result<(), Stop> {
+    fn set_root(&mut self, name: &Name, to: Option<ObjId>) -> Result<(), Stop>
+        ensures { Follows self.old (Event.Root name.now to) result self.new }
+    {
         self.table.set_root(name, to)
     }
 
-    fn assert_dead(&mut self, id: ObjId) -> Result<(), Stop> {
-        if self.table.cell_of(id).is_none() {
+    fn assert_dead(&mut self, id: ObjId) -> Result<(), Stop>
+        ensures { Follows self.old (Event.AssertDead id) result self.new }
+    {
+        if !is_object(&self.table, id) {
             return Err(Stop::Refused(Refusal::NotLive(id.number())));
         }
-        match self.dead.insert(id) {
-            Ok(_) => Ok(()),
-            Err(_) => Err(Stop::OutOfMemory),
-        }
+        let Ok(_) = self.dead.insert(id) else {
+            return Err(Stop::OutOfMemory);
+        };
+        Ok(())
     }
 }

@@ -33,6 +33,15 @@ pub(crate) fn verdicts(
     Ok(verdicts)
 }
 
+/// Whether the object is live.
+pub(crate) fn is_object(table: &ObjectTable, id: ObjId) -> bool
+    ensures { result ≡ is_live table.now.table id }
+{
+    // This says of the table that what a cell holds is live.
+    let _cells = table.cells();
+    table.cell_of(id).is_some()
+}
+
 /// Forgets the objects that are not kept.
 pub(crate) fn forget_freed(dead: &mut BTreeSet<ObjId>, table: &ObjectTable, kept: &[bool])
     requires { KeepsTraced table.now kept.now }
