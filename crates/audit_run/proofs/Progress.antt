@@ -1,0 +1,215 @@
+-- A run that is under way: what was read, cut and written so far.
+use Rattle.std.proofs.Common.{◌≡◌, ◌⊎◌, ℕ, ◌+◌, ◌-◌, ◌<◌, ◌≤◌, List, [], ◌∷◌, ◌++◌, length, map, Bool, true, false, IsTrue, cond, ltb, leb, ◌&&◌, Option, Some, None, Result, Ok, Err, MatchOption, IfSome, refl, sym, ◌∙◌, ap, subst, arith, inl, inr, ⊎_elim, ◌^◌}
+use Rattle.std.specs.List.{concat, flat_map, AllByRecursion}
+use Rattle.std.proofs.lemmas.List.Folds.{concat-append}
+use Rattle.std.specs.Io.KnownBytes.{Appends, Consumes, IsAtEnd}
+use Rattle.std.proofs.KnownBytes.{Consumes-nil, Consumes-trans, Appends-nil, Appends-trans}
+use Rattle.std.proofs.lemmas.List.{append_assoc, append-nil, map-append, length-append}
+use Rattle.std.proofs.lemmas.Bool.{false≢true, true≢false, le-ltb}
+use Rattle.std.proofs.lemmas.List.Sums.{sum_by-append}
+use Rattle.std.proofs.lemmas.Grind.{flat_map-append}
+use Rattle.graph_meaning.specs.declared.collection.Collection.{Collection}
+use Rattle.graph_meaning.specs.Heap.{empty_heap}
+use Rattle.trace_reader.specs.declared.error.CutError.{CutError}
+use Rattle.trace_reader.specs.Meaning.{Item, item_of_line}
+use Rattle.trace_reader.specs.Items.{pieces, items_from, item_of, line_of}
+use Rattle.trace_reader.specs.Cutting.{Cutting, HasNoNewline, fresh_cutting, IsNextPiece, GivesLine, StepsOn, Cuts}
+use Rattle.report.specs.Text.{collection_text}
+use Rattle.report.specs.Report.{Ran, run, preceded, violations_of, collections_text}
+use Rattle.audit_core.specs.Audit.{Audit, first_audit}
+use Rattle.audit_run.specs.Report.{known, trace_limit}
+use Rattle.audit_run.specs.Outcome.{Outside}
+use Rattle.audit_run.specs.Turn.{GoesOn}
+use Rattle.trace_reader.proofs.Pieces.{item_of-given, pieces-given, items_from-append, items_from-cons}
+
+-- a line and its newline
+abbrev pub IsWholeLine : List ℕ → Type 0
+IsWholeLine piece = (line : List ℕ) × HasNoNewline line × (piece ≡ line ++ 10 ∷ [])
+
+-- These bytes were taken since the start, these pieces of them were run, and these collections were made and written.
+pub record Progress (start now : Outside) (c : Cutting) (a : Audit) (n : ℕ) (taken : List ℕ) (done : List (List ℕ)) (made : List Collection) : Type 0 where
+  pub consumed : Consumes start.left now.left taken
+  pub split : taken ≡ concat done ++ c.pending
+  pub cut : (more : List ℕ) → (IsTrue c.at_end → more ≡ []) → pieces (taken ++ more) ≡ done ++ pieces (c.pending ++ more)
+  pub whole : c.at_end ≡ false → AllByRecursion IsWholeLine done
+  pub ran : (items : List Item) → run empty_heap 0 0 (map known (items_from trace_limit 0 done) ++ items) ≡ preceded made (run a.heap a.collections n items)
+  pub given : c.given ≡ length (concat done)
+  pub within : c.given ≤ trace_limit
+  pub lines : n ≡ c.lines
+  pub few_lines : n ≤ c.given
+  pub few_collections : a.collections ≤ n
+  pub collections : a.collections ≡ length made
+  pub violations : a.violations ≡ violations_of made
+  pub written : Appends start.held now.held (collections_text made)
+  pub limit : c.limit ≡ trace_limit
+  pub stopped : c.stopped ≡ None
+  pub end_read : IsTrue c.at_end → IfSome start.left (λ bytes. IsAtEnd now.left)
+  pub reads : start.read_faults ≤ now.read_faults
+  pub writes : start.write_faults ≤ now.write_faults
+
+pub record InProgress (start now : Outside) (c : Cutting) (a : Audit) (n : ℕ) : Type 0 where
+  pub taken : List ℕ
+  pub done : List (List ℕ)
+  pub made : List Collection
+  pub so_far : Progress start now c a n taken done made
+
+-- at the beginning
+pub begins : (start : Outside) → InProgress start start (fresh_cutting trace_limit) first_audit 0
+unfolding items_from
+begins start = record {
+  taken = [];
+  done = [];
+  made = [];
+  so_far = record {
+    consumed = Consumes-nil start.left;
+    split = refl;
+    cut = λ more end. refl;
+    whole = λ end. tt;
+    ran = λ items. refl;
+    given = refl;
+    within = omega arith;
+    lines = refl;
+    few_lines = omega arith;
+    few_collections = omega arith;
+    collections = refl;
+    violations = refl;
+    written = Appends-nil start.held;
+    limit = refl;
+    stopped = refl;
+    end_read = λ end. absurd (false≢true end);
+    reads = omega arith;
+    writes = omega arith;
+  };
+}
+
+pub begins_at : (start : Outside) (c : Cutting) (a : Audit) → c ≡ fresh_cutting trace_limit → a ≡ first_audit → InProgress start start c a 0
+begins_at start c a e f =
+    subst (λ (x : Audit). InProgress start start c x 0) (sym f) (subst (λ (x : Cutting). InProgress start start x first_audit 0) (sym e) (begins start))
+
+-- ---- one line more
+
+preceded-preceded : (xs ys : List Collection) (r : Ran) → preceded xs (preceded ys r) ≡ preceded (xs ++ ys) r
+preceded-preceded xs ys r =
+    ap (λ (cs : List Collection). let ran : Ran = record { collections = cs; fault = r.fault } in ran) (sym (append_assoc xs ys r.collections))
+
+concat-push : (ps : List (List ℕ)) (p : List ℕ) → concat (ps ++ p ∷ []) ≡ concat ps ++ p
+concat-push ps p = concat-append ps (p ∷ []) ∙ ap (λ t. concat ps ++ t) (append-nil p)
+
+whole-push : (ps : List (List ℕ)) (p : List ℕ) → AllByRecursion IsWholeLine ps → IsWholeLine p → AllByRecursion IsWholeLine (ps ++ p ∷ [])
+whole-push [] p all h = (h, tt)
+whole-push (q ∷ ps) p all h = (all.0, whole-push ps p all.1 h)
+
+-- the cutter's step, where it stood at no refusal
+pub cuts_of : (o : Option CutError) (P : Type 0) (Q : CutError → Type 0) → o ≡ None → MatchOption o P Q → P
+cuts_of o P Q e h = let F : Option CutError → Type 0 = λ x. MatchOption x P Q in subst F e h
+
+-- the end's having been read stays
+pub still_at_end : (old new : Bool) (took : List ℕ) (P : Type 0) → (IsTrue old → IsTrue new × (took ≡ [])) → new ≡ false → old ≡ false
+still_at_end true new took P stays e = absurd (true≢false (sym (stays refl).0 ∙ e))
+still_at_end false new took P stays e = refl
+
+-- after a step that gives a line, the pieces of all bytes go on behind it
+cut_on : (old new : Cutting) (taken took piece : List ℕ) (n : ℕ) (done : List (List ℕ)) →
+    ((more : List ℕ) → (IsTrue old.at_end → more ≡ []) → pieces (taken ++ more) ≡ done ++ pieces (old.pending ++ more)) →
+    (IsTrue old.at_end → IsTrue new.at_end × (took ≡ [])) → GivesLine old new (old.pending ++ took) piece n →
+    (more : List ℕ) → (IsTrue new.at_end → more ≡ []) → pieces ((taken ++ took) ++ more) ≡ (done ++ piece ∷ []) ++ pieces (new.pending ++ more)
+cut_on old new taken took piece n done cut stays line more end =
+    ap pieces (append_assoc taken took more)
+    ∙ cut (took ++ more) (λ t. ap (λ x. x ++ more) (stays t).1 ∙ end (stays t).0)
+    ∙ ap (λ t. done ++ pieces t) (sym (append_assoc old.pending took more))
+    ∙ ap (λ ps. done ++ ps) (pieces-given old new (old.pending ++ took) piece more n line end)
+    ∙ sym (append_assoc done (piece ∷ []) (pieces (new.pending ++ more)))
+
+whole_piece : (line piece bytes rest : List ℕ) (at_end : Bool) → IsNextPiece line piece bytes rest at_end → at_end ≡ false → IsWholeLine piece
+whole_piece line piece bytes rest at_end next e =
+    ⊎_elim (λ p. (line, next.one_line, p)) (λ p. absurd (false≢true (sym e ∙ p.3))) next.ended
+
+-- the run of the pieces so far goes on with the item of one piece more
+ran_on : (a a' : Audit) (n given : ℕ) (line piece : List ℕ) (done : List (List ℕ)) (made more : List Collection) →
+    ((items : List Item) → run empty_heap 0 0 (map known (items_from trace_limit 0 done) ++ items) ≡ preceded made (run a.heap a.collections n items)) →
+    given ≡ length (concat done) → item_of trace_limit given piece ≡ item_of_line line →
+    ((items : List Item) → run a.heap a.collections n (known (item_of_line line) ∷ items) ≡ preceded more (run a'.heap a'.collections (n + 1) items)) →
+    (items : List Item) → run empty_heap 0 0 (map known (items_from trace_limit 0 (done ++ piece ∷ [])) ++ items) ≡ preceded (made ++ more) (run a'.heap a'.collections (n + 1) items)
+unfolding items_from
+ran_on a a' n given line piece done made more ran count item on items =
+    ap (λ is. run empty_heap 0 0 (map known is ++ items)) split
+    ∙ ap (λ is. run empty_heap 0 0 (is ++ items)) (map-append known (items_from trace_limit 0 done) (item_of_line line ∷ []))
+    ∙ ap (run empty_heap 0 0) (append_assoc (map known (items_from trace_limit 0 done)) (known (item_of_line line) ∷ []) items)
+    ∙ ran (known (item_of_line line) ∷ items)
+    ∙ ap (preceded made) (on items)
+    ∙ preceded-preceded made more (run a'.heap a'.collections (n + 1) items)
+  where
+    split : items_from trace_limit 0 (done ++ piece ∷ []) ≡ items_from trace_limit 0 done ++ item_of_line line ∷ []
+    split =
+        items_from-append trace_limit 0 done (piece ∷ [])
+        ∙ ap (λ b. items_from trace_limit 0 done ++ items_from trace_limit b (piece ∷ [])) (omega (arith, count))
+        ∙ ap (λ is. items_from trace_limit 0 done ++ is) (items_from-cons trace_limit given piece [] ∙ ap (λ i. i ∷ items_from trace_limit (given + length piece) []) item)
+
+-- where the end was read, it stays read while nothing is taken
+pub end_stays : (start before after : Option (List ℕ)) (taken took : List ℕ) → Consumes start before taken → IfSome start (λ bytes. IsAtEnd before) → took ≡ [] → Consumes before after took → IfSome start (λ bytes. IsAtEnd after)
+end_stays None before after taken took consumed end nothing more = tt
+end_stays (Some bytes) None after taken took consumed end nothing more = absurd consumed
+end_stays (Some bytes) (Some xs) None taken took consumed end nothing more = absurd more
+end_stays (Some bytes) (Some xs) (Some ys) taken took consumed end nothing more = sym (more ∙ ap (λ t. t ++ ys) nothing) ∙ end
+
+end_for : (start after : Option (List ℕ)) → IsAtEnd after → IfSome start (λ bytes. IsAtEnd after)
+end_for None after end = tt
+end_for (Some bytes) after end = end
+
+-- where the end has been read, the source is at its end
+pub end_now : (start now now' : Outside) (c c' : Cutting) (a : Audit) (n : ℕ) (taken took : List ℕ) (done : List (List ℕ)) (made : List Collection) (result : Result (Option ℕ) CutError) →
+    Progress start now c a n taken done made → StepsOn c c' now.left now'.left now.read_faults now'.read_faults result took →
+    IsTrue c'.at_end → IfSome start.left (λ bytes. IsAtEnd now'.left)
+end_now start now now' c c' a n taken took done made result p steps t =
+    ⊎_elim (λ old. end_stays start.left now.left now'.left taken took p.consumed (p.end_read old) (steps.stays_at_end old).1 steps.consumes)
+    (λ e. end_for start.left now'.left e) (steps.at_end t)
+
+piece_not_empty : (line piece bytes rest : List ℕ) (at_end : Bool) → IsNextPiece line piece bytes rest at_end → 0 < length piece
+piece_not_empty line piece bytes rest at_end next =
+    ⊎_elim (λ e. omega (arith, ap length e, length-append line (10 ∷ []))) (λ e. omega (arith, ap length e.0, e.1)) next.ended
+
+line_taken_by : (start now now' : Outside) (c c' : Cutting) (a a' : Audit) (n number : ℕ) (took piece : List ℕ) (more : List Collection) →
+    InProgress start now c a n → StepsOn c c' now.left now'.left now.read_faults now'.read_faults (Ok (Some number)) took →
+    GivesLine c c' (c.pending ++ took) piece number →
+    GoesOn a a' (known (item_of_line c'.line)) n now.held now'.held more → now.write_faults ≤ now'.write_faults →
+    InProgress start now' c' a' number
+line_taken_by start now now' c c' a a' n number took piece more progress steps line goes writes =
+    let p = progress.so_far in
+    let item : item_of trace_limit c.given piece ≡ item_of_line c'.line = ap (λ l. item_of l c.given piece) (sym p.limit) ∙ item_of-given c c' (c.pending ++ took) piece number line in
+    let concat_now = concat-push progress.done piece in
+    let next_number : n + 1 ≡ number = omega (arith, line.number, p.lines) in
+    let some : 0 < length piece = piece_not_empty _ _ _ _ _ line.next in
+    record {
+      taken = progress.taken ++ took;
+      done = progress.done ++ piece ∷ [];
+      made = progress.made ++ more;
+      so_far = record {
+        consumed = Consumes-trans _ _ _ _ _ p.consumed steps.consumes;
+        split = ap (λ t. t ++ took) p.split ∙ append_assoc (concat progress.done) c.pending took ∙ ap (λ t. concat progress.done ++ t) line.next.split ∙ sym (append_assoc (concat progress.done) piece c'.pending) ∙ ap (λ t. t ++ c'.pending) (sym concat_now);
+        cut = cut_on c c' progress.taken took piece number progress.done p.cut steps.stays_at_end line;
+        whole = λ e. whole-push progress.done piece (p.whole (still_at_end c.at_end c'.at_end took (Unit {0}) steps.stays_at_end e)) (whole_piece _ _ _ _ _ line.next e);
+        ran = λ items. ran_on a a' n c.given c'.line piece progress.done progress.made more p.ran p.given item goes.on items ∙ ap (λ m. preceded (progress.made ++ more) (run a'.heap a'.collections m items)) next_number;
+        given = omega (arith, line.given, p.given, ap length concat_now, length-append (concat progress.done) piece);
+        within = omega (arith, line.within, p.limit);
+        lines = omega (arith, line.number, line.lines);
+        few_lines = omega (arith, next_number, line.given, p.few_lines, some);
+        few_collections = omega (arith, next_number, goes.collections, goes.one, p.few_collections);
+        collections = omega (arith, goes.collections, p.collections, length-append progress.made more);
+        violations = omega (arith, goes.violations, p.violations, sum_by-append (λ (x : Collection). length x.verdicts) progress.made more);
+        written = subst (λ (t : List ℕ). Appends start.held now'.held t) (sym (flat_map-append collection_text progress.made more)) (Appends-trans _ _ _ _ _ p.written goes.text);
+        limit = steps.limit ∙ p.limit;
+        stopped = line.stopped;
+        end_read = end_now start now now' c c' a n progress.taken took progress.done progress.made _ p steps;
+        reads = omega (arith, p.reads, steps.later);
+        writes = omega (arith, p.writes, writes);
+      };
+    }
+
+-- a line was given and taken, and the run goes on
+pub line_taken : (start now now' : Outside) (c c' : Cutting) (a a' : Audit) (n number : ℕ) (took text : List ℕ) (more : List Collection) →
+    InProgress start now c a n → StepsOn c c' now.left now'.left now.read_faults now'.read_faults (Ok (Some number)) took → text ≡ c'.line →
+    GoesOn a a' (known (item_of_line text)) n now.held now'.held more → now.write_faults ≤ now'.write_faults →
+    InProgress start now' c' a' number
+line_taken start now now' c c' a a' n number took text more progress steps e goes writes =
+    let cut : Cuts c c' (c.pending ++ took) now.read_faults now'.read_faults (Ok (Some number)) = cuts_of c.stopped _ _ progress.so_far.stopped steps.cuts in
+    line_taken_by start now now' c c' a a' n number took cut.0 more progress steps cut.1 (subst (λ (t : List ℕ). GoesOn a a' (known (item_of_line t)) n now.held now'.held more) e goes) writes

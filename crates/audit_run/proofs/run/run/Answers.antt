@@ -1,0 +1,37 @@
+use Rattle.std.proofs.Common.{refl}
+use Rattle.audit_run.proofs.Progress.{begins_at, line_taken}
+use Rattle.audit_run.proofs.Endings.{finished, line_too_long, trace_too_long, line_ends, cut_short}
+use Rattle.audit_run.proofs.run.run.Goals as goal
+
+pub trace-init : goal.trace-init
+trace-init g c = begins_at _ _ _ c.in-Ok.ensures c.in-Ok-make.ensures
+
+pub returns-in-Ends : goal.returns-in-Ends
+returns-in-Ends g c =
+    let steps = rw c.in-Ok-Some.field-0-is at c.in-Ok-Some.ensures.1 in
+    line_ends _ _ _ _ _ _ _ _ _ _ _ c.trace.invariant steps c.line.ensures c.in-Ends.ensures.takes
+
+pub trace-preserved : goal.trace-preserved
+trace-preserved g c =
+    let steps = rw c.in-Ok-Some.field-0-is at c.in-Ok-Some.ensures.1 in
+    line_taken _ _ _ _ _ _ _ _ _ _ _ _ c.trace.invariant steps c.line.ensures c.in-Goes.ensures.takes.1 c.take_line.ensures.later
+
+pub returns-in-Ok-None : goal.returns-in-Ok-None
+returns-in-Ok-None g c =
+    let steps = rw c.in-Ok-None.field-0-is at c.in-Ok-None.ensures.1 in
+    finished _ _ _ _ _ _ _ _ _ c.trace.invariant steps c.finish.ensures.ends
+
+pub returns-in-Err-ReadFault : goal.returns-in-Err-ReadFault
+returns-in-Err-ReadFault g c =
+    let steps = rw c.in-Err-ReadFault.field-0-is at c.in-Err-ReadFault.ensures.1 in
+    cut_short _ _ _ _ _ _ _ _ c.trace.invariant steps refl
+
+pub returns-in-Err-LineTooLong : goal.returns-in-Err-LineTooLong
+returns-in-Err-LineTooLong g c =
+    let steps = rw c.in-Err-LineTooLong.field-0-is at c.in-Err-LineTooLong.ensures.1 in
+    line_too_long _ _ _ _ _ _ _ _ _ c.trace.invariant steps c.refuse.ensures.ends
+
+pub returns-in-Err-TraceTooLong : goal.returns-in-Err-TraceTooLong
+returns-in-Err-TraceTooLong g c =
+    let steps = rw c.in-Err-TraceTooLong.field-0-is at c.in-Err-TraceTooLong.ensures.1 in
+    trace_too_long _ _ _ _ _ _ _ _ _ c.trace.invariant steps c.refuse-in-Err-TraceTooLong.ensures.ends

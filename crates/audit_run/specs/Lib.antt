@@ -1,0 +1,3 @@
+pub mod Outcome
+pub mod Report
+pub mod Turn

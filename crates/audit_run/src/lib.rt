@@ -1,0 +1,10 @@
+//! The top call of the auditor: from the bytes of a trace to the bytes of its report.
+#![tactic(auto)]
+
+mod ending;
+mod run;
+mod top_call;
+mod turn;
+mod words;
+
+pub use top_call::audit;

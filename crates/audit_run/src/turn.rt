@@ -1,0 +1,111 @@
+ghost use Rattle.std.specs.Prelude.{◌≡◌, ◌<◌, ◌≤◌, ◌^◌, IsTrue};
+ghost use Rattle.trace_reader.specs.Meaning.{item_of_line, event as event_item};
+ghost use Rattle.graph_meaning.specs.declared.event.Event.TheVariants.{Collect};
+ghost use Rattle.audit_run.specs.Turn.{TakesLine};
+ghost use Rattle.audit_core.specs.Audit.{is_applied};
+ghost use Rattle.audit_run.specs.Report.{known};
+
+use crate::ending::refuse;
+use audit_core::Auditor;
+use graph_meaning::{Event, Refusal, Stop};
+use heap_base::{Sink, Status, put_all};
+use report::collection_text;
+use std::alloc::Global;
+use trace_reader::event_of;
+
+/// Whether a run goes on after a line, or how it ends.
+#[derive(Drop)]
+pub enum Turn {
+    Goes,
+    Ends(Status),
+}
+
+/// Takes one line of the trace, which this many lines stand before.
+pub fn take_line<K: Sink>(
+    alloc: Global,
+    auditor: &mut Auditor,
+    line: &[u8],
+    lines: u64,
+    sink: &mut K,
+) -> Turn
+    requires few_lines { lines < 2 ^ 40 }
+    requires few_collections { auditor.old.collections ≤ lines }
+    ensures takes { TakesLine auditor.old auditor.new (known (item_of_line line.now)) lines (K.held sink.old) (K.held sink.new) (K.faults sink.old) (K.faults sink.new) result }
+    ensures later { K.faults sink.old ≤ K.faults sink.new }
+{
+    match event_of(alloc, line) {
+        Ok(None) => Turn::Goes,
+        Ok(Some(event)) => take_event(alloc, auditor, &event, lines, sink),
+        Err(Stop::Refused(refusal)) => Turn::Ends(refuse(alloc, lines + 1, refusal, sink)),
+        Err(Stop::OutOfMemory) => Turn::Ends(Status::NoMemory),
+    }
+}
+
+fn take_event<K: Sink>(
+    alloc: Global,
+    auditor: &mut Auditor,
+    event: &Event,
+    lines: u64,
+    sink: &mut K,
+) -> Turn
+    requires few_lines { lines < 2 ^ 40 }
+    requires few_collections { auditor.old.collections ≤ lines }
+    ensures takes { TakesLine auditor.old auditor.new (known (event_item event.now)) lines (K.held sink.old) (K.held sink.new) (K.faults sink.old) (K.faults sink.new) result }
+    ensures later { K.faults sink.old ≤ K.faults sink.new }
+{
+    if let Event::Collect = event {
+        collect(alloc, auditor, lines, sink)
+    } else if is_applied(event) {
+        apply(alloc, auditor, event, lines, sink)
+    } else {
+        Turn::Ends(refuse(alloc, lines + 1, Refusal::UnknownOp, sink))
+    }
+}
+
+fn apply<K: Sink>(
+    alloc: Global,
+    auditor: &mut Auditor,
+    event: &Event,
+    lines: u64,
+    sink: &mut K,
+) -> Turn
+    requires few_lines { lines < 2 ^ 40 }
+    requires applied { IsTrue (is_applied event.now) }
+    ensures takes { TakesLine auditor.old auditor.new (event_item event.now) lines (K.held sink.old) (K.held sink.new) (K.faults sink.old) (K.faults sink.new) result }
+    ensures later { K.faults sink.old ≤ K.faults sink.new }
+{
+    match auditor.apply(event) {
+        Ok(()) => Turn::Goes,
+        Err(Stop::Refused(refusal)) => Turn::Ends(refuse(alloc, lines + 1, refusal, sink)),
+        Err(Stop::OutOfMemory) => Turn::Ends(Status::NoMemory),
+    }
+}
+
+/// Makes a collection, and writes its text at once.
+fn collect<K: Sink>(alloc: Global, auditor: &mut Auditor, _lines: u64, sink: &mut K) -> Turn
+    requires few_lines { _lines < 2 ^ 40 }
+    requires few_collections { auditor.old.collections ≤ _lines }
+    ensures takes { TakesLine auditor.old auditor.new (event_item Collect) _lines (K.held sink.old) (K.held sink.new) (K.faults sink.old) (K.faults sink.new) result }
+    ensures later { K.faults sink.old ≤ K.faults sink.new }
+{
+    let Ok(collection) = auditor.collect() else {
+        return Turn::Ends(Status::NoMemory);
+    };
+    let Ok(text) = collection_text(alloc, &collection) else {
+        return Turn::Ends(Status::NoMemory);
+    };
+    match put_all(sink, &text) {
+        Ok(()) => Turn::Goes,
+        Err(_) => Turn::Ends(Status::WriteFault),
+    }
+}
+
+/// Whether an auditor applies the operation. The others are refused as unknown, but for a collection.
+fn is_applied(event: &Event) -> bool
+    ensures { result ≡ is_applied event.now }
+{
+    matches!(
+        event,
+        Event::Alloc { .. } | Event::Store { .. } | Event::Root { .. } | Event::AssertDead { .. }
+    )
+}
