@@ -164,7 +164,7 @@ module _ (rows now : List Row) (kept : List Bool) (count i : ℕ) (so_far : Filt
   unfolding here
   passes_here =
       let none : Row = record { id = 0; kind = 0; slots = [] } in
-      let same : get_or now i none ≡ get_or rows i none = simp add-zero at (sym (get_or-drop i now 0 none) ∙ ap (λ l. get_or l 0 none) so_far.rest ∙ get_or-drop i rows 0 none) in
+      let same : get_or now i none ≡ get_or rows i none = simp add-zero at (sym (get_or-drop i now 0 none) ∙ ap (λ xs. get_or xs 0 none) so_far.rest ∙ get_or-drop i _ 0 none) in
       rw same (has_id-kept_at rows kept rising i none h)
 
   pub compact_kept : (later : List Row) → get_or kept i false ≡ true → SwappedAt now later count i → FiltersInPlace (λ r. has_id (kept_of rows kept) r.id) rows later (count + 1) (i + 1)

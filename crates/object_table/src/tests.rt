@@ -12,20 +12,45 @@ fn name(alloc: Global, text: &str) -> Result<Name, Fail> {
     Ok(Name::of(alloc, text)?.ok_or("not a name")?)
 }
 
+// A name for each number, which rise together.
 fn numbered(alloc: Global, n: u32) -> Result<Name, Fail> {
-    let text = format!(in alloc; "n{n}")?;
+    let text = format!(in alloc; "n{n:05}")?;
     name(alloc, text.as_str())
+}
+
+// A table with objects of these ids, each with this many slots.
+fn table_of(alloc: Global, ids: &[u32], slots: u32) -> Result<ObjectTable, Fail> {
+    let mut table = ObjectTable::make(alloc)?;
+    let kind = name(alloc, "A")?;
+    for n in ids {
+        table.alloc_object(id(*n)?, &kind, slots)?;
+    }
+    Ok(table)
+}
+
+// Lets the root hold the object.
+fn root(alloc: Global, table: &mut ObjectTable, text: &str, n: u32) -> Result<(), Fail> {
+    table.set_root(&name(alloc, text)?, Some(id(n)?))?;
+    Ok(())
+}
+
+fn refusal_of_alloc(
+    alloc: Global,
+    table: &mut ObjectTable,
+    n: u32,
+    slots: u32,
+) -> Result<Option<Stop>, Fail> {
+    let kind = name(alloc, "A")?;
+    Ok(table.alloc_object(id(n)?, &kind, slots).err())
 }
 
 #[test]
 fn ids_rise(rt: HostRuntime) -> Result<(), Fail> {
-    let mut table = ObjectTable::make(rt.alloc())?;
-    let kind = name(rt.alloc(), "A")?;
-    table.alloc_object(id(5)?, &kind, 0)?;
-    let low = Err(Stop::Refused(Refusal::IdNotRising(4)));
-    assert_eq!(rt; table.alloc_object(id(4)?, &kind, 0), low);
-    let same = Err(Stop::Refused(Refusal::IdNotRising(5)));
-    assert_eq!(rt; table.alloc_object(id(5)?, &kind, 0), same);
+    let mut table = table_of(rt.alloc(), &[5], 0)?;
+    let low = refusal_of_alloc(rt.alloc(), &mut table, 4, 0)?;
+    assert_eq!(rt; low, Some(Stop::Refused(Refusal::IdNotRising(4))));
+    let same = refusal_of_alloc(rt.alloc(), &mut table, 5, 0)?;
+    assert_eq!(rt; same, Some(Stop::Refused(Refusal::IdNotRising(5))));
     assert_eq!(rt; table.live(), 1);
     Ok(())
 }
@@ -38,19 +63,17 @@ fn objects_are_limited(rt: HostRuntime) -> Result<(), Fail> {
         table.alloc_object(id(n)?, &kind, 0)?;
     }
     assert_eq!(rt; table.live(), 1_048_576);
-    let full = Err(Stop::Refused(Refusal::TooManyObjects));
-    assert_eq!(rt; table.alloc_object(id(1_048_577)?, &kind, 0), full);
+    let more = refusal_of_alloc(rt.alloc(), &mut table, 1_048_577, 0)?;
+    assert_eq!(rt; more, Some(Stop::Refused(Refusal::TooManyObjects)));
     Ok(())
 }
 
 #[test]
 fn slots_are_limited(rt: HostRuntime) -> Result<(), Fail> {
-    let mut table = ObjectTable::make(rt.alloc())?;
-    let kind = name(rt.alloc(), "A")?;
-    table.alloc_object(id(1)?, &kind, 16_777_216)?;
-    let full = Err(Stop::Refused(Refusal::TooManySlots));
-    assert_eq!(rt; table.alloc_object(id(2)?, &kind, 1), full);
-    table.alloc_object(id(2)?, &kind, 0)?;
+    let mut table = table_of(rt.alloc(), &[1], 16_777_216)?;
+    let more = refusal_of_alloc(rt.alloc(), &mut table, 2, 1)?;
+    assert_eq!(rt; more, Some(Stop::Refused(Refusal::TooManySlots)));
+    assert_eq!(rt; refusal_of_alloc(rt.alloc(), &mut table, 2, 0)?, None);
     Ok(())
 }
 
@@ -60,15 +83,10 @@ fn types_are_limited(rt: HostRuntime) -> Result<(), Fail> {
     for n in 0..65_536u32 {
         assert_eq!(rt; table.kind_of(&numbered(rt.alloc(), n)?), Ok(n));
     }
-    let full = Err(Stop::Refused(Refusal::TooManyTypes));
-    let more = name(rt.alloc(), "more")?;
-    assert_eq!(rt; table.alloc_object(id(1)?, &more, 0), full);
-    assert_eq!(rt;
-        table.kind_of(&more),
-        Err(Stop::Refused(Refusal::TooManyTypes))
-    );
-    assert_eq!(rt; table.kind_number(&more), None);
-    assert_eq!(rt; table.kind_of(&numbered(rt.alloc(), 7)?), Ok(7));
+    let more = refusal_of_alloc(rt.alloc(), &mut table, 1, 0)?;
+    assert_eq!(rt; more, Some(Stop::Refused(Refusal::TooManyTypes)));
+    let seventh = numbered(rt.alloc(), 7)?;
+    assert_eq!(rt; table.kind_of(&seventh), Ok(7));
     assert_eq!(rt; table.kinds(), 65_536);
     assert_eq!(rt; table.kind_name(65_535).as_str(), "n65535");
     Ok(())
@@ -76,82 +94,69 @@ fn types_are_limited(rt: HostRuntime) -> Result<(), Fail> {
 
 #[test]
 fn roots_are_limited(rt: HostRuntime) -> Result<(), Fail> {
-    let mut table = ObjectTable::make(rt.alloc())?;
-    let one = id(1)?;
-    table.alloc_object(one, &name(rt.alloc(), "A")?, 0)?;
+    let mut table = table_of(rt.alloc(), &[1], 0)?;
     for n in 0..65_536u32 {
-        table.set_root(&numbered(rt.alloc(), n)?, Some(one))?;
+        table.set_root(&numbered(rt.alloc(), n)?, Some(id(1)?))?;
     }
-    assert_eq!(rt; table.roots(), 65_536);
     let more = name(rt.alloc(), "more")?;
-    assert_eq!(rt;
-        table.set_root(&more, Some(one)),
-        Err(Stop::Refused(Refusal::TooManyRoots))
-    );
+    let full = Err(Stop::Refused(Refusal::TooManyRoots));
+    assert_eq!(rt; table.set_root(&more, Some(id(1)?)), full);
     assert_eq!(rt; table.set_root(&more, None), Ok(()));
-    assert_eq!(rt;
-        table.set_root(&numbered(rt.alloc(), 7)?, Some(one)),
-        Ok(())
-    );
+    root(rt.alloc(), &mut table, "n00007", 1)?;
     Ok(())
 }
 
 #[test]
 fn stores_are_refused_in_order(rt: HostRuntime) -> Result<(), Fail> {
-    let mut table = ObjectTable::make(rt.alloc())?;
+    let mut table = table_of(rt.alloc(), &[1], 1)?;
     let one = id(1)?;
-    table.alloc_object(one, &name(rt.alloc(), "A")?, 1)?;
+    let dead = id(9)?;
     assert_eq!(rt; table.store(one, 1, Some(one)), Err(Refusal::BadSlot(1)));
     assert_eq!(rt;
-        table.store(id(8)?, 0, Some(id(9)?)),
+        table.store(id(8)?, 0, Some(dead)),
         Err(Refusal::NotLive(8))
     );
-    assert_eq!(rt; table.store(one, 1, Some(id(9)?)), Err(Refusal::BadSlot(1)));
-    assert_eq!(rt; table.store(one, 0, Some(id(9)?)), Err(Refusal::NotLive(9)));
-    assert_eq!(rt; table.store(one, 0, Some(one)), Ok(()));
+    assert_eq!(rt; table.store(one, 1, Some(dead)), Err(Refusal::BadSlot(1)));
+    assert_eq!(rt; table.store(one, 0, Some(dead)), Err(Refusal::NotLive(9)));
     Ok(())
 }
 
 #[test]
 fn slots_lead_to_cells(rt: HostRuntime) -> Result<(), Fail> {
-    let mut table = ObjectTable::make(rt.alloc())?;
-    let pair = name(rt.alloc(), "Pair")?;
-    table.alloc_object(id(4_096)?, &name(rt.alloc(), "Leaf")?, 0)?;
-    table.alloc_object(id(8_192)?, &pair, 2)?;
+    let mut table = table_of(rt.alloc(), &[4_096, 8_192], 2)?;
     table.store(id(8_192)?, 1, Some(id(4_096)?))?;
+    let leaf = table.cell_of(id(4_096)?);
     let cell = table.cell_of(id(8_192)?).ok_or("not live")?;
-    let leaf = table.cell_of(id(4_096)?).ok_or("not live")?;
-    assert_eq!(rt; table.cell_of(id(1)?), None);
-    assert_eq!(rt; table.kind_at(cell), 1);
-    assert_eq!(rt; table.kind_number(&pair), Some(1));
+    assert_eq!(rt; table.kind_at(cell), 0);
     assert_eq!(rt; table.slots_at(cell), 2);
     assert_eq!(rt; table.slot_at(cell, 0), None);
-    assert_eq!(rt; table.slot_at(cell, 1), Some(leaf));
+    assert_eq!(rt; table.slot_at(cell, 1), leaf);
     Ok(())
 }
 
 #[test]
 fn roots_stand_by_their_bytes(rt: HostRuntime) -> Result<(), Fail> {
-    let mut table = ObjectTable::make(rt.alloc())?;
-    let kind = name(rt.alloc(), "A")?;
-    table.alloc_object(id(1)?, &kind, 0)?;
-    table.alloc_object(id(2)?, &kind, 0)?;
-    for text in ["b", "é", "aa", "a", "Z"] {
-        table.set_root(&name(rt.alloc(), text)?, Some(id(1)?))?;
+    let mut table = table_of(rt.alloc(), &[1], 0)?;
+    for text in ["b", "é", "aa", "a"] {
+        root(rt.alloc(), &mut table, text, 1)?;
     }
-    table.set_root(&name(rt.alloc(), "aa")?, Some(id(2)?))?;
-    table.set_root(&name(rt.alloc(), "Z")?, None)?;
-    table.set_root(&name(rt.alloc(), "c")?, None)?;
     assert_eq!(rt; table.roots(), 4);
     assert_eq!(rt; table.root_name(0).as_str(), "a");
     assert_eq!(rt; table.root_name(1).as_str(), "aa");
     assert_eq!(rt; table.root_name(2).as_str(), "b");
     assert_eq!(rt; table.root_name(3).as_str(), "é");
-    assert_eq!(rt; Some(table.root_cell(0)), table.cell_of(id(1)?));
-    assert_eq!(rt; Some(table.root_cell(1)), table.cell_of(id(2)?));
-    assert_eq!(rt;
-        table.set_root(&kind, Some(id(3)?)),
-        Err(Stop::Refused(Refusal::NotLive(3)))
-    );
+    Ok(())
+}
+
+#[test]
+fn roots_are_replaced_and_taken_away(rt: HostRuntime) -> Result<(), Fail> {
+    let mut table = table_of(rt.alloc(), &[1, 2], 0)?;
+    root(rt.alloc(), &mut table, "a", 1)?;
+    root(rt.alloc(), &mut table, "a", 2)?;
+    root(rt.alloc(), &mut table, "b", 1)?;
+    table.set_root(&name(rt.alloc(), "b")?, None)?;
+    table.set_root(&name(rt.alloc(), "c")?, None)?;
+    assert_eq!(rt; table.roots(), 1);
+    assert_eq!(rt; Some(table.root_cell(0)), table.cell_of(id(2)?));
     Ok(())
 }
