@@ -1,4 +1,5 @@
 pub mod Json
+pub mod Left
 pub mod Newlines
 pub mod Pieces
 pub mod Ranges
