@@ -1,3 +1,5 @@
+ghost use Rattle.std.specs.Prelude.{Some};
+
 use crate::{CutError, LineCutter, event_of};
 use graph_meaning::FieldName::{
     AtField, IdField, LimitField, NameField, OpField, OwneeField, OwnerField, SlotField,
@@ -5,7 +7,7 @@ use graph_meaning::FieldName::{
 };
 use graph_meaning::Refusal::{BadField, MissingField, NotJson, NotObject, UnknownOp};
 use graph_meaning::{Event, Refusal, Stop};
-use heap_base::MemSource;
+use heap_base::{Failed, MemSource, Source};
 use std::alloc::Global;
 use std::process::Abort;
 use std::test::Fail;
@@ -124,6 +126,43 @@ fn a_long_trace_is_cut_to_its_end(rt: HostRuntime) -> Result<(), Fail> {
         gives(&rt, &mut cutter, &mut source, 3 * turn + 3, b"");
     }
     assert_eq!(rt; cutter.next(&mut source), Ok(None));
+    Ok(())
+}
+
+// A source in memory that notes the least number of bytes that a read was asked for.
+#[derive(Drop)]
+struct Watched {
+    source: MemSource,
+    least: usize,
+}
+
+impl Source for Watched {
+    ghost left = { λ s. Some s.source.left };
+
+    ghost faults = { λ s. s.source.faults };
+
+    fn read(&mut self, into: &mut [u8]) -> Result<usize, Failed> {
+        self.least = self.least.min(into.len());
+        self.source.read(into)
+    }
+}
+
+#[test]
+fn each_read_is_asked_for_64_bytes_at_least(rt: HostRuntime) -> Result<(), Fail> {
+    let trace = "0123456789\n".repeat(rt.alloc(), 40_000)?;
+    for piece in [997, 65_536, 1_000_000] {
+        let source = MemSource::make(rt.alloc(), trace.as_bytes(), piece, &[])?;
+        let mut watched = Watched {
+            source,
+            least: usize::MAX,
+        };
+        let mut cutter = LineCutter::make(rt.alloc(), TRACE_LIMIT)?;
+        for number in 1..40_001u64 {
+            assert_eq!(rt; cutter.next(&mut watched), Ok(Some(number)));
+        }
+        assert_eq!(rt; cutter.next(&mut watched), Ok(None));
+        assert!(rt; 64 <= watched.least);
+    }
     Ok(())
 }
 
