@@ -3,6 +3,8 @@
 
 mod auditor;
 mod dead;
+#[cfg(test)]
+mod tests;
 mod trace;
 
 pub use auditor::Auditor;
