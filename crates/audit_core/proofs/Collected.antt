@@ -1,11 +1,11 @@
 -- What a collection finds and leaves, where the cells that are kept are those of the traced objects.
-use Rattle.std.proofs.Common.{◌≡◌, ℕ, ◌+◌, ◌-◌, ◌≤◌, Bool, List, length, filter, map, IsTrue, sym, ap, refl, subst, ◌∙◌}
+use Rattle.std.proofs.Common.{◌≡◌, ℕ, ◌+◌, ◌-◌, ◌≤◌, Bool, List, length, filter, IsTrue, sym, ap, refl, ◌∙◌}
 use Rattle.std.specs.List.{All}
 use Rattle.std.proofs.lemmas.Bool.{and_from}
 use Rattle.std.proofs.lemmas.List.Elements.{All-filter, filter_passes, filter_agree}
 use Rattle.graph_meaning.specs.declared.collection.Collection.{Collection}
 use Rattle.graph_meaning.specs.declared.collection.Verdict.{Verdict}
-use Rattle.graph_meaning.specs.Heap.{Object, Table, is_live, no_regions}
+use Rattle.graph_meaning.specs.Heap.{Object, Table, is_live}
 use Rattle.graph_meaning.specs.Reach.{has_id}
 use Rattle.graph_meaning.specs.Collecting.{traced_ids, only, after_collection, verdicts_of, collection_of}
 use Rattle.graph_meaning.proofs.HeapLemmas.{is_live-only, kept-no_regions}

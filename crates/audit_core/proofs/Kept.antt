@@ -1,7 +1,7 @@
 -- Which objects the marked cells keep, and what one more mark changes.
-use Rattle.std.proofs.Common.{◌≡◌, ℕ, zero, suc, ◌+◌, ◌<◌, Bool, true, false, ◌||◌, not, cond, List, [], ◌∷◌, ◌++◌, length, replicate, get_or, slice_set, ⊎_elim, inl, inr, sym, ap, refl, subst, ◌∙◌, arith, eq-eqb, eqb-true, ◌==◌, Option, None, Some}
-use Rattle.std.specs.List.{cons_option, count_by}
-use Rattle.std.proofs.lemmas.Bool.{false≢true, or_left, or_right, or_cases, not_from_false}
+use Rattle.std.proofs.Common.{◌≡◌, ℕ, zero, suc, ◌+◌, ◌<◌, Bool, true, false, ◌||◌, not, cond, List, [], ◌∷◌, ◌++◌, length, replicate, get_or, slice_set, ⊎_elim, sym, ap, refl, ◌∙◌, arith, eq-eqb, eqb-true, ◌==◌, Option, None, Some}
+use Rattle.std.specs.List.{count_by}
+use Rattle.std.proofs.lemmas.Bool.{false≢true, or_left, or_right, or_cases}
 use Rattle.std.proofs.lemmas.List.{length-append, set-get_or}
 use Rattle.std.proofs.lemmas.List.Sums.{sum_by-set}
 use Rattle.graph_meaning.specs.Reach.{has_id}

@@ -1,19 +1,19 @@
 -- The steps of a trace keep what holds while it is under way, and at its end the cells that are kept are those of the
 -- traced objects.
-use Rattle.std.proofs.Common.{◌≡◌, ℕ, zero, suc, ◌+◌, ◌<◌, ◌≤◌, Bool, true, false, ◌||◌, cond, List, [], ◌∷◌, ◌++◌, length, take, map, replicate, get_or, slice_set, ⊎_elim, inl, inr, sym, ap, refl, subst, ◌∙◌, arith, eq-eqb, eqb-true, ◌==◌, Option, None, Some, IsTrue}
+use Rattle.std.proofs.Common.{◌≡◌, ℕ, zero, suc, ◌+◌, ◌<◌, Bool, true, false, ◌||◌, cond, List, [], ◌∷◌, ◌++◌, length, map, replicate, get_or, slice_set, ⊎_elim, sym, ap, refl, subst, ◌∙◌, arith, eq-eqb, eqb-true, ◌==◌, Option, None, Some, IsTrue}
 use Rattle.std.specs.List.{All, filter_map, slice_get, cons_option}
-use Rattle.std.specs.Option.{IsSomeAnd, IfSome, is_some, option_map_or, option_and_then}
+use Rattle.std.specs.Option.{IsSomeAnd, IfSome, is_some, option_map_or}
 use Rattle.std.proofs.lemmas.Bool.{false≢true, or_left, or_right, or_cases, cases_lt, false_from_ne_true}
 use Rattle.std.proofs.lemmas.List.{length-replicate, length-set, take_all}
 use Rattle.std.proofs.lemmas.List.Elements.{All-nil, All-cons, All-head, All-tail, All-push, All-pop, All-weaker, All-more, filter_map-append}
 use Rattle.std.proofs.lemmas.Option.{slice_get-get_or}
-use Rattle.graph_meaning.specs.Heap.{Object, Table, object_at, is_live, ids, targets, edge_of}
-use Rattle.graph_meaning.specs.Reach.{has_id, reached}
+use Rattle.graph_meaning.specs.Heap.{Object, object_at, targets, edge_of}
+use Rattle.graph_meaning.specs.Reach.{has_id}
 use Rattle.graph_meaning.specs.Collecting.{object_graph, root_ids, traced_ids}
 use Rattle.graph_meaning.proofs.Membership.{has_id-append}
 use Rattle.graph_meaning.proofs.Reaching.{IsClosed, IsClosed-reachable, reached_is_reachable}
 use Rattle.graph_meaning.proofs.HeapLemmas.{traced-from_root, traced-along_edge}
-use Rattle.object_table.specs.Placed.{Placed, id_in, object_in, slots_in, kept_ids, IsPlaced, LeadsToKept}
+use Rattle.object_table.specs.Placed.{Placed, id_in, slots_in, kept_ids, IsPlaced, LeadsToKept}
 use Rattle.audit_core.specs.Tracing.{IsTraced, is_marked, ids_in, IsTracing, KeepsTraced}
 use Rattle.audit_core.proofs.Kept.{kept_ids-none, has_id-kept_ids, kept_ids-cell, has_id-kept_ids-set, set_marked}
 
@@ -73,20 +73,20 @@ module _ (p : Placed) (roots : ℕ) (marks : List Bool) (work : List ℕ) (cell 
   marked_now = record {
     each = length-set marks cell true ∙ tracing.each;
     sound = λ y at.
-      ⊎_elim
-      (λ here. subst (IsTraced p.table) (eqb-true id y here) traced)
-      (λ before. tracing.sound y before)
-      (or_cases _ _ (sym (kept_then y) ∙ at));
+        ⊎_elim
+        (λ here. subst (IsTraced p.table) (eqb-true id y here) traced)
+        (λ before. tracing.sound y before)
+        (or_cases _ _ (sym (kept_then y) ∙ at));
     by_roots = All-weaker _ _ (λ r at. still r.1 at) _ tracing.by_roots;
     by_slots = λ x y at held_by.
-      ⊎_elim
-      (λ here. or_right _ _ (in_cells-push x ∙ or_right _ _ here))
-      (λ before.
-      ⊎_elim
-      (λ kept. or_left _ _ (still y kept))
-      (λ waits. or_right _ _ (in_cells-push x ∙ or_left _ _ waits))
-      (or_cases _ _ (tracing.by_slots x y before held_by)))
-      (or_cases _ _ (sym (kept_then x) ∙ at));
+        ⊎_elim
+        (λ here. or_right _ _ (in_cells-push x ∙ or_right _ _ here))
+        (λ before.
+        ⊎_elim
+        (λ kept. or_left _ _ (still y kept))
+        (λ waits. or_right _ _ (in_cells-push x ∙ or_left _ _ waits))
+        (or_cases _ _ (tracing.by_slots x y before held_by)))
+        (or_cases _ _ (sym (kept_then x) ∙ at));
     waiting = All-push (λ c. IsSomeAnd (id_in p c) (IsTraced p.table)) work cell tracing.waiting (subst (λ o. IsSomeAnd o (IsTraced p.table)) (sym held) traced);
   }
 
@@ -190,10 +190,10 @@ IsFollowed-none p cell marks = record { kept = λ k y below leads. absurd (omega
 pub IsFollowed-empty : (p : Placed) (cell slot : ℕ) (marks : List Bool) → IsFollowed p cell slot marks → false ≡ is_some (edge_of (get_or (slots_in p cell) slot None)) → IsFollowed p cell (slot + 1) marks
 IsFollowed-empty p cell slot marks followed empty = record {
   kept = λ k y below leads.
-    ⊎_elim
-    (λ before. followed.kept k y before leads)
-    (λ here. absurd (false≢true (empty ∙ ap is_some (ap (λ n. edge_of (get_or (slots_in p cell) n None)) (let e : slot ≡ k = omega arith in e) ∙ leads))))
-    (cases_lt k slot);
+      ⊎_elim
+      (λ before. followed.kept k y before leads)
+      (λ here. absurd (false≢true (empty ∙ ap is_some (ap (λ n. edge_of (get_or (slots_in p cell) n None)) (let e : slot ≡ k = omega arith in e) ∙ leads))))
+      (cases_lt k slot);
 }
 
 -- a slot that leads to an object, which a cell holds
@@ -224,13 +224,13 @@ module _ (p : Placed) (placed : IsPlaced p) (roots : ℕ) (marks : List Bool) (w
   pub IsFollowed-slot : IsFollowed p cell slot marks → IsFollowed p cell (slot + 1) (slice_set marks target true)
   IsFollowed-slot followed = record {
     kept = λ k y below edge.
-      ⊎_elim
-      (λ before. kept-still p roots marks (cell ∷ work) target target_held.0 tracing target_held.1 target_traced y (followed.kept k y before edge))
-      (λ here.
-      let same : slot ≡ k = omega arith in
-      let is_target : target_held.0 ≡ y = same_Some (sym target_held.1 ∙ leads ∙ ap (λ n. edge_of (get_or (slots_in p cell) n None)) same ∙ edge) in
-      subst (λ z. IsTrue (has_id (kept_ids p.cells (slice_set marks target true)) z)) is_target (kept-marked p roots marks (cell ∷ work) target target_held.0 tracing target_held.1 target_traced))
-      (cases_lt k slot);
+        ⊎_elim
+        (λ before. kept-still p roots marks (cell ∷ work) target target_held.0 tracing target_held.1 target_traced y (followed.kept k y before edge))
+        (λ here.
+        let same : slot ≡ k = omega arith in
+        let is_target : target_held.0 ≡ y = same_Some (sym target_held.1 ∙ leads ∙ ap (λ n. edge_of (get_or (slots_in p cell) n None)) same ∙ edge) in
+        subst (λ z. IsTrue (has_id (kept_ids p.cells (slice_set marks target true)) z)) is_target (kept-marked p roots marks (cell ∷ work) target target_held.0 tracing target_held.1 target_traced))
+        (cases_lt k slot);
   }
 
 -- when all slots are followed, the cell need not be looked at again
@@ -244,14 +244,14 @@ IsTracing-followed p roots marks work cell tracing followed =
       sound = tracing.sound;
       by_roots = tracing.by_roots;
       by_slots = λ x y at held_by.
-        ⊎_elim
-        (λ kept. or_left _ _ kept)
-        (λ waits.
-        ⊎_elim
-        (λ here. or_left _ _ (followed_here x y (eqb-true first.0 x here) held_by))
-        (λ rest. or_right _ _ rest)
-        (or_cases _ _ (sym (in_cells x) ∙ waits)))
-        (or_cases _ _ (tracing.by_slots x y at held_by));
+          ⊎_elim
+          (λ kept. or_left _ _ kept)
+          (λ waits.
+          ⊎_elim
+          (λ here. or_left _ _ (followed_here x y (eqb-true first.0 x here) held_by))
+          (λ rest. or_right _ _ rest)
+          (or_cases _ _ (sym (in_cells x) ∙ waits)))
+          (or_cases _ _ (tracing.by_slots x y at held_by));
       waiting = All-tail (λ c. IsSomeAnd (id_in p c) (IsTraced p.table)) cell work tracing.waiting;
     }
 
@@ -266,11 +266,11 @@ IsTracing-pop p roots marks work cell tracing =
       sound = tracing.sound;
       by_roots = tracing.by_roots;
       by_slots = λ x y at held_by.
-        ⊎_elim
-        (λ kept. or_left _ _ kept)
-        (λ waits.
-        or_right _ _ (in_front x ∙ or_turned (has_id (ids_in p work) x) (has_id (ids_in p (cell ∷ [])) x) (sym (in_cells x) ∙ waits)))
-        (or_cases _ _ (tracing.by_slots x y at held_by));
+          ⊎_elim
+          (λ kept. or_left _ _ kept)
+          (λ waits.
+          or_right _ _ (in_front x ∙ or_turned (has_id (ids_in p work) x) (has_id (ids_in p (cell ∷ [])) x) (sym (in_cells x) ∙ waits)))
+          (or_cases _ _ (tracing.by_slots x y at held_by));
       waiting = All-cons (λ c. IsSomeAnd (id_in p c) (IsTraced p.table)) cell work parts.1 parts.0;
     }
 

@@ -1,5 +1,5 @@
 -- What holds while a heap is traced, and after.
-use Rattle.std.specs.Prelude.{◌≡◌, ℕ, ◌+◌, List, length, take, All, count_by, not, Bool, false, Option, None, Some, IsTrue, ◌||◌, IsSomeAnd, slice_index_or}
+use Rattle.std.specs.Prelude.{◌≡◌, ℕ, ◌+◌, List, length, take, All, count_by, not, Bool, false, Some, IsTrue, ◌||◌, IsSomeAnd, slice_index_or}
 use Rattle.std.specs.List.{filter_map}
 use Rattle.graph_meaning.specs.Heap.{Table, targets}
 use Rattle.graph_meaning.specs.Reach.{has_id}

@@ -57,7 +57,11 @@ fn kept_cell(table: &ObjectTable, kept: &[bool], id: ObjId) -> Option<u32>
     ensures kept { is_some result ≡ has_id (traced_ids table.now.table) id }
 {
     let cell = table.cell_of(id)?;
-    if kept[cell as usize] { Some(cell) } else { None }
+    if kept[cell as usize] {
+        Some(cell)
+    } else {
+        None
+    }
 }
 
 // The verdict that this object is not dead.

@@ -1,7 +1,6 @@
-ghost use Rattle.std.specs.Prelude.{◌≡◌, ◌+◌, ◌<◌, ◌≤◌, ◌++◌, ◌∷◌, [], length, slice_set, replicate, All, IsTrue, IsSomeAnd, IfOk, OnOk, false, true, if◌then◌else◌};
-ghost use Rattle.graph_meaning.specs.Reach.{has_id};
-ghost use Rattle.object_table.specs.Placed.{id_in, IsPlaced};
-ghost use Rattle.audit_core.specs.Tracing.{IsTraced, IsTracing, KeepsTraced, is_marked, remaining};
+ghost use Rattle.std.specs.Prelude.{◌≡◌, ◌<◌, ◌++◌, ◌∷◌, [], length, slice_set, replicate, IfOk, OnOk, false, true, if◌then◌else◌};
+ghost use Rattle.object_table.specs.Placed.{IsPlaced};
+ghost use Rattle.audit_core.specs.Tracing.{IsTracing, KeepsTraced, is_marked, remaining};
 
 use heap_base::OutOfMemory;
 use object_table::ObjectTable;

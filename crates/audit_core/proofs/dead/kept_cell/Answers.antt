@@ -1,4 +1,4 @@
-use Rattle.std.proofs.Common.{sym, ap, ◌∙◌}
+use Rattle.std.proofs.Common.{sym}
 use Rattle.audit_core.proofs.Asserted.{not_live-untraced}
 use Rattle.audit_core.proofs.dead.kept_cell.Goals as goal
 

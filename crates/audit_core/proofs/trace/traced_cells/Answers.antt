@@ -1,4 +1,4 @@
-use Rattle.std.proofs.Common.{◌≡◌, ◌∷◌, ◌++◌, [], length, replicate, false, sym, subst, ap, ◌∙◌, arith}
+use Rattle.std.proofs.Common.{◌≡◌, [], length, replicate, false, subst, ap, ◌∙◌, arith}
 use Rattle.std.proofs.lemmas.List.{nil_from_length}
 use Rattle.audit_core.specs.Tracing.{IsTracing}
 use Rattle.audit_core.proofs.Tracing.{IsTracing-begin, IsTracing-pop, KeepsTraced-done}
@@ -17,6 +17,6 @@ mark_slots-requires-clause-tracing c =
 pub returns : goal.returns
 returns c =
     let none : c.loop-cell.trace.work.items ≡ [] =
-        let cases = c.in_default.ensures.cases in nil_from_length c.loop-cell.trace.work.items (omega (arith, cases.0)) in
+    let cases = c.in_default.ensures.cases in nil_from_length c.loop-cell.trace.work.items (omega (arith, cases.0)) in
     KeepsTraced-done c.args.table.now c.cells.ensures.placed c.loop-cell.trace.marks.items
     (subst (IsTracing c.args.table.now (length c.args.table.now.table.roots) c.loop-cell.trace.marks.items) none c.loop-cell.invariant)

@@ -1,4 +1,4 @@
-use Rattle.std.proofs.Common.{◌≡◌, true, false, Ok, Err, IsTrue, refl, sym, ap, rules, ◌∙◌}
+use Rattle.std.proofs.Common.{◌≡◌, true, false, Ok, Err, IsTrue, refl, rules}
 use Rattle.graph_meaning.specs.declared.refusal.Stop.TheVariants.{OutOfMemory}
 use Rattle.graph_meaning.specs.Heap.{is_live}
 use Rattle.audit_core.proofs.Steps.{live-insert_key, Follows-not_live, Follows-assert_dead}

@@ -1,8 +1,6 @@
-use Rattle.std.proofs.Common.{◌≡◌, ◌+◌, ◌*◌, ◌≤◌, length, filter, IsTrue, sym, ap, subst, arith, ◌∙◌}
-use Rattle.std.specs.List.{All}
-use Rattle.graph_meaning.specs.Heap.{Table, is_live}
-use Rattle.graph_meaning.specs.Reach.{has_id}
-use Rattle.graph_meaning.specs.Collecting.{traced_ids, only}
+use Rattle.std.proofs.Common.{◌≡◌, ◌+◌, length, ap, arith, ◌∙◌}
+use Rattle.graph_meaning.specs.Heap.{Table}
+use Rattle.graph_meaning.specs.Collecting.{only}
 use Rattle.object_table.specs.Placed.{kept_ids}
 use Rattle.audit_core.proofs.Collected.{only-length, live-only, swept-traced, collection-found, collection-after}
 use Rattle.audit_core.proofs.auditor.Auditor.collect.Goals as goal

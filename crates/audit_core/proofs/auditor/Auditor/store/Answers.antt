@@ -24,10 +24,10 @@ returns c =
     let after = c.store.new.self.table in
     let dead = c.self.inside.dead.keys in
     elim c.match-store.branch [
-      in-Ok w ↦
-        rw (← c.self.view_is, w.result-is)
-        (Follows-store t after dead c.self.inside.collections c.self.inside.violations (Ok tt) c.args.at c.args.slot c.args.to (sym w.in-Ok.ensures.refused) w.in-Ok.ensures.stored tt)
-    | in-Err w ↦
-        rw (← c.self.view_is, w.result-is)
-        (Follows-store t after dead c.self.inside.collections c.self.inside.violations (Err (Refused w.in-Err.refusal)) c.args.at c.args.slot c.args.to (sym w.in-Err.ensures.refused) tt (ap (λ (p : Placed). p.table) w.in-Err.ensures.err))
+      | in-Ok w ↦
+          rw (← c.self.view_is, w.result-is)
+          (Follows-store t after dead c.self.inside.collections c.self.inside.violations (Ok tt) c.args.at c.args.slot c.args.to (sym w.in-Ok.ensures.refused) w.in-Ok.ensures.stored tt)
+      | in-Err w ↦
+          rw (← c.self.view_is, w.result-is)
+          (Follows-store t after dead c.self.inside.collections c.self.inside.violations (Err (Refused w.in-Err.refusal)) c.args.at c.args.slot c.args.to (sym w.in-Err.ensures.refused) tt (ap (λ (p : Placed). p.table) w.in-Err.ensures.err))
     ]
