@@ -46,10 +46,11 @@ abbrev pub shown_text : Shown → List ℕ
 shown_text LeftOut = left_out_text
 shown_text (Path p) = path_text p
 
--- two paths with a bar between them; where they are left out, that is said once
+-- two paths with a bar between them; where one is left out, that alone is said, and once
 abbrev pub both_text : Shown → Shown → List ℕ
 both_text LeftOut second = left_out_text
-both_text (Path p) second = path_text p ++ codes " | " ++ shown_text second
+both_text (Path p) LeftOut = left_out_text
+both_text (Path p) (Path q) = path_text p ++ codes " | " ++ path_text q
 
 -- ---- a collection
 

@@ -1,28 +1,48 @@
 ghost use Rattle.std.specs.Prelude.{◌≡◌, IfOk};
 ghost use Rattle.report.specs.Text.{collection_text, end_text, fault_text};
-ghost use Rattle.report.specs.Report.{report_text, run_status};
 
+use crate::parts::{put, put_number};
+use crate::refusals::put_refusal;
+use crate::verdicts::{put_summary, put_verdicts};
 use graph_meaning::{Collection, Refusal};
 use heap_base::OutOfMemory;
 use std::alloc::Global;
 
 /// The lines of a collection: one that sums it up, and one for each verdict.
-pub fn collection_text(_alloc: Global, collection: &Collection) -> Result<Vec<u8>, OutOfMemory>
+#[tactic(auto, unfolding(crate::specs::Text::collection_text))]
+pub fn collection_text(alloc: Global, collection: &Collection) -> Result<Vec<u8>, OutOfMemory>
     ensures { IfOk result (λ text. text.items ≡ collection_text collection.now) }
 {
-    Err(OutOfMemory)
+    let mut text = Vec::new(alloc);
+    put_summary(&mut text, collection)?;
+    put_verdicts(&mut text, collection.number, &collection.verdicts)?;
+    Ok(text)
 }
 
-/// The last line of a report where a line of the trace was refused.
-pub fn fault_text(_alloc: Global, line: u64, refusal: &Refusal) -> Result<Vec<u8>, OutOfMemory>
+/// The last line of a report where a line of the trace was refused. Lines are numbered from 1.
+#[tactic(auto, unfolding(crate::specs::Text::fault_text))]
+pub fn fault_text(alloc: Global, line: u64, refusal: &Refusal) -> Result<Vec<u8>, OutOfMemory>
     ensures { IfOk result (λ text. text.items ≡ fault_text line refusal.now) }
 {
-    Err(OutOfMemory)
+    let mut text = Vec::new(alloc);
+    put(&mut text, b"fault line ")?;
+    put_number(&mut text, line)?;
+    put(&mut text, b": ")?;
+    put_refusal(&mut text, refusal)?;
+    put(&mut text, b"\n")?;
+    Ok(text)
 }
 
 /// The last line of a report where the trace was read to its end.
-pub fn end_text(_alloc: Global, collections: u64, violations: u64) -> Result<Vec<u8>, OutOfMemory>
+#[tactic(auto, unfolding(crate::specs::Text::end_text))]
+pub fn end_text(alloc: Global, collections: u64, violations: u64) -> Result<Vec<u8>, OutOfMemory>
     ensures { IfOk result (λ text. text.items ≡ end_text collections violations) }
 {
-    Err(OutOfMemory)
+    let mut text = Vec::new(alloc);
+    put(&mut text, b"end gcs ")?;
+    put_number(&mut text, collections)?;
+    put(&mut text, b" violations ")?;
+    put_number(&mut text, violations)?;
+    put(&mut text, b"\n")?;
+    Ok(text)
 }

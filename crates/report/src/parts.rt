@@ -1,0 +1,37 @@
+ghost use Rattle.std.specs.Prelude.{◌≡◌, ◌++◌, decimal, OnOk};
+ghost use Rattle.report.specs.Text.{object_text};
+
+use heap_base::{Name, OutOfMemory};
+use itoa::Buffer;
+
+/// Appends these bytes.
+pub(crate) fn put(text: &mut Vec<u8>, bytes: &[u8]) -> Result<(), OutOfMemory>
+    ensures { OnOk result (text.new.items ≡ text.old.items ++ bytes.now) }
+{
+    text.extend_from_slice(bytes)?;
+    Ok(())
+}
+
+/// Appends a number in decimal.
+pub(crate) fn put_number(text: &mut Vec<u8>, number: u64) -> Result<(), OutOfMemory>
+    ensures { OnOk result (text.new.items ≡ text.old.items ++ decimal number) }
+{
+    let mut buffer = Buffer::new();
+    put(text, buffer.format(number).as_bytes())
+}
+
+/// Appends a name as its bytes.
+pub(crate) fn put_name(text: &mut Vec<u8>, name: &Name) -> Result<(), OutOfMemory>
+    ensures { OnOk result (text.new.items ≡ text.old.items ++ name.now) }
+{
+    put(text, name.as_str().as_bytes())
+}
+
+/// Appends an object: its id and the name of its type.
+pub(crate) fn put_object(text: &mut Vec<u8>, id: u32, kind: &Name) -> Result<(), OutOfMemory>
+    ensures { OnOk result (text.new.items ≡ text.old.items ++ object_text id kind.now) }
+{
+    put_number(text, id as u64)?;
+    put(text, b" ")?;
+    put_name(text, kind)
+}
