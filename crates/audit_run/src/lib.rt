@@ -3,6 +3,8 @@
 
 mod ending;
 mod run;
+#[cfg(test)]
+mod tests;
 mod top_call;
 mod turn;
 mod words;

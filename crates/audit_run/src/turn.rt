@@ -1,4 +1,4 @@
-ghost use Rattle.std.specs.Prelude.{◌≡◌, ◌<◌, ◌≤◌, ◌^◌, IsTrue};
+ghost use Rattle.std.specs.Prelude.{◌≡◌, ◌<◌, ◌≤◌, ◌^◌, ℕ, IsTrue};
 ghost use Rattle.trace_reader.specs.Meaning.{item_of_line, event as event_item};
 ghost use Rattle.graph_meaning.specs.declared.event.Event.TheVariants.{Collect};
 ghost use Rattle.audit_run.specs.Turn.{TakesLine};
@@ -54,7 +54,7 @@ fn take_event<K: Sink>(
     ensures later { K.faults sink.old ≤ K.faults sink.new }
 {
     if let Event::Collect = event {
-        collect(alloc, auditor, lines, sink)
+        collect(alloc, auditor, sink)
     } else if is_applied(event) {
         apply(alloc, auditor, event, lines, sink)
     } else {
@@ -82,10 +82,9 @@ fn apply<K: Sink>(
 }
 
 /// Makes a collection, and writes its text at once.
-fn collect<K: Sink>(alloc: Global, auditor: &mut Auditor, _lines: u64, sink: &mut K) -> Turn
-    requires few_lines { _lines < 2 ^ 40 }
-    requires few_collections { auditor.old.collections ≤ _lines }
-    ensures takes { TakesLine auditor.old auditor.new (event_item Collect) _lines (K.held sink.old) (K.held sink.new) (K.faults sink.old) (K.faults sink.new) result }
+fn collect<K: Sink>(alloc: Global, auditor: &mut Auditor, sink: &mut K) -> Turn
+    requires { auditor.old.collections < 2 ^ 40 }
+    ensures takes { (lines : ℕ) → TakesLine auditor.old auditor.new (event_item Collect) lines (K.held sink.old) (K.held sink.new) (K.faults sink.old) (K.faults sink.new) result }
     ensures later { K.faults sink.old ≤ K.faults sink.new }
 {
     let Ok(collection) = auditor.collect() else {

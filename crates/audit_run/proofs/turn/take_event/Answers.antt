@@ -4,7 +4,7 @@ use Rattle.audit_run.proofs.turn.take_event.Goals as goal
 
 pub returns-in-Collect-clause-takes : goal.returns-in-Collect-clause-takes
 returns-in-Collect-clause-takes g c =
-    TakesLine-at _ _ _ _ _ _ _ _ _ _ (known-collect _ c.in-Collect.is) c.collect.ensures.takes
+    TakesLine-at _ _ _ _ _ _ _ _ _ _ (known-collect _ c.in-Collect.is) (c.collect.ensures.takes c.args.lines)
 
 pub returns-then-is_applied-clause-takes : goal.returns-then-is_applied-clause-takes
 returns-then-is_applied-clause-takes g c =
