@@ -1,7 +1,7 @@
 -- How a run ends: from what was done so far, and what the last step did, to what stands after the whole run.
-use Rattle.std.proofs.Common.{◌≡◌, ◌⊎◌, ℕ, ◌+◌, ◌-◌, ◌<◌, ◌≤◌, ◌^◌, List, [], ◌∷◌, ◌++◌, length, map, take, Bool, true, false, ◌||◌, ◌==◌, IsTrue, Option, Some, None, Result, Ok, Err, IfSome, min, refl, sym, ◌∙◌, ap, subst, arith}
-use Rattle.std.specs.List.{concat, flat_map, list_any, AllByRecursion}
-use Rattle.std.specs.Prelude.{filter, sum_by}
+use Rattle.std.proofs.Common.{◌≡◌, ℕ, ◌+◌, ◌≤◌, List, [], ◌∷◌, ◌++◌, length, map, take, Bool, true, false, ◌||◌, ◌==◌, IsTrue, Option, Some, None, Result, Ok, Err, IfSome, refl, sym, ◌∙◌, ap, subst, arith}
+use Rattle.std.specs.List.{concat, list_any, AllByRecursion}
+use Rattle.std.specs.Prelude.{filter}
 use Rattle.std.specs.Io.KnownBytes.{Appends, Consumes, IsAtEnd}
 use Rattle.std.proofs.KnownBytes.{Consumes-trans, Appends-trans}
 use Rattle.std.proofs.Math.Seq.{take-append-add}
@@ -21,13 +21,13 @@ use Rattle.graph_meaning.specs.Heap.{empty_heap}
 use Rattle.trace_reader.specs.declared.error.CutError.{CutError}
 use Rattle.trace_reader.specs.declared.error.CutError.TheVariants as cut_error
 use Rattle.trace_reader.specs.Meaning.{Item, item_of_line, refused}
-use Rattle.trace_reader.specs.Items.{pieces, items_from, items_of, item_of}
+use Rattle.trace_reader.specs.Items.{pieces, items_from}
 use Rattle.trace_reader.specs.Cutting.{Cutting, StepsOn, Cuts, GivesLine, HasNoNewline}
 use Rattle.report.specs.Text.{collection_text, end_text}
 use Rattle.report.specs.Report.{Ran, run, preceded, nothing_ran, stopped_at, violations_of, collections_text, report_text, run_status, last_line, end_status}
 use Rattle.audit_core.specs.Audit.{Audit}
 use Rattle.audit_run.specs.Report.{known, trace_limit, run_of, report_of, status_of, part_of, whole_lines, is_whole}
-use Rattle.audit_run.specs.Outcome.{Outside, Ended, AppendsPartOfReport, ReadsToEnd, RefusesLine, IsCutShort}
+use Rattle.audit_run.specs.Outcome.{Outside, Ended, AppendsPartOfReport}
 use Rattle.audit_run.specs.Turn.{EndsRun, rest_text, rest_last, rest_status, rest_end}
 use Rattle.trace_reader.proofs.Pieces.{pieces-nil, pieces-line, pieces-last, items_from-append, items_from-given, items_from-line_too_long, items_from-trace_too_long}
 use Rattle.audit_run.proofs.Progress.{Progress, InProgress, IsWholeLine, end_stays, end_now, cuts_of, still_at_end}

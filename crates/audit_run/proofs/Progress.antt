@@ -1,18 +1,18 @@
 -- A run that is under way: what was read, cut and written so far.
-use Rattle.std.proofs.Common.{◌≡◌, ◌⊎◌, ℕ, ◌+◌, ◌-◌, ◌<◌, ◌≤◌, List, [], ◌∷◌, ◌++◌, length, map, Bool, true, false, IsTrue, cond, ltb, leb, ◌&&◌, Option, Some, None, Result, Ok, Err, MatchOption, IfSome, refl, sym, ◌∙◌, ap, subst, arith, inl, inr, ⊎_elim, ◌^◌}
-use Rattle.std.specs.List.{concat, flat_map, AllByRecursion}
+use Rattle.std.proofs.Common.{◌≡◌, ℕ, ◌+◌, ◌<◌, ◌≤◌, List, [], ◌∷◌, ◌++◌, length, map, Bool, true, false, IsTrue, Option, Some, None, Result, Ok, MatchOption, IfSome, refl, sym, ◌∙◌, ap, subst, arith, ⊎_elim}
+use Rattle.std.specs.List.{concat, AllByRecursion}
 use Rattle.std.proofs.lemmas.List.Folds.{concat-append}
 use Rattle.std.specs.Io.KnownBytes.{Appends, Consumes, IsAtEnd}
 use Rattle.std.proofs.KnownBytes.{Consumes-nil, Consumes-trans, Appends-nil, Appends-trans}
 use Rattle.std.proofs.lemmas.List.{append_assoc, append-nil, map-append, length-append}
-use Rattle.std.proofs.lemmas.Bool.{false≢true, true≢false, le-ltb}
+use Rattle.std.proofs.lemmas.Bool.{false≢true, true≢false}
 use Rattle.std.proofs.lemmas.List.Sums.{sum_by-append}
 use Rattle.std.proofs.lemmas.Grind.{flat_map-append}
 use Rattle.graph_meaning.specs.declared.collection.Collection.{Collection}
 use Rattle.graph_meaning.specs.Heap.{empty_heap}
 use Rattle.trace_reader.specs.declared.error.CutError.{CutError}
 use Rattle.trace_reader.specs.Meaning.{Item, item_of_line}
-use Rattle.trace_reader.specs.Items.{pieces, items_from, item_of, line_of}
+use Rattle.trace_reader.specs.Items.{pieces, items_from, item_of}
 use Rattle.trace_reader.specs.Cutting.{Cutting, HasNoNewline, fresh_cutting, IsNextPiece, GivesLine, StepsOn, Cuts}
 use Rattle.report.specs.Text.{collection_text}
 use Rattle.report.specs.Report.{Ran, run, preceded, violations_of, collections_text}

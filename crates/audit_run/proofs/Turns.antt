@@ -1,10 +1,10 @@
 -- What one item does to the run of a trace.
-use Rattle.std.proofs.Common.{◌≡◌, ℕ, ◌+◌, ◌≤◌, List, [], ◌∷◌, ◌++◌, length, take, Bool, true, false, IsTrue, Option, Some, None, Result, Ok, Err, refl, sym, ◌∙◌, ap, subst, arith, add-zero, zero-add}
+use Rattle.std.proofs.Common.{◌≡◌, ℕ, ◌+◌, List, [], ◌∷◌, ◌++◌, length, Bool, true, false, IsTrue, Option, Some, Result, Ok, Err, refl, sym, ◌∙◌, ap, subst, arith, add-zero, zero-add}
 use Rattle.std.specs.Result.{result_err}
 use Rattle.std.specs.Io.KnownBytes.{Appends}
 use Rattle.std.proofs.lemmas.Bool.{false≢true}
 use Rattle.std.proofs.KnownBytes.{Appends-nil}
-use Rattle.std.proofs.lemmas.List.{append-nil, append_assoc, length-append, take-append-le}
+use Rattle.std.proofs.lemmas.List.{append-nil, length-append, take-append-le}
 use Rattle.heap_base.specs.Sinks.{AppendsPart}
 use Rattle.graph_meaning.specs.declared.event.Event.{Event}
 use Rattle.graph_meaning.specs.declared.event.Event.TheVariants.{Alloc, Store, Root, AssertDead, StartRegion, AssertAllDead, AssertInstances, AssertUnshared, AssertOwnedBy, Collect}
@@ -14,13 +14,13 @@ use Rattle.graph_meaning.specs.Step.{step}
 use Rattle.graph_meaning.specs.Collecting.{collection_of, after_collection, verdicts_of}
 use Rattle.trace_reader.specs.Meaning.{Item, blank, event, refused}
 use Rattle.report.specs.Text.{collection_text}
-use Rattle.report.specs.Report.{Ran, run, preceded, stopped_at, nothing_ran, collections_of, collections_text, violations_of, after_step}
+use Rattle.report.specs.Report.{Ran, run, preceded, stopped_at, collections_of, collections_text, violations_of, after_step}
 use Rattle.audit_core.specs.Audit.{Audit, collected, is_applied}
 use Rattle.graph_meaning.specs.declared.refusal.Refusal.TheVariants.{UnknownOp}
 use Rattle.audit_run.specs.declared.turn.Turn.{Turn}
 use Rattle.audit_run.specs.Report.{is_collect, known}
 use Rattle.heap_base.specs.declared.status.Status.{Status}
-use Rattle.audit_run.specs.Turn.{rest_text, rest_last, EndsRun, GoesOn, TakesLine}
+use Rattle.audit_run.specs.Turn.{rest_text, EndsRun, GoesOn, TakesLine}
 
 pub preceded-nil : (r : Ran) → preceded [] r ≡ r
 preceded-nil r = refl

@@ -1,11 +1,10 @@
 -- What stands when the auditor's top call has returned, by the status that it answers.
 use Rattle.std.specs.Prelude.{◌≡◌, ◌≢◌, ◌⊎◌, ℕ, ◌+◌, ◌≤◌, List, length, Option, None, IfSome}
-use Rattle.std.specs.Io.KnownBytes.{Appends, Consumes, IsAtEnd, Keeps}
+use Rattle.std.specs.Io.KnownBytes.{Appends, Consumes, IsAtEnd}
 use Rattle.heap_base.specs.Causes.{Rose}
 use Rattle.heap_base.specs.Sinks.{AppendsPart}
 use Rattle.heap_base.specs.declared.status.Status.{Status}
 use Rattle.heap_base.specs.declared.status.Status.TheVariants.{Clean, Violated, TraceFault, ReadFault, WriteFault, NoMemory, Usage}
-use Rattle.report.specs.Report.{Ran}
 use Rattle.audit_run.specs.Report.{run_of, report_of, status_of, part_of, whole_lines, trace_limit}
 
 -- What can be seen of the source and the sink at a moment: the bytes that the source has left and those that the sink

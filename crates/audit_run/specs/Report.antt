@@ -1,5 +1,5 @@
 -- The report on a trace: one value for the bytes of the trace.
-use Rattle.std.specs.Prelude.{ℕ, ◌==◌, ◌^◌, List, [], length, map, filter, Bool, ◌||◌, true, false, if◌then◌else◌, codes}
+use Rattle.std.specs.Prelude.{ℕ, ◌==◌, ◌^◌, List, map, filter, Bool, ◌||◌, true, false, if◌then◌else◌, codes}
 use Rattle.std.specs.List.{list_any, concat}
 use Rattle.heap_base.specs.declared.status.Status.{Status}
 use Rattle.graph_meaning.specs.declared.event.Event.{Event}

@@ -1,5 +1,4 @@
-use Rattle.std.proofs.Common.{◌-◌, ◌+◌}
-use Rattle.audit_run.specs.Outcome.{Outside}
+use Rattle.std.proofs.Common.{◌-◌}
 use Rattle.audit_run.specs.Report.{trace_limit}
 use Rattle.audit_run.proofs.Progress.{InProgress}
 use Rattle.audit_run.proofs.run.run.Given as goal
