@@ -1,8 +1,8 @@
 -- A search for a name among the roots, and what an edit where it ends does.
-use Rattle.std.proofs.Common.{◌≡◌, ℕ, ◌+◌, ◌<◌, ◌≤◌, List, length, set, get_or, Bool, true, Option, None, is_some, Result, Ok, Err, is_ok, IfOk, IfErr, OnErr, Ordering, Less, Equal, Greater, refl, sym, ◌∙◌, ap, subst, arith}
-use Rattle.std.specs.List.{AllPairs, HoldsAt, insert, remove}
-use Rattle.std.specs.List.Sorted.{IsNonDecreasingBy, IsPartitionPoint, IsSearchInRange, IsBinarySearchResult}
-use Rattle.std.specs.Ordering.{ordering_index, ordering_reverse, nat_cmp, is_lt}
+use Rattle.std.proofs.Common.{◌≡◌, ℕ, ◌+◌, ◌<◌, ◌≤◌, List, length, set, get_or, None, is_some, Result, Ok, Err, is_ok, IfOk, IfErr, OnErr, Ordering, Less, Equal, Greater, refl, sym, ◌∙◌, ap, arith}
+use Rattle.std.specs.List.{insert, remove}
+use Rattle.std.specs.List.Sorted.{IsNonDecreasingBy, IsSearchInRange, IsBinarySearchResult}
+use Rattle.std.specs.Ordering.{ordering_index, ordering_reverse, is_lt}
 use Rattle.std.specs.Cmp.{IsTotalOrder}
 use Rattle.std.specs.Map.{lookup, remove_entry}
 use Rattle.std.specs.BTreeMap.{insert_entry, is_at}

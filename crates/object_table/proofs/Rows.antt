@@ -1,21 +1,19 @@
 -- What edits of the rows keep, and what a search among them finds.
-use Rattle.std.proofs.Common.{◌≡◌, ℕ, zero, suc, ◌+◌, ◌-◌, ◌<◌, ◌≤◌, ◌≢◌, List, [], ◌∷◌, ◌++◌, length, map, take, replicate, set, get_or, eqb, Bool, true, false, ◌&&◌, not, cond, IsTrue, Option, Some, None, IfSome, Result, Ok, Err, refl, sym, ◌∙◌, ap, subst, add-zero, arith}
-use Rattle.std.specs.List.{All, AllPairs, HoldsAt, SwappedAt, filter, sum_by, list_any}
+use Rattle.std.proofs.Common.{◌≡◌, ℕ, zero, suc, ◌+◌, ◌<◌, ◌≤◌, ◌≢◌, List, [], ◌∷◌, ◌++◌, length, replicate, set, get_or, Bool, true, false, not, IsTrue, Option, Some, None, IfSome, refl, sym, ◌∙◌, ap, add-zero, arith}
+use Rattle.std.specs.List.{All, AllPairs, HoldsAt, SwappedAt, filter}
 use Rattle.std.specs.List.Sorted.{IsNonDecreasingBy, IsPartitionPoint}
 use Rattle.std.specs.Ordering.{nat_cmp, ordering_index}
 use Rattle.std.specs.declared.cmp.Ordering.TheVariants.{Less, Equal, Greater}
 use Rattle.std.proofs.lemmas.Cmp.{ranked}
 use Rattle.std.proofs.lemmas.List.{length_push, length-set, map-set, get_or-map, get_or-drop, set-get_or, length-replicate, get_or_default}
-use Rattle.std.proofs.lemmas.List.Elements.{All-push, All-set, All-weaker, All-replicate, All-filter, All-get_or, filter_passes}
+use Rattle.std.proofs.lemmas.List.Elements.{All-push, All-set, All-weaker, All-replicate, All-filter, filter_passes}
 use Rattle.std.proofs.lemmas.List.Filters.{FiltersInPlace, FiltersInPlace-more_swap, FiltersInPlace-more_no, length-filter_both, sum_by-filter_both}
 use Rattle.std.proofs.lemmas.List.Kept.{AllPairs-filter}
 use Rattle.std.proofs.lemmas.List.Quantifiers.{all_pairs_push}
 use Rattle.std.proofs.lemmas.List.Sums.{sum_by-append, sum_by-set}
-use Rattle.std.proofs.lemmas.Bool.Decides.{nat_tests, Decides-eqb}
-use Rattle.std.proofs.lemmas.Grind.{common_steps}
+use Rattle.std.proofs.lemmas.Bool.Decides.{nat_tests}
 use Rattle.graph_meaning.specs.Reach.{has_id}
-use Rattle.object_table.specs.Placed.{kept_ids}
-use Rattle.object_table.specs.Rows.{Row, row_ids, row_slots, IsHeld, LeadsInto, kept_of, cells_of}
+use Rattle.object_table.specs.Rows.{Row, row_ids, row_slots, IsHeld, LeadsInto, kept_of}
 
 abbrev pub Rising : List Row → Type 0
 Rising rows = AllPairs (λ r s. r.id < s.id) rows

@@ -1,11 +1,11 @@
 -- The table that the rows, the roots and the type names stand for.
-use Rattle.std.proofs.Common.{◌≡◌, ℕ, zero, suc, ◌+◌, ◌-◌, ◌<◌, ◌≤◌, ◌≢◌, List, [], ◌∷◌, ◌++◌, length, map, take, replicate, set, get_or, eqb, Bool, true, false, ◌&&◌, not, cond, IsTrue, Option, Some, None, is_some, IfSome, IfNone, IsSome, unwrap_or, option_and_then, slice_get, Result, Ok, Err, OnOk, OnErr, refl, sym, ◌∙◌, ap, subst, inl, inr, arith}
-use Rattle.std.specs.List.{All, AllPairs, HoldsAt, filter, filter_map, find, sum_by, list_any, position}
+use Rattle.std.proofs.Common.{◌≡◌, ℕ, zero, suc, ◌+◌, ◌-◌, ◌<◌, ◌≤◌, ◌≢◌, List, [], ◌∷◌, ◌++◌, length, map, take, replicate, set, get_or, eqb, Bool, true, false, cond, IsTrue, Option, Some, None, is_some, IfSome, IfNone, unwrap_or, option_and_then, slice_get, refl, sym, ◌∙◌, ap, subst, inl, inr, arith}
+use Rattle.std.specs.List.{All, HoldsAt, filter, filter_map, sum_by, list_any, position}
 use Rattle.std.specs.Str.{bytes_eq}
 use Rattle.std.specs.Option.{option_map_or}
 use mathlib.Core.Bool.{false≢true}
 use Rattle.std.proofs.lemmas.Bool.Decides.{nat_tests, eqb_tells}
-use Rattle.std.proofs.lemmas.List.{length-map, get_or-map, get_or_past, get_or_default, length-set, take_at, get_or_push, get_or_append_left, length_push, map-append}
+use Rattle.std.proofs.lemmas.List.{length-map, get_or-map, get_or_past, length-set, take_at, get_or_push, get_or_append_left, length_push, map-append}
 use Rattle.std.proofs.lemmas.Option.{slice_get_cases, same_Some, none-some, slice_get_within, get_or_from_slice_get, slice_get-get_or}
 use Rattle.std.proofs.lemmas.List.Sums.{sum_by-cons}
 use Rattle.std.proofs.lemmas.List.Elements.{All-push, All-set, All-map, All-filter, All-weaker}
@@ -15,12 +15,12 @@ use Rattle.std.proofs.lemmas.Slice.Eq.{bytes_eq-Decides}
 use Rattle.std.proofs.lemmas.Map.Views.{All-map-remove_entry, All-values-insert_entry}
 use Rattle.std.specs.Map.{remove_entry}
 use Rattle.std.specs.BTreeMap.{insert_entry, is_at}
-use Rattle.graph_meaning.specs.Heap.{Object, Table, name_cmp, object_at, is_live, slot_count, edge_of, targets}
+use Rattle.graph_meaning.specs.Heap.{name_cmp, object_at, is_live, edge_of}
 use Rattle.graph_meaning.specs.Collecting.{only}
 use Rattle.graph_meaning.specs.Reach.{has_id}
 use Rattle.graph_meaning.specs.Step.{with_kind, with_slot, slots_of, allocated, stored, target_refusal}
-use Rattle.object_table.specs.Placed.{Placed, id_in, object_in, slots_in, IsPlaced, LeadsToKept}
-use Rattle.object_table.specs.Rows.{Row, row_ids, row_slots, IsHeld, LeadsInto, cells_of, object_of, placed_of, kept_of, IsJoined}
+use Rattle.object_table.specs.Placed.{Placed, id_in, object_in, IsPlaced, LeadsToKept}
+use Rattle.object_table.specs.Rows.{Row, row_ids, row_slots, IsHeld, LeadsInto, cells_of, object_of, placed_of, IsJoined}
 use Rattle.object_table.proofs.Rows.{Rising, has_id-push, has_id-filter, row_ids-set, rising-same_ids}
 use Rattle.object_table.proofs.Positions.{any-position}
 use Rattle.object_table.proofs.Refusals.{live_from_allowed}

@@ -1,5 +1,5 @@
 -- The live objects as the table holds them: by id rising, each with the number of its type.
-use Rattle.std.specs.Prelude.{◌≡◌, ℕ, ◌<◌, ◌≤◌, List, length, [], map, sum_by, Option, None, Some, IfSome, All, Bool, IsTrue, slice_index_or}
+use Rattle.std.specs.Prelude.{◌≡◌, ℕ, ◌<◌, ◌≤◌, List, length, [], map, sum_by, Option, Some, IfSome, All, Bool, IsTrue, slice_index_or}
 use Rattle.std.specs.List.{AllPairs}
 use Rattle.graph_meaning.specs.Heap.{Object}
 use Rattle.graph_meaning.specs.Reach.{has_id}

@@ -1,4 +1,3 @@
-use Rattle.std.proofs.Common.{arith, ◌≡◌, get_or, sym, ◌∙◌, rules, subst}
 use Rattle.object_table.specs.Rows.{kept_of}
 use Rattle.object_table.proofs.Rows.{IsHeld-filter}
 use Rattle.object_table.proofs.objects.Objects.keep.Goals as goal

@@ -1,4 +1,3 @@
-use Rattle.std.proofs.Common.{arith, ◌≡◌, get_or, sym, ◌∙◌, rules, subst}
 use Rattle.object_table.proofs.Rows.{IsHeld-store}
 use Rattle.object_table.proofs.objects.Objects.store.Goals as goal
 

@@ -1,4 +1,3 @@
-use Rattle.std.proofs.Common.{◌∙◌}
 use Rattle.object_table.proofs.Named.{remove_is, remove_none}
 use Rattle.object_table.proofs.roots.Roots.remove.Goals as goal
 

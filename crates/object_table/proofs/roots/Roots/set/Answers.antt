@@ -1,5 +1,3 @@
-use Rattle.std.proofs.Common.{◌∙◌, subst}
-use Rattle.object_table.specs.Ordered.{IsOrdered}
 use Rattle.object_table.proofs.Named.{IsOrdered-insert, set_is, insert_is, lookup_none, OnErr-always}
 use Rattle.object_table.proofs.roots.Roots.set.Goals as goal
 

@@ -1,6 +1,5 @@
-use Rattle.std.proofs.Common.{sym, ◌∙◌, refl, arith, Some, None}
+use Rattle.std.proofs.Common.{arith}
 use Rattle.graph_meaning.specs.Heap.{Table}
-use Rattle.graph_meaning.specs.Step.{alloc_refusal, allocated}
 use Rattle.object_table.specs.Rows.{placed_of}
 use Rattle.object_table.proofs.Refusals.{alloc_fits, kind_fits}
 use Rattle.object_table.proofs.Tables.{length-objects, slot_count-is, take_pushed, joined_allocated, allocated_is}

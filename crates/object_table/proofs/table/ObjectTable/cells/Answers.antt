@@ -1,5 +1,3 @@
-use Rattle.std.proofs.Common.{◌∙◌, subst}
-use Rattle.object_table.specs.Placed.{IsPlaced}
 use Rattle.object_table.proofs.Tables.{is_placed}
 use Rattle.object_table.proofs.table.ObjectTable.cells.Goals as goal
 

@@ -1,4 +1,3 @@
-use Rattle.std.proofs.Common.{sym, ◌∙◌, refl, arith, Some, None}
 use Rattle.object_table.specs.Rows.{kept_of}
 use Rattle.object_table.proofs.Tables.{closed_kept, joined_kept, kept_is}
 use Rattle.object_table.proofs.table.ObjectTable.keep.Goals as goal

@@ -1,4 +1,4 @@
-use Rattle.std.proofs.Common.{sym, ◌∙◌, arith}
+use Rattle.std.proofs.Common.{sym, arith}
 use Rattle.std.specs.Str.{bytes_eq}
 use Rattle.graph_meaning.specs.Heap.{Table}
 use Rattle.object_table.specs.Rows.{placed_of}

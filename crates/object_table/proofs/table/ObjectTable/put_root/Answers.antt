@@ -1,6 +1,6 @@
-use Rattle.std.proofs.Common.{◌≡◌, None, Some, is_some, refl, sym, ◌∙◌, ap}
+use Rattle.std.proofs.Common.{is_some, refl, sym, ◌∙◌, ap}
 use Rattle.graph_meaning.specs.Heap.{Table}
-use Rattle.graph_meaning.specs.Step.{with_root, root_refusal}
+use Rattle.graph_meaning.specs.Step.{with_root}
 use Rattle.object_table.specs.Rows.{placed_of}
 use Rattle.object_table.proofs.Refusals.{root_fits, live_from_allowed}
 use Rattle.object_table.proofs.Tables.{joined_root_set, live_is}

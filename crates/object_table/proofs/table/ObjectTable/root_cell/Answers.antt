@@ -1,4 +1,4 @@
-use Rattle.std.proofs.Common.{◌≡◌, Some, slice_get, sym, ◌∙◌, ap}
+use Rattle.std.proofs.Common.{Some, slice_get, sym, ◌∙◌}
 use mathlib.Core.Bool.{false≢true}
 use Rattle.object_table.specs.Rows.{row_ids, placed_of}
 use Rattle.object_table.specs.Placed.{Placed}

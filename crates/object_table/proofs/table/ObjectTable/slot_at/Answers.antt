@@ -1,4 +1,4 @@
-use Rattle.std.proofs.Common.{◌≡◌, ◌<◌, length, get_or, None, Some, sym, ◌∙◌, ap}
+use Rattle.std.proofs.Common.{sym, ◌∙◌}
 use Rattle.object_table.specs.Rows.{LeadsInto, row_ids}
 use Rattle.object_table.proofs.Tables.{object_in-row, cell_live, slot_leads, All-row}
 use Rattle.object_table.proofs.table.ObjectTable.slot_at.Goals as goal

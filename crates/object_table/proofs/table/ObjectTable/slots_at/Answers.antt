@@ -1,4 +1,3 @@
-use Rattle.std.proofs.Common.{length}
 use Rattle.object_table.proofs.Tables.{object_in-row}
 use Rattle.object_table.proofs.table.ObjectTable.slots_at.Goals as goal
 

@@ -1,6 +1,5 @@
-use Rattle.std.proofs.Common.{sym, ◌∙◌, refl, arith, Some, None}
+use Rattle.std.proofs.Common.{sym, refl}
 use Rattle.graph_meaning.specs.Heap.{Table}
-use Rattle.graph_meaning.specs.Step.{store_refusal, stored}
 use Rattle.object_table.specs.Rows.{placed_of}
 use Rattle.object_table.proofs.Refusals.{store_fits}
 use Rattle.object_table.proofs.Tables.{row-id_in, slots_of-row, target_live, joined_stored, stored_is, cells-stored}

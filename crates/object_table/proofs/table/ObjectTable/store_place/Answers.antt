@@ -1,4 +1,4 @@
-use Rattle.std.proofs.Common.{sym, ◌∙◌, refl, arith, Some, None}
+use Rattle.std.proofs.Common.{sym, ◌∙◌, arith, Some, None}
 use Rattle.graph_meaning.specs.Heap.{Table}
 use Rattle.object_table.specs.Rows.{placed_of}
 use Rattle.object_table.proofs.Refusals.{store_dead, store_bad, store_target}
