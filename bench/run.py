@@ -1,0 +1,115 @@
+#!/usr/bin/env python3
+"""Runs the built program over large traces, and prints lines and megabytes a second and peak memory.
+
+Usage: bench/run.py [--small]     (a tenth of the sizes)
+The program must be built: ./gcaudit < examples/first.jsonl builds it. Nothing here is part of the gate.
+Each trace is run at one size and at twice that size, so that the ratio of the two times can be read;
+`wc -l` over the same file, in the same run, is the yardstick for the machine.
+"""
+import os
+import subprocess
+import sys
+import tempfile
+import time
+
+TOP = os.path.dirname(os.path.dirname(os.path.abspath(__file__)))
+PROGRAM = os.path.join(TOP, "crates", "gcaudit", "out", "gcaudit")
+
+
+def alloc(id, kind, slots=0):
+    return f'{{"op":"alloc","id":{id},"type":"{kind}","slots":{slots}}}\n'
+
+
+def store(at, slot, to):
+    return f'{{"op":"store","at":{at},"slot":{slot},"to":{to}}}\n'
+
+
+def chain(n):
+    """Objects that hold one another in a row, the first of which a root names; two collections."""
+    yield alloc(1, "Link", 1)
+    yield '{"op":"root","name":"first","to":1}\n'
+    for i in range(2, n + 1):
+        yield alloc(i, "Link", 1)
+        yield store(i - 1, 0, i)
+    yield '{"op":"collect"}\n{"op":"root","name":"first","to":null}\n{"op":"collect"}\n'
+
+
+def tree(n):
+    """A binary tree; two collections."""
+    yield alloc(1, "Node", 2)
+    yield '{"op":"root","name":"top","to":1}\n'
+    for i in range(2, n + 1):
+        yield alloc(i, "Node", 2)
+        yield store(i // 2, i % 2, i)
+    yield '{"op":"collect"}\n{"op":"collect"}\n'
+
+
+def sparse(n):
+    """The tree with ids that rise by 4,096 at each step."""
+    yield alloc(4096, "Node", 2)
+    yield '{"op":"root","name":"top","to":4096}\n'
+    for i in range(2, n + 1):
+        yield alloc(4096 * i, "Node", 2)
+        yield store(4096 * (i // 2), i % 2, 4096 * i)
+    yield '{"op":"collect"}\n{"op":"collect"}\n'
+
+
+def collections(n):
+    """A collection after every 100 short-lived objects; each object is asserted dead while a root still names it."""
+    for i in range(1, n + 1):
+        yield alloc(i, f"Request{i % 50}", 1)
+        yield f'{{"op":"root","name":"r{i % 10}","to":{i}}}\n'
+        yield f'{{"op":"assert-dead","id":{i}}}\n'
+        if i % 100 == 0:
+            yield '{"op":"collect"}\n'
+
+
+def roots(n):
+    """Many root names, set, replaced and taken away."""
+    yield alloc(1, "Shared", 0)
+    for i in range(n):
+        yield f'{{"op":"root","name":"name-{(i * 7919) % 60000}","to":{"1" if i % 3 else "null"}}}\n'
+    yield '{"op":"collect"}\n'
+
+
+def names(n):
+    """Many types."""
+    for i in range(1, n + 1):
+        yield alloc(i, f"type-{(i * 7919) % 60000}")
+    yield '{"op":"collect"}\n'
+
+
+def timed(command, path):
+    with open(path, "rb") as trace:
+        start = time.perf_counter()
+        child = subprocess.Popen(command, stdin=trace, stdout=subprocess.PIPE)
+        output = child.stdout.read()
+        _, status, usage = os.wait4(child.pid, 0)
+        return time.perf_counter() - start, usage.ru_maxrss, os.waitstatus_to_exitcode(status), output
+
+
+def main():
+    if not os.path.exists(PROGRAM):
+        sys.exit("build the program first: ./gcaudit < examples/first.jsonl")
+    scale = 10 if "--small" in sys.argv else 1
+    shapes = [(chain, 200_000), (tree, 250_000), (sparse, 250_000), (collections, 150_000), (roots, 250_000), (names, 250_000)]
+    print(f'{"trace":<12} {"lines":>9} {"MB":>6} {"lines/s":>10} {"MB/s":>6} {"peak MB":>8} {"x wc -l":>8} {"twice":>6}  end')
+    with tempfile.TemporaryDirectory() as folder:
+        for shape, size in shapes:
+            before = None
+            for n in (size // scale, 2 * size // scale):
+                path = os.path.join(folder, "trace.jsonl")
+                with open(path, "w") as trace:
+                    trace.writelines(shape(n))
+                megabytes = os.path.getsize(path) / 1e6
+                count, _, _, output = timed(["wc", "-l"], path)
+                lines = int(output.split()[0])
+                seconds, peak, status, output = timed([PROGRAM], path)
+                twice = f"{seconds / before:6.2f}" if before else ""
+                before = seconds
+                end = output.decode().splitlines()[-1] if output else f"status {status}"
+                print(f"{shape.__name__:<12} {lines:>9} {megabytes:>6.1f} {lines / seconds:>10.0f} {megabytes / seconds:>6.1f} {peak / 1024:>8.1f} {seconds / count:>8.1f} {twice:>6}  {end}", flush=True)
+
+
+if __name__ == "__main__":
+    main()
