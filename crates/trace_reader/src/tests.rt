@@ -1,4 +1,4 @@
-ghost use Rattle.std.specs.Prelude.{Some};
+ghost use Rattle.std.specs.Prelude.{◌<◌, Some};
 
 use crate::{CutError, LineCutter, event_of};
 use graph_meaning::FieldName::{
@@ -147,22 +147,28 @@ impl Source for Watched {
     }
 }
 
+// The least number of bytes that a read was asked for, over a trace in pieces of at most `piece` bytes.
+fn least_asked(rt: &impl Abort, alloc: Global, piece: u32) -> Result<usize, Fail>
+    requires { 0 < piece }
+{
+    let trace = "0123456789\n".repeat(alloc, 40_000)?;
+    let mut watched = Watched {
+        source: MemSource::make(alloc, trace.as_bytes(), piece, &[])?,
+        least: usize::MAX,
+    };
+    let mut cutter = LineCutter::make(alloc, TRACE_LIMIT)?;
+    for number in 1..40_001u64 {
+        assert_eq!(rt; cutter.next(&mut watched), Ok(Some(number)));
+    }
+    assert_eq!(rt; cutter.next(&mut watched), Ok(None));
+    Ok(watched.least)
+}
+
 #[test]
 fn each_read_is_asked_for_64_bytes_at_least(rt: HostRuntime) -> Result<(), Fail> {
-    let trace = "0123456789\n".repeat(rt.alloc(), 40_000)?;
-    for piece in [997, 65_536, 1_000_000] {
-        let source = MemSource::make(rt.alloc(), trace.as_bytes(), piece, &[])?;
-        let mut watched = Watched {
-            source,
-            least: usize::MAX,
-        };
-        let mut cutter = LineCutter::make(rt.alloc(), TRACE_LIMIT)?;
-        for number in 1..40_001u64 {
-            assert_eq!(rt; cutter.next(&mut watched), Ok(Some(number)));
-        }
-        assert_eq!(rt; cutter.next(&mut watched), Ok(None));
-        assert!(rt; 64 <= watched.least);
-    }
+    assert!(rt; 64 <= least_asked(&rt, rt.alloc(), 997)?);
+    assert!(rt; 64 <= least_asked(&rt, rt.alloc(), 65_536)?);
+    assert!(rt; 64 <= least_asked(&rt, rt.alloc(), 1_000_000)?);
     Ok(())
 }
 
