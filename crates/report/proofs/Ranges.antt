@@ -1,6 +1,6 @@
 -- Parts of a list, and how what is written of one grows by an element.
-use Rattle.std.proofs.Common.{◌≡◌, ℕ, ◌+◌, ◌-◌, ◌<◌, ◌≤◌, min, List, [], ◌∷◌, ◌++◌, length, take, drop, get_or, Some, refl, sym, arith, slice_get, slice_range}
-use Rattle.std.proofs.lemmas.List.{take_more, take_all, take_min, take_rest, get_or-drop, length-drop, flat_map_more}
+use Rattle.std.proofs.Common.{◌≡◌, ℕ, ◌+◌, ◌-◌, ◌<◌, ◌≤◌, min, List, [], ◌∷◌, ◌++◌, length, take, drop, get_or, Some, arith, slice_get, slice_range}
+use Rattle.std.proofs.lemmas.List.{take_more, take_min, take_rest, get_or-drop, length-drop, flat_map_more}
 use Rattle.std.proofs.lemmas.Option.{slice_get_within, get_or_from_slice_get}
 use Rattle.std.proofs.lemmas.Grind.{common_steps}
 use Rattle.std.specs.List.{flat_map}

@@ -1,5 +1,5 @@
 -- The lines of a report, byte for byte. Numbers are decimal; names are written as their bytes; each line ends with a newline.
-use Rattle.std.specs.Prelude.{ℕ, ◌==◌, List, [], ◌∷◌, ◌++◌, take, drop, Bool, true, false, if◌then◌else◌, Option, None, Some, codes, decimal}
+use Rattle.std.specs.Prelude.{ℕ, ◌==◌, List, [], ◌++◌, take, drop, Bool, true, false, if◌then◌else◌, codes, decimal}
 use Rattle.std.specs.List.{flat_map}
 use Rattle.graph_meaning.specs.declared.collection.Collection.{Collection}
 use Rattle.graph_meaning.specs.declared.collection.Verdict.{Verdict}
@@ -10,7 +10,6 @@ use Rattle.graph_meaning.specs.declared.paths.PathStep.{PathStep}
 use Rattle.graph_meaning.specs.declared.paths.PathView.{PathView}
 use Rattle.graph_meaning.specs.declared.paths.Shown.{Shown}
 use Rattle.graph_meaning.specs.declared.paths.Shown.TheVariants.{LeftOut, Path}
-use Rattle.graph_meaning.specs.declared.refusal.FieldName.{FieldName}
 use Rattle.graph_meaning.specs.declared.refusal.Refusal.{Refusal}
 use Rattle.graph_meaning.specs.declared.refusal.Refusal.TheVariants.{LineTooLong, TraceTooLong, NotJson, NotObject, UnknownOp, MissingField, BadField, IdNotRising, TooManyObjects, TooManySlots, NotLive, BadSlot, TooManyRoots, TooManyTypes, TooDeep, NoRegion, SelfOwned}
 use Rattle.trace_reader.specs.Meaning.{field_text}
