@@ -9,11 +9,59 @@ use heap_base::{Name, ObjId, OutOfMemory};
 use std::alloc::Global;
 use std::marker::Model;
 
+/// A name with the object that it holds, behind a box: a new name moves eight bytes for each one above it.
+#[derive(Drop)]
+struct Entry {
+    held: Box<(Name, ObjId)>,
+}
+
+impl Model for Entry {
+    ghost use Rattle.std.specs.Prelude.{List, ℕ};
+    ghost use Rattle.std.specs.Box.{box_value};
+
+    ghost Value = { List ℕ × ℕ };
+
+    ghost view = { λ e. box_value e.held };
+}
+
+impl Entry {
+    /// The name, holding the object.
+    fn make(alloc: Global, name: Name, id: ObjId) -> Result<Entry, OutOfMemory>
+        ensures { IfOk result (λ entry. entry ≡ (name, id)) }
+    {
+        Ok(Entry {
+            held: Box::new(alloc, (name, id))?,
+        })
+    }
+
+    /// The name.
+    fn name(&self) -> &Name
+        ensures { result.now ≡ self.now.0 }
+    {
+        &self.held.0
+    }
+
+    /// The object that it holds.
+    fn id(&self) -> ObjId
+        ensures { result ≡ self.now.1 }
+    {
+        self.held.1
+    }
+
+    /// Lets it hold another object.
+    fn hold(&mut self, id: ObjId)
+        ensures { self.new ≡ (self.old.0, id) }
+    {
+        self.held.1 = id;
+    }
+}
+
 /// The roots by the bytes of their names, at most 65,536, each with the object that it holds. Contracts see
 /// the list of those pairs.
 #[derive(Drop)]
 pub struct Roots {
-    entries: Vec<(Name, ObjId)>,
+    entries: Vec<Entry>,
+    alloc: Global,
 }
 
 impl Model for Roots {
@@ -34,6 +82,7 @@ impl Roots {
     {
         Roots {
             entries: Vec::new(alloc),
+            alloc,
         }
     }
 
@@ -50,7 +99,7 @@ impl Roots {
         requires { place < length self.now }
         ensures { IfSome (slice_get self.now place) (λ r. result.now ≡ r.0) }
     {
-        &self.entries[place as usize].0
+        self.entries[place as usize].name()
     }
 
     /// The object that the root at this place holds.
@@ -58,7 +107,7 @@ impl Roots {
         requires { place < length self.now }
         ensures { IfSome (slice_get self.now place) (λ r. result ≡ r.1) }
     {
-        self.entries[place as usize].1
+        self.entries[place as usize].id()
     }
 
     /// Whether a root has this name.
@@ -77,12 +126,13 @@ impl Roots {
     {
         match self.search(name) {
             Ok(place) => {
-                self.entries[place].1 = id;
+                self.entries[place].hold(id);
                 Ok(())
             }
             Err(place) => {
                 let name = name.copy()?;
-                Ok(self.entries.insert(place, (name, id))?)
+                let entry = Entry::make(self.alloc, name, id)?;
+                Ok(self.entries.insert(place, entry)?)
             }
         }
     }
@@ -105,6 +155,6 @@ impl Roots {
     {
         let text = name.as_str();
         self.entries
-            .binary_search_by(|entry| entry.0.as_str().cmp(text))
+            .binary_search_by(|entry| entry.name().as_str().cmp(text))
     }
 }
