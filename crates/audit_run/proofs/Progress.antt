@@ -1,5 +1,5 @@
 -- A run that is under way: what was read, cut and written so far.
-use Rattle.std.proofs.Common.{◌≡◌, ℕ, ◌+◌, ◌<◌, ◌≤◌, List, [], ◌∷◌, ◌++◌, length, map, Bool, true, false, IsTrue, Option, Some, None, Result, Ok, MatchOption, IfSome, refl, sym, ◌∙◌, ap, subst, arith, ⊎_elim}
+use Rattle.std.proofs.Common.{◌≡◌, ℕ, ◌+◌, ◌-◌, ◌<◌, ◌≤◌, List, [], ◌∷◌, ◌++◌, length, map, Bool, true, false, IsTrue, Option, Some, None, Result, Ok, MatchOption, IfSome, refl, sym, ◌∙◌, ap, subst, arith, ⊎_elim}
 use Rattle.std.specs.List.{concat, AllByRecursion}
 use Rattle.std.proofs.lemmas.List.Folds.{concat-append}
 use Rattle.std.specs.Io.KnownBytes.{Appends, Consumes, IsAtEnd}
@@ -213,3 +213,11 @@ pub line_taken : (start now now' : Outside) (c c' : Cutting) (a a' : Audit) (n n
 line_taken start now now' c c' a a' n number took text more progress steps e goes writes =
     let cut : Cuts c c' (c.pending ++ took) now.read_faults now'.read_faults (Ok (Some number)) = cuts_of c.stopped _ _ progress.so_far.stopped steps.cuts in
     line_taken_by start now now' c c' a a' n number took cut.0 more progress steps cut.1 (subst (λ (t : List ℕ). GoesOn a a' (known (item_of_line t)) n now.held now'.held more) e goes) writes
+
+-- each line that is given leaves fewer bytes of the limit
+pub line_leaves_fewer : (start now : Outside) (left : Option (List ℕ)) (faults : ℕ) (c c' : Cutting) (a : Audit) (n number : ℕ) (took : List ℕ) →
+    InProgress start now c a n → StepsOn c c' now.left left now.read_faults faults (Ok (Some number)) took → trace_limit - c'.given < trace_limit - c.given
+line_leaves_fewer start now left faults c c' a n number took progress steps =
+    let p = progress.so_far in
+    let cut : Cuts c c' (c.pending ++ took) now.read_faults faults (Ok (Some number)) = cuts_of c.stopped _ _ p.stopped steps.cuts in
+    omega (arith, cut.1.given, cut.1.within, p.limit, piece_not_empty _ _ _ _ _ cut.1.next)

@@ -6,7 +6,7 @@ use audit_core::Auditor;
 use graph_meaning::Refusal;
 use heap_base::{Sink, Source, Status};
 use std::alloc::Global;
-use trace_reader::{CutError, LineCutter};
+use trace_reader::{CutError, LineCutter, LineReader};
 
 /// A trace has at most so many bytes.
 const TRACE_LIMIT: u64 = 1 << 40;
@@ -22,10 +22,18 @@ pub fn run<S: Source, K: Sink>(alloc: Global, source: &mut S, sink: &mut K) -> S
     let Ok(mut auditor) = Auditor::make(alloc) else {
         return Status::NoMemory;
     };
+    let mut reader = LineReader::make(alloc);
     let mut lines = 0;
     'trace: loop {
         match cutter.next(source) {
-            Ok(Some(number)) => match take_line(alloc, &mut auditor, cutter.line(), lines, sink) {
+            Ok(Some(number)) => match take_line(
+                alloc,
+                &mut reader,
+                &mut auditor,
+                cutter.line(),
+                lines,
+                sink,
+            ) {
                 Turn::Goes => lines = number,
                 Turn::Ends(status) => return status,
             },

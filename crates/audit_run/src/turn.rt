@@ -11,7 +11,7 @@ use graph_meaning::{Event, Refusal, Stop};
 use heap_base::{Sink, Status, put_all};
 use report::collection_text;
 use std::alloc::Global;
-use trace_reader::event_of;
+use trace_reader::LineReader;
 
 /// Whether a run goes on after a line, or how it ends.
 #[derive(Drop)]
@@ -23,6 +23,7 @@ pub enum Turn {
 /// Takes one line of the trace, which this many lines stand before.
 pub fn take_line<K: Sink>(
     alloc: Global,
+    reader: &mut LineReader,
     auditor: &mut Auditor,
     line: &[u8],
     lines: u64,
@@ -33,7 +34,7 @@ pub fn take_line<K: Sink>(
     ensures takes { TakesLine auditor.old auditor.new (known (item_of_line line.now)) lines (K.held sink.old) (K.held sink.new) (K.faults sink.old) (K.faults sink.new) result }
     ensures later { K.faults sink.old ≤ K.faults sink.new }
 {
-    match event_of(alloc, line) {
+    match reader.event_of(line) {
         Ok(None) => Turn::Goes,
         Ok(Some(event)) => take_event(alloc, auditor, &event, lines, sink),
         Err(Stop::Refused(refusal)) => Turn::Ends(refuse(alloc, lines + 1, refusal, sink)),

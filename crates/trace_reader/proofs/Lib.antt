@@ -1,6 +1,7 @@
 pub mod Json
 pub mod Left
 pub mod Newlines
+pub mod ObjectLemmas
 pub mod Pieces
 pub mod Ranges
 pub mod Steps

@@ -1,37 +1,37 @@
 ghost use Rattle.std.specs.Prelude.{◌≡◌, ◌^◌, ◌<◌, IfOk, Some, None, Ok, Err, option_map, MatchResult};
 ghost use Rattle.serde_json.specs.Find.{get, as_u64, as_number};
-ghost use Rattle.serde_json.specs.View.{view};
+ghost use Rattle.trace_reader.specs.Objects.{object_data, value_data};
 ghost use Rattle.trace_reader.specs.Meaning.{Gives, field_text, good, needed, optional, id_value, count_value, thread_value, target_value, name_value};
 
+use crate::object::{FieldValue, Object};
 use graph_meaning::{FieldName, Refusal, Stop};
 use heap_base::{Name, ObjId, OutOfMemory, ThreadNo};
-use serde_json::Value;
 use std::alloc::Global;
 
 /// An id, in a field that must be there.
-pub fn id_field(object: &Value, field: FieldName) -> Result<ObjId, Stop>
-    ensures { Gives result (needed field id_value (view object.now)) }
+pub fn id_field(object: Object<'_>, field: FieldName) -> Result<ObjId, Stop>
+    ensures { Gives result (needed field id_value (object_data object.entry)) }
 {
     good_field(field, id_in(needed_field(object, field)?))
 }
 
 /// A slot number or a limit, in a field that must be there.
-pub fn count_field(object: &Value, field: FieldName) -> Result<u32, Stop>
-    ensures { Gives result (needed field count_value (view object.now)) }
+pub fn count_field(object: Object<'_>, field: FieldName) -> Result<u32, Stop>
+    ensures { Gives result (needed field count_value (object_data object.entry)) }
 {
     good_field(field, count_in(needed_field(object, field)?))
 }
 
 /// An id, or null for nothing, in a field that must be there.
-pub fn target_field(object: &Value, field: FieldName) -> Result<Option<ObjId>, Stop>
-    ensures { Gives result (needed field target_value (view object.now)) }
+pub fn target_field(object: Object<'_>, field: FieldName) -> Result<Option<ObjId>, Stop>
+    ensures { Gives result (needed field target_value (object_data object.entry)) }
 {
     good_field(field, target_in(needed_field(object, field)?))
 }
 
 /// A name, in a field that must be there.
-pub fn name_field(alloc: Global, object: &Value, field: FieldName) -> Result<Name, Stop>
-    ensures { Gives result (needed field name_value (view object.now)) }
+pub fn name_field(alloc: Global, object: Object<'_>, field: FieldName) -> Result<Name, Stop>
+    ensures { Gives result (needed field name_value (object_data object.entry)) }
 {
     match name_in(alloc, needed_field(object, field)?) {
         Ok(name) => good_field(field, name),
@@ -40,20 +40,20 @@ pub fn name_field(alloc: Global, object: &Value, field: FieldName) -> Result<Nam
 }
 
 /// A number of slots, 0 where the field is missing.
-pub fn slots_field(object: &Value) -> Result<u32, Stop>
-    ensures { Gives result (optional FieldName.SlotsField count_value 0 (view object.now)) }
+pub fn slots_field(object: Object<'_>) -> Result<u32, Stop>
+    ensures { Gives result (optional FieldName.SlotsField count_value 0 (object_data object.entry)) }
 {
-    match object.get(text_of(FieldName::SlotsField)) {
+    match object.get(FieldName::SlotsField) {
         None => Ok(0),
         Some(value) => good_field(FieldName::SlotsField, count_in(value)),
     }
 }
 
 /// A thread, number 0 where the field is missing.
-pub fn thread_field(object: &Value) -> Result<ThreadNo, Stop>
-    ensures { Gives result (optional FieldName.ThreadField thread_value 0 (view object.now)) }
+pub fn thread_field(object: Object<'_>) -> Result<ThreadNo, Stop>
+    ensures { Gives result (optional FieldName.ThreadField thread_value 0 (object_data object.entry)) }
 {
-    let thread = match object.get(text_of(FieldName::ThreadField)) {
+    let thread = match object.get(FieldName::ThreadField) {
         None => ThreadNo::of(0),
         Some(value) => thread_in(value),
     };
@@ -61,11 +61,11 @@ pub fn thread_field(object: &Value) -> Result<ThreadNo, Stop>
 }
 
 /// The value of a field that must be there.
-pub fn needed_field(object: &Value, field: FieldName) -> Result<&Value, Stop>
-    ensures { MatchResult result (λ value. get (field_text field) (view object.now) ≡ Some (view value.now))
-        (λ stop. (stop ≡ Stop.Refused (Refusal.MissingField field)) × (get (field_text field) (view object.now) ≡ None)) }
+pub fn needed_field<'a>(object: Object<'a>, field: FieldName) -> Result<FieldValue<'a>, Stop>
+    ensures { MatchResult result (λ value. get (field_text field) (object_data object.entry) ≡ Some (value_data value))
+        (λ stop. (stop ≡ Stop.Refused (Refusal.MissingField field)) × (get (field_text field) (object_data object.entry) ≡ None)) }
 {
-    match object.get(text_of(field)) {
+    match object.get(field) {
         None => Err(Stop::Refused(Refusal::MissingField(field))),
         Some(value) => Ok(value),
     }
@@ -81,8 +81,8 @@ pub fn good_field<T>(field: FieldName, value: Option<T>) -> Result<T, Stop>
     }
 }
 
-// How a field is spelled in a trace.
-fn text_of(field: FieldName) -> &'static str
+/// How a field is spelled in a trace.
+pub fn text_of(field: FieldName) -> &'static str
     ensures { result.now ≡ field_text field }
 {
     match field {
@@ -101,8 +101,8 @@ fn text_of(field: FieldName) -> &'static str
     }
 }
 
-fn count_in(value: &Value) -> Option<u32>
-    ensures { result ≡ count_value (view value.now) }
+fn count_in(value: FieldValue<'_>) -> Option<u32>
+    ensures { result ≡ count_value (value_data value.entry) }
 {
     let n = value.as_u64()?;
     if n < 4_294_967_296 {
@@ -112,29 +112,30 @@ fn count_in(value: &Value) -> Option<u32>
     }
 }
 
-fn id_in(value: &Value) -> Option<ObjId>
-    ensures { result ≡ id_value (view value.now) }
+fn id_in(value: FieldValue<'_>) -> Option<ObjId>
+    ensures { result ≡ id_value (value_data value.entry) }
 {
     ObjId::of(count_in(value)?)
 }
 
-fn thread_in(value: &Value) -> Option<ThreadNo>
-    ensures { result ≡ thread_value (view value.now) }
+fn thread_in(value: FieldValue<'_>) -> Option<ThreadNo>
+    ensures { result ≡ thread_value (value_data value.entry) }
 {
     ThreadNo::of(count_in(value)?)
 }
 
-fn target_in(value: &Value) -> Option<Option<ObjId>>
-    ensures { result ≡ target_value (view value.now) }
+fn target_in(value: FieldValue<'_>) -> Option<Option<ObjId>>
+    ensures { result ≡ target_value (value_data value.entry) }
 {
-    match value {
-        Value::Null => Some(None),
-        _ => Some(Some(id_in(value)?)),
+    if value.is_null() {
+        Some(None)
+    } else {
+        Some(Some(id_in(value)?))
     }
 }
 
-fn name_in(alloc: Global, value: &Value) -> Result<Option<Name>, OutOfMemory>
-    ensures { IfOk result (λ name. name ≡ name_value (view value.now)) }
+fn name_in(alloc: Global, value: FieldValue<'_>) -> Result<Option<Name>, OutOfMemory>
+    ensures { IfOk result (λ name. name ≡ name_value (value_data value.entry)) }
 {
     match value.as_str() {
         None => Ok(None),

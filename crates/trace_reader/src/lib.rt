@@ -6,11 +6,13 @@ mod cutter;
 mod error;
 mod field;
 mod line;
+mod object;
 mod operation;
+mod plain;
 #[cfg(test)]
 mod tests;
 mod window;
 
 pub use cutter::LineCutter;
 pub use error::CutError;
-pub use line::event_of;
+pub use line::{LineReader, event_of};

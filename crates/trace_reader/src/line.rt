@@ -1,28 +1,55 @@
-ghost use Rattle.std.specs.Prelude.{◌≡◌, ◌⊎◌, Some, None, MatchResult};
+ghost use Rattle.std.specs.Prelude.{◌≡◌};
 ghost use Rattle.std.specs.List.{list_all};
-ghost use Rattle.serde_json.specs.View.{view};
 ghost use Rattle.trace_reader.specs.Cutting.{Tells};
-ghost use Rattle.trace_reader.specs.Meaning.{Gives, item_of_line, json_of, is_blank};
+ghost use Rattle.trace_reader.specs.Meaning.{Gives, event_of_json, item_of_line, json_of, is_blank};
+ghost use Rattle.serde_json.specs.Read.{read};
 
-use crate::operation::event_of_value;
+use crate::object::{Object, PlainMembers};
+use crate::operation::event_of_object;
+use crate::plain::read_plain;
 use graph_meaning::{Event, Refusal, Stop};
+use heap_base::OutOfMemory;
+use json::Scratch;
 use serde_json::Value;
 use std::alloc::Global;
 
-/// The operation that a line is, without its newline, and `Ok(None)` for a line of spaces, tabs and carriage
-/// returns alone. It refuses, in this order, a line that is no JSON text (`NotJson`), a value that is no
-/// object (`NotObject`), a missing or bad `op`, an operation that is not known (`UnknownOp`), and the first
-/// field that is missing or bad (`MissingField`, `BadField`).
-#[tactic(auto, unfolding(crate::specs::Meaning::item_of_line))]
+/// Reads lines as operations, in memory that it keeps from line to line.
+#[derive(Drop)]
+pub struct LineReader {
+    alloc: Global,
+    scratch: Scratch,
+}
+
+impl LineReader {
+    /// A reader that has read nothing. It takes memory only where a line asks for it.
+    pub fn make(alloc: Global) -> LineReader {
+        LineReader {
+            alloc,
+            scratch: Scratch::new(alloc),
+        }
+    }
+
+    /// The operation that a line is, without its newline, and `Ok(None)` for a line of spaces, tabs and carriage
+    /// returns alone. It refuses, in this order, a line that is no JSON text (`NotJson`), a value that is no
+    /// object (`NotObject`), a missing or bad `op`, an operation that is not known (`UnknownOp`), and the first
+    /// field that is missing or bad (`MissingField`, `BadField`).
+    #[tactic(auto, unfolding(crate::specs::Meaning::item_of_line))]
+    pub fn event_of(&mut self, line: &[u8]) -> Result<Option<Event>, Stop>
+        ensures { Tells result (item_of_line line.now) }
+    {
+        if is_blank_line(line) {
+            return Ok(None);
+        }
+        let event = event_of_line(self.alloc, line, &mut self.scratch)?;
+        Ok(Some(event))
+    }
+}
+
+/// What `LineReader::event_of` answers, for a line alone.
 pub fn event_of(alloc: Global, line: &[u8]) -> Result<Option<Event>, Stop>
     ensures { Tells result (item_of_line line.now) }
 {
-    if is_blank_line(line) {
-        return Ok(None);
-    }
-    let value = value_of(alloc, line)?;
-    let event = event_of_value(alloc, &value)?;
-    Ok(Some(event))
+    LineReader::make(alloc).event_of(line)
 }
 
 fn is_blank_line(line: &[u8]) -> bool
@@ -32,14 +59,34 @@ fn is_blank_line(line: &[u8]) -> bool
         .all(|b| *b == b' ' || *b == b'\t' || *b == b'\r')
 }
 
-// The value of a line that is one JSON text (RFC 8259) in UTF-8.
-#[tactic(auto, using(crate::proofs::Json::json_read, crate::proofs::Json::json_unread))]
-fn value_of(alloc: Global, line: &[u8]) -> Result<Value, Stop>
-    ensures { MatchResult result (λ value. json_of line.now ≡ Some (view value))
-        (λ stop. (stop ≡ Stop.OutOfMemory) ⊎ ((stop ≡ Stop.Refused Refusal.NotJson) × (json_of line.now ≡ None))) }
+// The operation of a line that is one JSON text (RFC 8259) in UTF-8.
+#[tactic(auto, using(crate::proofs::Json::json_of_text, crate::proofs::Json::json_of_no_text))]
+fn event_of_line(alloc: Global, line: &[u8], scratch: &mut Scratch) -> Result<Event, Stop>
+    ensures { Gives result (event_of_json (json_of line.now)) }
 {
-    match Value::from_slice(alloc, line) {
-        Ok(value) => Ok(value),
+    match str::from_utf8(line) {
+        Ok(text) => event_of_text(alloc, text, scratch),
+        Err(_) => Err(Stop::Refused(Refusal::NotJson)),
+    }
+}
+
+// Most lines are plain objects, which are read without memory of their own; serde_json reads all others.
+fn event_of_text(alloc: Global, text: &str, scratch: &mut Scratch) -> Result<Event, Stop>
+    ensures { Gives result (event_of_json (read text.now)) }
+{
+    let mut members = PlainMembers::new();
+    match read_plain(text, scratch, &mut members) {
+        Ok(true) => event_of_object(alloc, Object::Plain(&members)),
+        Ok(false) => event_of_any(alloc, text),
+        Err(OutOfMemory) => Err(Stop::OutOfMemory),
+    }
+}
+
+fn event_of_any(alloc: Global, text: &str) -> Result<Event, Stop>
+    ensures { Gives result (event_of_json (read text.now)) }
+{
+    match Value::from_str(alloc, text) {
+        Ok(value) => event_of_object(alloc, Object::Any(&value)),
         Err(error) if error.is_memory() => Err(Stop::OutOfMemory),
         Err(_) => Err(Stop::Refused(Refusal::NotJson)),
     }

@@ -1,31 +1,31 @@
-ghost use Rattle.serde_json.specs.View.{view};
+ghost use Rattle.trace_reader.specs.Objects.{object_data};
 ghost use Rattle.trace_reader.specs.Meaning.{Gives, operation, event_in, alloc_in, store_in, root_in, dead_in, start_in, all_dead_in, instances_in, unshared_in, owned_in};
 
 use crate::field::{
     count_field, good_field, id_field, name_field, needed_field, slots_field, target_field,
     thread_field,
 };
+use crate::object::Object;
 use graph_meaning::{Event, FieldName, Refusal, Stop};
-use serde_json::Value;
 use std::alloc::Global;
 
 /// The operation that a value is: an object whose field `op` names it.
 #[tactic(auto, unfolding(crate::specs::Meaning::event_in))]
-pub fn event_of_value(alloc: Global, value: &Value) -> Result<Event, Stop>
-    ensures { Gives result (event_in (view value.now)) }
+pub fn event_of_object(alloc: Global, object: Object<'_>) -> Result<Event, Stop>
+    ensures { Gives result (event_in (object_data object.entry)) }
 {
-    if !value.is_object() {
+    if !object.is_object() {
         return Err(Stop::Refused(Refusal::NotObject));
     }
-    let op = needed_field(value, FieldName::OpField)?;
+    let op = needed_field(object, FieldName::OpField)?;
     let op = good_field(FieldName::OpField, op.as_str())?;
-    operation_named(alloc, op, value)
+    operation_named(alloc, op, object)
 }
 
 // The operation of this name. The fields of each are tested in the order in which they are read here.
 #[tactic(auto, unfolding(crate::specs::Meaning::operation))]
-fn operation_named(alloc: Global, op: &str, object: &Value) -> Result<Event, Stop>
-    ensures { Gives result (operation op.now (view object.now)) }
+fn operation_named(alloc: Global, op: &str, object: Object<'_>) -> Result<Event, Stop>
+    ensures { Gives result (operation op.now (object_data object.entry)) }
 {
     match op {
         "alloc" => alloc_event(alloc, object),
@@ -43,8 +43,8 @@ fn operation_named(alloc: Global, op: &str, object: &Value) -> Result<Event, Sto
 }
 
 #[tactic(auto, unfolding(crate::specs::Meaning::alloc_in))]
-fn alloc_event(alloc: Global, object: &Value) -> Result<Event, Stop>
-    ensures { Gives result (alloc_in (view object.now)) }
+fn alloc_event(alloc: Global, object: Object<'_>) -> Result<Event, Stop>
+    ensures { Gives result (alloc_in (object_data object.entry)) }
 {
     let id = id_field(object, FieldName::IdField)?;
     let kind = name_field(alloc, object, FieldName::TypeField)?;
@@ -59,8 +59,8 @@ fn alloc_event(alloc: Global, object: &Value) -> Result<Event, Stop>
 }
 
 #[tactic(auto, unfolding(crate::specs::Meaning::store_in))]
-fn store_event(object: &Value) -> Result<Event, Stop>
-    ensures { Gives result (store_in (view object.now)) }
+fn store_event(object: Object<'_>) -> Result<Event, Stop>
+    ensures { Gives result (store_in (object_data object.entry)) }
 {
     let at = id_field(object, FieldName::AtField)?;
     let slot = count_field(object, FieldName::SlotField)?;
@@ -69,8 +69,8 @@ fn store_event(object: &Value) -> Result<Event, Stop>
 }
 
 #[tactic(auto, unfolding(crate::specs::Meaning::root_in))]
-fn root_event(alloc: Global, object: &Value) -> Result<Event, Stop>
-    ensures { Gives result (root_in (view object.now)) }
+fn root_event(alloc: Global, object: Object<'_>) -> Result<Event, Stop>
+    ensures { Gives result (root_in (object_data object.entry)) }
 {
     let name = name_field(alloc, object, FieldName::NameField)?;
     let to = target_field(object, FieldName::ToField)?;
@@ -78,32 +78,32 @@ fn root_event(alloc: Global, object: &Value) -> Result<Event, Stop>
 }
 
 #[tactic(auto, unfolding(crate::specs::Meaning::dead_in))]
-fn dead_event(object: &Value) -> Result<Event, Stop>
-    ensures { Gives result (dead_in (view object.now)) }
+fn dead_event(object: Object<'_>) -> Result<Event, Stop>
+    ensures { Gives result (dead_in (object_data object.entry)) }
 {
     let id = id_field(object, FieldName::IdField)?;
     Ok(Event::AssertDead { id })
 }
 
 #[tactic(auto, unfolding(crate::specs::Meaning::start_in))]
-fn start_event(object: &Value) -> Result<Event, Stop>
-    ensures { Gives result (start_in (view object.now)) }
+fn start_event(object: Object<'_>) -> Result<Event, Stop>
+    ensures { Gives result (start_in (object_data object.entry)) }
 {
     let thread = thread_field(object)?;
     Ok(Event::StartRegion { thread })
 }
 
 #[tactic(auto, unfolding(crate::specs::Meaning::all_dead_in))]
-fn all_dead_event(object: &Value) -> Result<Event, Stop>
-    ensures { Gives result (all_dead_in (view object.now)) }
+fn all_dead_event(object: Object<'_>) -> Result<Event, Stop>
+    ensures { Gives result (all_dead_in (object_data object.entry)) }
 {
     let thread = thread_field(object)?;
     Ok(Event::AssertAllDead { thread })
 }
 
 #[tactic(auto, unfolding(crate::specs::Meaning::instances_in))]
-fn instances_event(alloc: Global, object: &Value) -> Result<Event, Stop>
-    ensures { Gives result (instances_in (view object.now)) }
+fn instances_event(alloc: Global, object: Object<'_>) -> Result<Event, Stop>
+    ensures { Gives result (instances_in (object_data object.entry)) }
 {
     let kind = name_field(alloc, object, FieldName::TypeField)?;
     let limit = count_field(object, FieldName::LimitField)?;
@@ -111,16 +111,16 @@ fn instances_event(alloc: Global, object: &Value) -> Result<Event, Stop>
 }
 
 #[tactic(auto, unfolding(crate::specs::Meaning::unshared_in))]
-fn unshared_event(object: &Value) -> Result<Event, Stop>
-    ensures { Gives result (unshared_in (view object.now)) }
+fn unshared_event(object: Object<'_>) -> Result<Event, Stop>
+    ensures { Gives result (unshared_in (object_data object.entry)) }
 {
     let id = id_field(object, FieldName::IdField)?;
     Ok(Event::AssertUnshared { id })
 }
 
 #[tactic(auto, unfolding(crate::specs::Meaning::owned_in))]
-fn owned_event(object: &Value) -> Result<Event, Stop>
-    ensures { Gives result (owned_in (view object.now)) }
+fn owned_event(object: Object<'_>) -> Result<Event, Stop>
+    ensures { Gives result (owned_in (object_data object.entry)) }
 {
     let owner = id_field(object, FieldName::OwnerField)?;
     let ownee = id_field(object, FieldName::OwneeField)?;

@@ -1,6 +1,6 @@
 ghost use Rattle.std.specs.Prelude.{◌<◌, Some};
 
-use crate::{CutError, LineCutter, event_of};
+use crate::{CutError, LineCutter, LineReader, event_of};
 use graph_meaning::FieldName::{
     AtField, IdField, LimitField, NameField, OpField, OwneeField, OwnerField, SlotField,
     SlotsField, ThreadField, ToField, TypeField,
@@ -288,6 +288,38 @@ fn lines_are_taken(rt: HostRuntime) {
         let event = event(&rt, rt.alloc(), line);
         assert_eq!(rt; in_short(&event), want, "{line}");
     }
+}
+
+#[test]
+fn a_reader_goes_on_from_line_to_line(rt: HostRuntime) -> Result<(), Fail> {
+    let mut reader = LineReader::make(rt.alloc());
+    let cases = [
+        ("{\"op\":\"collect\"}", "collect"),
+        (
+            "{\"\\u006fp\":\"\\u0063ollect\",\"x\":\"\\u00e9\\n\"}",
+            "collect",
+        ),
+        ("{\"op\":\"assert-dead\",\"id\":", "refused"),
+        ("{\"op\":\"assert-dead\",\"id\":7}", "dead"),
+        (
+            "{\"a\":1,\"b\":2,\"c\":3,\"d\":4,\"e\":5,\"f\":6,\"g\":7,\"h\":8,\"op\":\"collect\"}",
+            "collect",
+        ),
+        ("{\"a\":[[[1]]],\"id\":7,\"op\":\"assert-dead\"}", "dead"),
+        ("{\"op\":\"collect\"}}", "refused"),
+        ("\t", "nothing"),
+        ("{\"op\":\"collect\"}", "collect"),
+    ];
+    for (line, want) in cases {
+        let answer = match reader.event_of(line.as_bytes()) {
+            Ok(None) => "nothing",
+            Ok(Some(event)) => in_short(&event).0,
+            Err(Stop::Refused(_)) => "refused",
+            Err(Stop::OutOfMemory) => "no memory",
+        };
+        assert_eq!(rt; answer, want, "{line}");
+    }
+    Ok(())
 }
 
 #[test]

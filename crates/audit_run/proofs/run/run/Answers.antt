@@ -1,5 +1,5 @@
 use Rattle.std.proofs.Common.{refl}
-use Rattle.audit_run.proofs.Progress.{begins_at, line_taken}
+use Rattle.audit_run.proofs.Progress.{begins_at, line_taken, line_leaves_fewer}
 use Rattle.audit_run.proofs.Endings.{finished, line_too_long, trace_too_long, line_ends, cut_short}
 use Rattle.audit_run.proofs.run.run.Goals as goal
 
@@ -15,6 +15,11 @@ pub trace-preserved : goal.trace-preserved
 trace-preserved g c =
     let steps = rw c.in-Ok-Some.field-0-is at c.in-Ok-Some.ensures.1 in
     line_taken _ _ _ _ _ _ _ _ _ _ _ _ c.trace.invariant steps c.line.ensures c.in-Goes.ensures.takes.1 c.take_line.ensures.later
+
+pub trace-smaller : goal.trace-smaller
+trace-smaller g c =
+    let steps = rw c.in-Ok-Some.field-0-is at c.in-Ok-Some.ensures.1 in
+    line_leaves_fewer _ _ _ _ _ _ _ _ _ _ c.trace.invariant steps
 
 pub returns-in-Ok-None : goal.returns-in-Ok-None
 returns-in-Ok-None g c =

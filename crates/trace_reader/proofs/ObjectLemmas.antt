@@ -1,0 +1,79 @@
+-- Members that are read one after another, beside the object that they make.
+use Rattle.std.proofs.Common.{◌≡◌, ℕ, ◌+◌, ◌-◌, ◌<◌, ◌≤◌, List, [], ◌∷◌, ◌++◌, length, take, get_or, reverse, Option, Some, None, option_map, option_and_then, refl, sym, ap, ◌∙◌, arith}
+use Rattle.std.proofs.lemmas.List.{reverse-append, take_more}
+use Rattle.json.specs.Token.{Token}
+use Rattle.json.specs.Lex.{tokens}
+use Rattle.json.specs.Json as json
+use Rattle.json.specs.Json.{Parse, parse_map, read_key, members, value, if_last}
+use Rattle.json.proofs.Grammar.{members_end, members_more, value-begin_object}
+use Rattle.serde_json.specs.Data.{Data, object, Members, no_members, put}
+use Rattle.serde_json.specs.Read.{of_json, of_members, converted, read}
+use Rattle.serde_json.specs.Find.{get_member}
+use Rattle.serde_json.proofs.Views.{get_member-put, get_member-put_other}
+use Rattle.trace_reader.specs.Objects.{value_data, members_data}
+use Rattle.trace_reader.specs.declared.object.Member.{Member}
+
+-- ---- one member more
+
+members_data-push : (ms : List Member) (m : Member) → members_data (reverse (ms ++ m ∷ [])) ≡ put m.key.now (value_data m.value) (members_data (reverse ms))
+members_data-push ms m = ap members_data (reverse-append ms (m ∷ []))
+
+pub pushed_member : (old new : List Member) (m : Member) → new ≡ old ++ m ∷ [] → members_data (reverse new) ≡ put m.key.now (value_data m.value) (members_data (reverse old))
+pushed_member old new m is = ap (λ ms. members_data (reverse ms)) is ∙ members_data-push old m
+
+module _ (ms : List Member) (i : ℕ) (k : List ℕ) (m : Member) (some : 0 < i) (within : i ≤ length ms) (there : m ≡ get_or ms (i - 1) m) where
+  front_ends_with : take i ms ≡ take (i - 1) ms ++ m ∷ []
+  front_ends_with =
+      ap (λ n. take n ms) (let e : i ≡ i - 1 + 1 = omega (arith, some) in e)
+      ∙ take_more ms (i - 1) m (omega (arith, some, within))
+      ∙ ap (λ x. take (i - 1) ms ++ x ∷ []) (sym there)
+
+  pub last_member_found : m.key.now ≡ k → get_member k (members_data (reverse (take i ms))) ≡ Some (value_data m.value)
+  last_member_found named =
+      ap (get_member k) (pushed_member (take (i - 1) ms) (take i ms) m front_ends_with)
+      ∙ ap (λ q. get_member k (put q (value_data m.value) (members_data (reverse (take (i - 1) ms))))) named
+      ∙ get_member-put k _ _
+
+  pub last_member_passed : (m.key.now ≡ k → ⊥) → get_member k (members_data (reverse (take i ms))) ≡ get_member k (members_data (reverse (take (i - 1) ms)))
+  last_member_passed other =
+      ap (get_member k) (pushed_member (take (i - 1) ms) (take i ms) m front_ends_with)
+      ∙ get_member-put_other k m.key.now (value_data m.value) (members_data (reverse (take (i - 1) ms))) (λ e. other (sym e))
+
+-- ---- the members that are still to come, behind those that were found
+
+abbrev behind : Members → Option (json.Members × List Token) → Option (Members × List Token)
+behind found = converted (λ all. of_members all found)
+
+behind-member : (k : List ℕ) (j : json.Json) (d : Data) (found : Members) → of_json j ≡ Some d → (o : Option (json.Members × List Token)) → behind found (parse_map (json.member k j) o) ≡ behind (put k d found) o
+behind-member k j d found e None = refl
+behind-member k j d found e (Some p) = rw e
+
+module _ (p : Parse json.Json) (found : Members) where
+  pub member_passed : (n : ℕ) (k : List ℕ) (ts s r : List Token) (j : json.Json) (d : Data) → 0 < n → read_key ts ≡ Some (Some k, s) → p s ≡ Some (j, r) → of_json j ≡ Some d
+      → behind found (members p n ts) ≡ behind (put k d found) (members p (n - 1) r)
+  member_passed n k ts s r j d some key is e = ap (behind found) (members_more p n k ts s r j some key is) ∙ behind-member k j d found e _
+
+  pub members_passed : (n : ℕ) (ts r : List Token) → length ts ≤ n → read_key ts ≡ Some (None, r) → behind found (members p n ts) ≡ Some (found, r)
+  members_passed n ts r enough e = ap (behind found) (members_end p n ts r enough e)
+
+-- ---- the whole text
+
+abbrev pick : {A : Type 0} → A → Option A → A
+pick d None = d
+pick d (Some a) = a
+
+both : (x : Option Members) (r s : List Token) (found : Members) → option_map {U = Members × List Token} (λ y. (y, r)) x ≡ Some (found, s) → (x ≡ Some found) × (r ≡ s)
+both None r s found e = absurd (cc)
+both (Some y) r s found e = let same = ap (pick (y, r)) e in (ap (λ p. Some p.0) same, ap (λ p. p.1) same)
+
+whole_object : (o : Option (json.Members × List Token)) (found : Members) → behind no_members o ≡ Some (found, [])
+    → option_and_then of_json (option_and_then (λ p. if_last p.0 p.1) (parse_map json.object o)) ≡ Some (object found)
+whole_object None found e = absurd (cc)
+whole_object (Some p) found e = let is = both (of_members p.0 no_members) p.1 [] found e in rw (is.1) (rw (is.0))
+
+pub object_read : (text : List ℕ) (rest : List Token) (found : Members) → tokens text ≡ Token.begin_object ∷ rest → behind no_members (members (value 126) (length rest) rest) ≡ Some (found, [])
+    → read text ≡ Some (object found)
+object_read text rest found begun is =
+    ap (λ ts. option_and_then of_json (option_and_then (λ p. if_last p.0 p.1) (value 127 ts))) begun
+    ∙ ap (λ o. option_and_then of_json (option_and_then (λ p. if_last p.0 p.1) o)) (value-begin_object 127 rest (omega arith))
+    ∙ whole_object (members (value 126) (length rest) rest) found is
