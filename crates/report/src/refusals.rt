@@ -5,6 +5,7 @@ ghost use Rattle.trace_reader.specs.Meaning.{field_text};
 use crate::parts::{put, put_number};
 use graph_meaning::{FieldName, Refusal};
 use heap_base::OutOfMemory;
+use trace_reader::spelling_of;
 
 /// Appends the name of a refusal, and its detail where it has one.
 pub(crate) fn put_refusal(text: &mut Vec<u8>, refusal: &Refusal) -> Result<(), OutOfMemory>
@@ -42,25 +43,5 @@ fn put_with_field(text: &mut Vec<u8>, name: &[u8], field: FieldName) -> Result<(
     ensures { OnOk result (text.new.items ≡ text.old.items ++ (name.now ++ field_text field)) }
 {
     put(text, name)?;
-    put(text, spelling(field).as_bytes())
-}
-
-/// How a field is spelled in a trace.
-fn spelling(field: FieldName) -> &'static str
-    ensures { result.now ≡ field_text field }
-{
-    match field {
-        FieldName::OpField => "op",
-        FieldName::IdField => "id",
-        FieldName::TypeField => "type",
-        FieldName::SlotsField => "slots",
-        FieldName::ThreadField => "thread",
-        FieldName::AtField => "at",
-        FieldName::SlotField => "slot",
-        FieldName::ToField => "to",
-        FieldName::NameField => "name",
-        FieldName::LimitField => "limit",
-        FieldName::OwnerField => "owner",
-        FieldName::OwneeField => "ownee",
-    }
+    put(text, spelling_of(field).as_bytes())
 }

@@ -82,7 +82,7 @@ pub fn good_field<T>(field: FieldName, value: Option<T>) -> Result<T, Stop>
 }
 
 /// How a field is spelled in a trace.
-pub fn text_of(field: FieldName) -> &'static str
+pub fn spelling_of(field: FieldName) -> &'static str
     ensures { result.now ≡ field_text field }
 {
     match field {

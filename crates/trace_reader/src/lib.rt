@@ -15,4 +15,5 @@ mod window;
 
 pub use cutter::LineCutter;
 pub use error::CutError;
+pub use field::spelling_of;
 pub use line::{LineReader, event_of};

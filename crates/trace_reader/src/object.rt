@@ -3,7 +3,7 @@ ghost use Rattle.serde_json.specs.Find.{as_null, as_object, as_str, get, get_mem
 ghost use Rattle.trace_reader.specs.Meaning.{field_text, whole_number};
 ghost use Rattle.trace_reader.specs.Objects.{value_data, members_data, object_data};
 
-use crate::field::text_of;
+use crate::field::spelling_of;
 use arrayvec::ArrayVec;
 use graph_meaning::FieldName;
 use serde_json::Value;
@@ -64,8 +64,8 @@ impl<'a> Object<'a> {
         ensures { option_map value_data result ≡ get (field_text field) (object_data self.entry) }
     {
         match self {
-            Object::Plain(members) => last_named(members, text_of(field)),
-            Object::Any(value) => value.get(text_of(field)).map(FieldValue::Json),
+            Object::Plain(members) => last_named(members, spelling_of(field)),
+            Object::Any(value) => value.get(spelling_of(field)).map(FieldValue::Json),
         }
     }
 }
