@@ -4,7 +4,8 @@
 Usage: bench/run.py [--small]     (a tenth of the sizes)
 The program must be built: ./gcaudit < examples/first.jsonl builds it. Nothing here is part of the gate.
 Each trace is run at one size and at twice that size, so that the ratio of the two times can be read;
-`wc -l` over the same file, in the same run, is the yardstick for the machine.
+`wc -l` over the same file, in the same run, is the yardstick for the machine. Where cargo can build it, the plain
+Rust program in bench/plain_rust runs over the same file as well, and must write the same report.
 """
 import os
 import subprocess
@@ -15,6 +16,10 @@ import time
 
 TOP = os.path.dirname(os.path.dirname(os.path.abspath(__file__)))
 PROGRAM = os.path.join(TOP, "crates", "gcaudit", "out", "gcaudit")
+PLAIN_RUST = os.path.join(TOP, "bench", "plain_rust")
+# Where Debian's packages librust-serde-json-dev and librust-hashbrown-dev put the sources of crates.
+DEBIAN_SOURCES = "/usr/share/cargo/registry"
+TRIES = 3
 
 
 def alloc(id, kind, slots=0):
@@ -108,12 +113,32 @@ def timed(command, path):
         return seconds, peaks[-1], status, output
 
 
+def plain_rust():
+    """The plain Rust program, built, or nothing where it can't be built."""
+    command = ["cargo", "build", "--release", "--quiet"]
+    if os.path.isdir(DEBIAN_SOURCES):
+        command += ["--offline", "--config", 'source.crates-io.replace-with="debian"', "--config", f'source.debian.directory="{DEBIAN_SOURCES}"']
+    try:
+        built = subprocess.run(command, cwd=PLAIN_RUST, stdout=subprocess.DEVNULL, stderr=subprocess.DEVNULL).returncode == 0
+    except FileNotFoundError:
+        built = False
+    return os.path.join(PLAIN_RUST, "target", "release", "plain_rust") if built else None
+
+
+def best(command, path):
+    """The run of the least time among a few."""
+    return min((timed(command, path) for _ in range(TRIES)), key=lambda run: run[0])
+
+
 def main():
     if not os.path.exists(PROGRAM):
         sys.exit("build the program first: ./gcaudit < examples/first.jsonl")
+    plain = plain_rust()
+    if plain is None:
+        print("bench/plain_rust can't be built here: its column stays empty")
     scale = 10 if "--small" in sys.argv else 1
     shapes = [(chain, 200_000), (tree, 250_000), (sparse, 250_000), (collections, 150_000), (roots, 250_000), (names, 250_000)]
-    print(f'{"trace":<12} {"lines":>9} {"MB":>6} {"lines/s":>10} {"MB/s":>6} {"peak MB":>8} {"x wc -l":>8} {"twice":>6}  end')
+    print(f'{"trace":<12} {"lines":>9} {"MB":>6} {"lines/s":>10} {"MB/s":>6} {"peak MB":>8} {"x wc -l":>8} {"x plain Rust":>12} {"twice":>6}  end')
     with tempfile.TemporaryDirectory() as folder:
         for shape, size in shapes:
             before = None
@@ -122,13 +147,17 @@ def main():
                 with open(path, "w") as trace:
                     trace.writelines(shape(n))
                 megabytes = os.path.getsize(path) / 1e6
-                count, _, _, output = timed(["wc", "-l"], path)
+                count, _, _, output = best(["wc", "-l"], path)
                 lines = int(output.split()[0])
-                seconds, peak, status, output = timed([PROGRAM], path)
+                seconds, peak, status, output = best([PROGRAM], path)
                 twice = f"{seconds / before:6.2f}" if before else ""
                 before = seconds
+                ratio = ""
+                if plain is not None:
+                    plain_seconds, _, _, plain_output = best([plain], path)
+                    ratio = f"{seconds / plain_seconds:.2f}" if plain_output == output else "DIFFERS"
                 end = output.decode().splitlines()[-1] if output else f"status {status}"
-                print(f"{shape.__name__:<12} {lines:>9} {megabytes:>6.1f} {lines / seconds:>10.0f} {megabytes / seconds:>6.1f} {peak / 1024:>8.1f} {seconds / count:>8.1f} {twice:>6}  {end}", flush=True)
+                print(f"{shape.__name__:<12} {lines:>9} {megabytes:>6.1f} {lines / seconds:>10.0f} {megabytes / seconds:>6.1f} {peak / 1024:>8.1f} {seconds / count:>8.1f} {ratio:>12} {twice:>6}  {end}", flush=True)
 
 
 if __name__ == "__main__":
