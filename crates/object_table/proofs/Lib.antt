@@ -1,7 +1,11 @@
 pub mod Entries
 pub mod Indexes
+pub mod Laid
+pub mod Mapped
 pub mod Named
+pub mod Parted
 pub mod Positions
 pub mod Refusals
 pub mod Rows
+pub mod Searches
 pub mod Tables

@@ -1,3 +1,4 @@
+pub mod Blocks
 pub mod Indexed
 pub mod Ordered
 pub mod Placed

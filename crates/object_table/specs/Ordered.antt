@@ -5,6 +5,10 @@ use Rattle.std.specs.List.Sorted.{IsPartitionPoint}
 use Rattle.std.specs.declared.cmp.Ordering.TheVariants.{Less, Equal, Greater}
 use Rattle.graph_meaning.specs.Heap.{name_cmp}
 
+-- each name is below those after it
+abbrev pub RisesByName : List (List ℕ × ℕ) → Type 0
+RisesByName roots = AllPairs (λ a b. name_cmp a.0 b.0 ≡ Less) roots
+
 -- Each name is below those after it, and there are at most 65,536.
 pub record IsOrdered (roots : List (List ℕ × ℕ)) : Type 0 where
   pub rising : AllPairs (λ a b. name_cmp a.0 b.0 ≡ Less) roots

@@ -1,6 +1,9 @@
 //! The table of objects, their slots, the roots and the types.
 #![tactic(auto)]
 
+mod block;
+mod blocks;
+mod entry;
 mod kinds;
 mod limits;
 mod object;

@@ -5,63 +5,17 @@ ghost use Rattle.std.specs.BTreeMap.{insert_entry, is_at};
 ghost use Rattle.graph_meaning.specs.Heap.{name_cmp};
 ghost use Rattle.object_table.specs.Ordered.{IsOrdered, IsNamedAt, IsGapFor};
 
+use crate::blocks::Blocks;
+use crate::entry::Entry;
 use heap_base::{Name, ObjId, OutOfMemory};
 use std::alloc::Global;
 use std::marker::Model;
-
-/// A name with the object that it holds, behind a box: a new name moves eight bytes for each one above it.
-#[derive(Drop)]
-struct Entry {
-    held: Box<(Name, ObjId)>,
-}
-
-impl Model for Entry {
-    ghost use Rattle.std.specs.Prelude.{List, ℕ};
-    ghost use Rattle.std.specs.Box.{box_value};
-
-    ghost Value = { List ℕ × ℕ };
-
-    ghost view = { λ e. box_value e.held };
-}
-
-impl Entry {
-    /// The name, holding the object.
-    fn make(alloc: Global, name: Name, id: ObjId) -> Result<Entry, OutOfMemory>
-        ensures { IfOk result (λ entry. entry ≡ (name, id)) }
-    {
-        Ok(Entry {
-            held: Box::new(alloc, (name, id))?,
-        })
-    }
-
-    /// The name.
-    fn name(&self) -> &Name
-        ensures { result.now ≡ self.now.0 }
-    {
-        &self.held.0
-    }
-
-    /// The object that it holds.
-    fn id(&self) -> ObjId
-        ensures { result ≡ self.now.1 }
-    {
-        self.held.1
-    }
-
-    /// Lets it hold another object.
-    fn hold(&mut self, id: ObjId)
-        ensures { self.new ≡ (self.old.0, id) }
-    {
-        self.held.1 = id;
-    }
-}
 
 /// The roots by the bytes of their names, at most 65,536, each with the object that it holds. Contracts see
 /// the list of those pairs.
 #[derive(Drop)]
 pub struct Roots {
-    entries: Vec<Entry>,
-    alloc: Global,
+    entries: Blocks,
 }
 
 impl Model for Roots {
@@ -70,9 +24,9 @@ impl Model for Roots {
 
     ghost Value = { List (List ℕ × ℕ) };
 
-    ghost view = { λ r. r.entries.items };
+    ghost view = { λ r. r.entries };
 
-    ghost invariant = { λ r. IsOrdered r.entries.items };
+    ghost invariant = { λ r. IsOrdered r.entries };
 }
 
 impl Roots {
@@ -81,8 +35,7 @@ impl Roots {
         ensures { result ≡ [] }
     {
         Roots {
-            entries: Vec::new(alloc),
-            alloc,
+            entries: Blocks::make(alloc),
         }
     }
 
@@ -99,7 +52,7 @@ impl Roots {
         requires { place < length self.now }
         ensures { IfSome (slice_get self.now place) (λ r. result.now ≡ r.0) }
     {
-        self.entries[place as usize].name()
+        self.entries.at(place as usize).name()
     }
 
     /// The object that the root at this place holds.
@@ -107,7 +60,7 @@ impl Roots {
         requires { place < length self.now }
         ensures { IfSome (slice_get self.now place) (λ r. result ≡ r.1) }
     {
-        self.entries[place as usize].id()
+        self.entries.at(place as usize).id()
     }
 
     /// Whether a root has this name.
@@ -126,13 +79,13 @@ impl Roots {
     {
         match self.search(name) {
             Ok(place) => {
-                self.entries[place].hold(id);
+                self.entries.hold(place, id);
                 Ok(())
             }
             Err(place) => {
                 let name = name.copy()?;
-                let entry = Entry::make(self.alloc, name, id)?;
-                Ok(self.entries.insert(place, entry)?)
+                self.entries.insert(place, Entry::make(name, id))?;
+                Ok(())
             }
         }
     }
@@ -153,8 +106,6 @@ impl Roots {
         ensures gap { IfErr result (IsGapFor name.now self.now) }
         ensures ordered { IsOrdered self.now }
     {
-        let text = name.as_str();
-        self.entries
-            .binary_search_by(|entry| entry.name().as_str().cmp(text))
+        self.entries.search(name)
     }
 }

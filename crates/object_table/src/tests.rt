@@ -160,3 +160,45 @@ fn roots_are_replaced_and_taken_away(rt: HostRuntime) -> Result<(), Fail> {
     assert_eq!(rt; Some(table.root_cell(0)), table.cell_of(id(2)?));
     Ok(())
 }
+
+// The numbers below 2,000 in a scattered order: the one at this place, odd where the place is odd.
+fn scattered(place: u32) -> u32 {
+    place % 2_000 * 1_237 % 2_000
+}
+
+// Whether the roots are those of every `step`th number from `first` on, in order.
+fn stand_in_order(alloc: Global, table: &ObjectTable, first: u32, step: u32) -> Result<bool, Fail> {
+    let mut number = first;
+    for root in 0..table.roots() {
+        let wanted = numbered(alloc, number)?;
+        let cell = table.cell_of(id(1 + number % 2)?);
+        if table.root_name(root).as_str() != wanted.as_str()
+            || Some(table.root_cell(root)) != cell
+        {
+            return Ok(false);
+        }
+        number = number.saturating_add(step);
+    }
+    Ok(true)
+}
+
+#[test]
+fn many_roots_stand_in_order(rt: HostRuntime) -> Result<(), Fail> {
+    let mut table = table_of(rt.alloc(), &[1, 2], 0)?;
+    for place in 0..2_000u32 {
+        let name = numbered(rt.alloc(), scattered(place))?;
+        table.set_root(&name, Some(id(1 + place % 2)?))?;
+    }
+    assert_eq!(rt; table.roots(), 2_000);
+    assert!(rt; stand_in_order(rt.alloc(), &table, 0, 1)?);
+    for half in 0..1_000u32 {
+        table.set_root(&numbered(rt.alloc(), scattered(2 * half))?, None)?;
+    }
+    assert_eq!(rt; table.roots(), 1_000);
+    assert!(rt; stand_in_order(rt.alloc(), &table, 1, 2)?);
+    for half in 0..1_000u32 {
+        table.set_root(&numbered(rt.alloc(), scattered(2 * half + 1))?, None)?;
+    }
+    assert_eq!(rt; table.roots(), 0);
+    Ok(())
+}

@@ -1,0 +1,49 @@
+ghost use Rattle.std.specs.Prelude.{◌≡◌};
+
+use heap_base::{Name, ObjId};
+use std::marker::Model;
+
+/// A root's name with the object that it holds. Contracts see that pair.
+#[derive(Drop)]
+pub struct Entry {
+    name: Name,
+    id: ObjId,
+}
+
+impl Model for Entry {
+    ghost use Rattle.std.specs.Prelude.{List, ℕ};
+
+    ghost Value = { List ℕ × ℕ };
+
+    ghost view = { λ e. (e.name, e.id) };
+}
+
+impl Entry {
+    /// The name, holding the object.
+    pub fn make(name: Name, id: ObjId) -> Entry
+        ensures { result ≡ (name, id) }
+    {
+        Entry { name, id }
+    }
+
+    /// The name.
+    pub fn name(&self) -> &Name
+        ensures { result.now ≡ self.now.0 }
+    {
+        &self.name
+    }
+
+    /// The object that it holds.
+    pub fn id(&self) -> ObjId
+        ensures { result ≡ self.now.1 }
+    {
+        self.id
+    }
+
+    /// Lets it hold another object.
+    pub fn hold(&mut self, id: ObjId)
+        ensures { self.new ≡ (self.old.0, id) }
+    {
+        self.id = id;
+    }
+}
