@@ -34,6 +34,7 @@ impl Object {
         Ok(Object { id, kind, slots })
     }
 
+    /// Its id.
     pub fn id(&self) -> ObjId
         ensures { result ≡ self.now.id }
     {
