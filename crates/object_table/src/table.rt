@@ -286,7 +286,7 @@ impl ObjectTable {
         if let Some(refusal) = self.not_live(id) {
             return Some(refusal);
         }
-        if !self.roots.has(name) && self.roots.len() >= MOST_ROOTS {
+        if self.roots.len() >= MOST_ROOTS && !self.roots.has(name) {
             Some(Refusal::TooManyRoots)
         } else {
             None

@@ -7,16 +7,16 @@ use Rattle.object_table.proofs.table.ObjectTable.root_refusal.Goals as goal
 pub returns-in-Some : goal.returns-in-Some
 returns-in-Some c = sym (root_dead c.args.self.now.table c.args.name.now c.args.id c.in-Some.refusal (sym c.not_live.ensures ∙ c.in-Some.is))
 
-pub returns-then-len-ge-MOST_ROOTS : goal.returns-then-len-ge-MOST_ROOTS
-returns-then-len-ge-MOST_ROOTS c =
+pub returns-then-not-has : goal.returns-then-not-has
+returns-then-not-has c =
     let t : Table = (placed_of c.self.inside.objects c.self.inside.roots c.self.inside.kinds c.self.inside.greatest).table in
     rw (← c.self.view_is) (sym (root_full t c.args.name.now c.args.id (rw (← c.self.view_is) at (sym c.not_live.ensures ∙ c.in_default.is)) (sym c.if-not-has.ensures) (omega arith)))
 
-pub returns-else-not-has : goal.returns-else-not-has
-returns-else-not-has c =
+pub returns-else-len-ge-MOST_ROOTS : goal.returns-else-len-ge-MOST_ROOTS
+returns-else-len-ge-MOST_ROOTS c =
     let t : Table = (placed_of c.self.inside.objects c.self.inside.roots c.self.inside.kinds c.self.inside.greatest).table in
     let live = rw (← c.self.view_is) at (sym c.not_live.ensures ∙ c.in_default.is) in
-    rw (← c.self.view_is) (sym (elim c.else-not-has.branch [
-      | goal.else-not-has-via-then-not-has+else-len-ge-MOST_ROOTS w ↦ root_room t c.args.name.now c.args.id live (omega arith)
-      | goal.else-not-has-via-else-not-has w ↦ root_there t c.args.name.now c.args.id live (sym w.if-not-has.ensures)
+    rw (← c.self.view_is) (sym (elim c.else-len-ge-MOST_ROOTS.branch [
+      | goal.else-len-ge-MOST_ROOTS-via-then-len-ge-MOST_ROOTS+else-not-has w ↦ root_there t c.args.name.now c.args.id live (sym w.if-not-has.ensures)
+      | goal.else-len-ge-MOST_ROOTS-via-else-len-ge-MOST_ROOTS w ↦ root_room t c.args.name.now c.args.id live (omega arith)
     ]))
