@@ -5,7 +5,8 @@ Usage: bench/run.py [--small]     (a tenth of the sizes)
 The program must be built: ./gcaudit < examples/first.jsonl builds it. Nothing here is part of the gate.
 Each trace is run at one size and at twice that size, so that the ratio of the two times can be read;
 `wc -l` over the same file, in the same run, is the yardstick for the machine. Where cargo can build it, the plain
-Rust program in bench/plain_rust runs over the same file as well, and must write the same report.
+Rust program in bench/plain_rust runs over the same file as well, and must write the same report; once more it only
+reads the lines, which no program can beat that makes a `Value` of each.
 """
 import os
 import subprocess
@@ -19,7 +20,7 @@ PROGRAM = os.path.join(TOP, "crates", "gcaudit", "out", "gcaudit")
 PLAIN_RUST = os.path.join(TOP, "bench", "plain_rust")
 # Where Debian's packages librust-serde-json-dev and librust-hashbrown-dev put the sources of crates.
 DEBIAN_SOURCES = "/usr/share/cargo/registry"
-TRIES = 3
+TRIES = 5
 
 
 def alloc(id, kind, slots=0):
@@ -125,9 +126,10 @@ def plain_rust():
     return os.path.join(PLAIN_RUST, "target", "release", "plain_rust") if built else None
 
 
-def best(command, path):
-    """The run of the least time among a few."""
-    return min((timed(command, path) for _ in range(TRIES)), key=lambda run: run[0])
+def best(commands, path):
+    """Of each command the run of the least time; they take turns, since a shared machine is faster at one moment than at another."""
+    runs = [[timed(command, path) for command in commands] for _ in range(TRIES)]
+    return [min(tries, key=lambda run: run[0]) for tries in zip(*runs)]
 
 
 def main():
@@ -138,7 +140,7 @@ def main():
         print("bench/plain_rust can't be built here: its column stays empty")
     scale = 10 if "--small" in sys.argv else 1
     shapes = [(chain, 200_000), (tree, 250_000), (sparse, 250_000), (collections, 150_000), (roots, 250_000), (names, 250_000)]
-    print(f'{"trace":<12} {"lines":>9} {"MB":>6} {"lines/s":>10} {"MB/s":>6} {"peak MB":>8} {"x wc -l":>8} {"x plain Rust":>12} {"twice":>6}  end')
+    print(f'{"trace":<12} {"lines":>9} {"MB":>6} {"lines/s":>10} {"MB/s":>6} {"peak MB":>8} {"x wc -l":>8} {"x plain Rust":>12} {"x only read":>11} {"twice":>6}  end')
     with tempfile.TemporaryDirectory() as folder:
         for shape, size in shapes:
             before = None
@@ -147,17 +149,18 @@ def main():
                 with open(path, "w") as trace:
                     trace.writelines(shape(n))
                 megabytes = os.path.getsize(path) / 1e6
-                count, _, _, output = best(["wc", "-l"], path)
-                lines = int(output.split()[0])
-                seconds, peak, status, output = best([PROGRAM], path)
+                commands = [["wc", "-l"], [PROGRAM]] + ([[plain], [plain, "--only-read"]] if plain else [])
+                counted, run, *others = best(commands, path)
+                lines = int(counted[3].split()[0])
+                seconds, peak, status, output = run
                 twice = f"{seconds / before:6.2f}" if before else ""
                 before = seconds
-                ratio = ""
-                if plain is not None:
-                    plain_seconds, _, _, plain_output = best([plain], path)
-                    ratio = f"{seconds / plain_seconds:.2f}" if plain_output == output else "DIFFERS"
+                ratio = only_read = ""
+                if others:
+                    ratio = f"{seconds / others[0][0]:.2f}" if others[0][3] == output else "DIFFERS"
+                    only_read = f"{seconds / others[1][0]:.2f}"
                 end = output.decode().splitlines()[-1] if output else f"status {status}"
-                print(f"{shape.__name__:<12} {lines:>9} {megabytes:>6.1f} {lines / seconds:>10.0f} {megabytes / seconds:>6.1f} {peak / 1024:>8.1f} {seconds / count:>8.1f} {ratio:>12} {twice:>6}  {end}", flush=True)
+                print(f"{shape.__name__:<12} {lines:>9} {megabytes:>6.1f} {lines / seconds:>10.0f} {megabytes / seconds:>6.1f} {peak / 1024:>8.1f} {seconds / counted[0]:>8.1f} {ratio:>12} {only_read:>11} {twice:>6}  {end}", flush=True)
 
 
 if __name__ == "__main__":

@@ -1,18 +1,21 @@
 //! What `bench/run.py` measures gcaudit against: the same lines, read with serde_json's `Value`, cut and applied
 //! with nothing proved. It knows the operations of the measured traces, and ends at the first line that it refuses.
+//! With the word `--only-read` it reads the lines and applies nothing.
+use hashbrown::HashMap;
 use serde_json::Value;
-use hashbrown::{HashMap, HashSet};
 use std::collections::{BTreeMap, BTreeSet};
 use std::io::{self, BufRead, BufReader, BufWriter, Write};
 
 struct Object {
+    id: u32,
     kind: u32,
-    slots: Vec<Option<u32>>,
+    slots: Box<[Option<u32>]>,
 }
 
 #[derive(Default)]
 struct Heap {
-    objects: HashMap<u32, Object>,
+    // By id, which rises.
+    objects: Vec<Object>,
     roots: BTreeMap<String, u32>,
     kinds: HashMap<String, u32>,
     kind_names: Vec<String>,
@@ -44,8 +47,12 @@ impl Heap {
         kind
     }
 
+    fn place(&self, id: u32) -> Option<usize> {
+        self.objects.binary_search_by_key(&id, |object| object.id).ok()
+    }
+
     fn is_live(&self, id: Option<u32>) -> bool {
-        id.map_or(true, |id| self.objects.contains_key(&id))
+        id.map_or(true, |id| self.place(id).is_some())
     }
 
     fn alloc(&mut self, value: &Value) -> Option<()> {
@@ -60,7 +67,7 @@ impl Heap {
         }
         let kind = self.kind_of(name);
         self.greatest = id;
-        self.objects.insert(id, Object { kind, slots: vec![None; slots] });
+        self.objects.push(Object { id, kind, slots: vec![None; slots].into_boxed_slice() });
         Some(())
     }
 
@@ -69,7 +76,8 @@ impl Heap {
         if !self.is_live(to) {
             return None;
         }
-        *self.objects.get_mut(&at)?.slots.get_mut(slot as usize)? = to;
+        let place = self.place(at)?;
+        *self.objects[place].slots.get_mut(slot as usize)? = to;
         Some(())
     }
 
@@ -95,44 +103,45 @@ impl Heap {
     }
 
     fn collect(&mut self, out: &mut impl Write) -> io::Result<()> {
-        let mut marked: HashSet<u32> = HashSet::with_capacity(self.objects.len());
-        let mut worklist: Vec<u32> = Vec::new();
-        for id in self.roots.values() {
-            if marked.insert(*id) {
-                worklist.push(*id);
+        let mut marked = vec![false; self.objects.len()];
+        let mut worklist: Vec<usize> = Vec::new();
+        let mut traced = 0;
+        let mut meet = |id: u32, marked: &mut [bool], worklist: &mut Vec<usize>| {
+            let place = self.objects.binary_search_by_key(&id, |object| object.id).expect("a live object");
+            if !std::mem::replace(&mut marked[place], true) {
+                traced += 1;
+                worklist.push(place);
             }
+        };
+        for id in self.roots.values() {
+            meet(*id, &mut marked, &mut worklist);
         }
-        while let Some(id) = worklist.pop() {
-            for to in self.objects[&id].slots.iter().flatten() {
-                if marked.insert(*to) {
-                    worklist.push(*to);
-                }
+        while let Some(place) = worklist.pop() {
+            for to in self.objects[place].slots.iter().flatten() {
+                meet(*to, &mut marked, &mut worklist);
             }
         }
         self.collections += 1;
-        let (gc, live, traced) = (self.collections, self.objects.len(), marked.len());
+        let (gc, live) = (self.collections, self.objects.len());
         writeln!(out, "gc {gc} live {live} traced {traced} freed {}", live - traced)?;
-        for id in &self.dead {
-            if marked.contains(id) {
-                let name = &self.kind_names[self.objects[id].kind as usize];
-                writeln!(out, "gc {gc} dead {id} {name}: path left out")?;
-                self.violations += 1;
-            }
+        let violated: Vec<u32> = self.dead.iter().copied().filter(|id| self.place(*id).is_some_and(|place| marked[place])).collect();
+        for id in &violated {
+            let object = &self.objects[self.place(*id).expect("a live object")];
+            writeln!(out, "gc {gc} dead {id} {}: path left out", self.kind_names[object.kind as usize])?;
         }
-        self.objects.retain(|id, _| marked.contains(id));
-        self.dead.retain(|id| marked.contains(id));
+        self.violations += violated.len() as u64;
+        self.dead = violated.into_iter().collect();
+        let mut marks = marked.iter();
+        self.objects.retain(|_| *marks.next().expect("a mark for each object"));
         out.flush()
     }
 
-    fn apply(&mut self, line: &[u8], out: &mut impl Write) -> io::Result<Option<()>> {
-        let Ok(value) = serde_json::from_slice::<Value>(line) else {
-            return Ok(None);
-        };
+    fn apply(&mut self, value: &Value, out: &mut impl Write) -> io::Result<Option<()>> {
         Ok(match value.get("op").and_then(Value::as_str) {
-            Some("alloc") => self.alloc(&value),
-            Some("store") => self.store(&value),
-            Some("root") => self.root(&value),
-            Some("assert-dead") => self.assert_dead(&value),
+            Some("alloc") => self.alloc(value),
+            Some("store") => self.store(value),
+            Some("root") => self.root(value),
+            Some("assert-dead") => self.assert_dead(value),
             Some("collect") => Some(self.collect(out)?),
             _ => None,
         })
@@ -140,6 +149,7 @@ impl Heap {
 }
 
 fn main() -> io::Result<()> {
+    let only_read = std::env::args().nth(1).as_deref() == Some("--only-read");
     let mut input = BufReader::with_capacity(1 << 16, io::stdin().lock());
     let mut out = BufWriter::new(io::stdout().lock());
     let mut heap = Heap::default();
@@ -151,7 +161,12 @@ fn main() -> io::Result<()> {
             break;
         }
         number += 1;
-        if heap.apply(&line, &mut out)?.is_none() {
+        let taken = match serde_json::from_slice::<Value>(&line) {
+            Ok(value) if only_read => value.get("op").map(|_| ()),
+            Ok(value) => heap.apply(&value, &mut out)?,
+            Err(_) => None,
+        };
+        if taken.is_none() {
             writeln!(out, "fault line {number}")?;
             return Ok(());
         }
