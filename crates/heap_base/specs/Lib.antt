@@ -1,4 +1,5 @@
 pub mod Causes
+pub mod Counting
 pub mod Counts
 pub mod Memory
 pub mod Names
