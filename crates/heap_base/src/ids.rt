@@ -1,5 +1,7 @@
 ghost use Rattle.std.specs.Prelude.{◌≡◌, ◌<◌, ◌≤◌, ◌==◌, ◌^◌, Some, None, nat_lt, if◌then◌else◌};
+ghost use Rattle.heap_base.specs.declared.limits.TheConstants.{MOST_THREADS};
 
+use crate::MOST_THREADS;
 use std::marker::Model;
 
 /// The id of an object: 1 to 4,294,967,295. Contracts see it as that number.
@@ -45,12 +47,13 @@ pub struct ThreadNo {
 
 impl Model for ThreadNo {
     ghost use Rattle.std.specs.Prelude.{ℕ, ◌<◌};
+    ghost use Rattle.heap_base.specs.declared.limits.TheConstants.{MOST_THREADS};
 
     ghost Value = { ℕ };
 
     ghost view = { λ t. t.number };
 
-    ghost invariant = { λ t. t.number < 1024 };
+    ghost invariant = { λ t. t.number < MOST_THREADS };
 
     ghost inverse = { λ n. record { number = n } };
 }
@@ -58,9 +61,9 @@ impl Model for ThreadNo {
 impl ThreadNo {
     /// The thread with this number, and `None` exactly above 1,023.
     pub fn of(n: u32) -> Option<ThreadNo>
-        ensures { result ≡ (if nat_lt n 1024 then Some n else None) }
+        ensures { result ≡ (if nat_lt n MOST_THREADS then Some n else None) }
     {
-        if n < 1024 {
+        if n < MOST_THREADS {
             Some(ThreadNo { number: n })
         } else {
             None
@@ -70,7 +73,7 @@ impl ThreadNo {
     /// The number that `of` was given.
     pub fn number(self) -> u32
         ensures value { result ≡ self }
-        ensures below { self < 1024 }
+        ensures below { self < MOST_THREADS }
     {
         self.number
     }

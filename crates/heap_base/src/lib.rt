@@ -6,6 +6,7 @@
 mod errors;
 mod gate;
 mod ids;
+mod limits;
 mod memory;
 mod names;
 mod sink;
@@ -19,6 +20,10 @@ mod tests;
 pub use errors::{Failed, OutOfMemory};
 pub use gate::{Gate, OpenGate};
 pub use ids::{ObjId, ThreadNo};
+pub use limits::{
+    LONGEST_LINE, LONGEST_NAME, LONGEST_TRACE, MOST_KINDS, MOST_OBJECTS, MOST_REGIONS, MOST_ROOTS,
+    MOST_SLOTS, MOST_STEPS, MOST_THREADS, USUAL_PATHS,
+};
 pub use memory::{MemSink, MemSource};
 pub use names::Name;
 pub use sink::{Sink, put_all};

@@ -2,7 +2,7 @@ ghost use Rattle.std.specs.Prelude.{◌≡◌, Some, None, IfOk, IsTrue, if◌th
 ghost use Rattle.std.specs.List.{list_all};
 ghost use Rattle.heap_base.specs.Names.{is_name, is_name_byte};
 
-use crate::OutOfMemory;
+use crate::{LONGEST_NAME, OutOfMemory};
 use std::alloc::Global;
 use std::marker::Model;
 
@@ -57,7 +57,7 @@ impl Name {
 fn is_legal(text: &str) -> bool
     ensures { result ≡ is_name text.now }
 {
-    1 <= text.len() && text.len() <= 256 && has_no_control(text.as_bytes())
+    1 <= text.len() && text.len() <= LONGEST_NAME && has_no_control(text.as_bytes())
 }
 
 fn has_no_control(bytes: &[u8]) -> bool
