@@ -1,6 +1,14 @@
+pub mod ByPaths
 pub mod Computed
+pub mod Counting
+pub mod Distances
+pub mod Edges
 pub mod HeapLemmas
+pub mod Keeping
 pub mod Membership
+pub mod Orders
 pub mod Reaching
-pub mod Live
 pub mod Rising
+pub mod Tracing
+pub mod Ways
+pub mod Weak

@@ -3,7 +3,7 @@ use Rattle.std.proofs.Common.{◌≡◌, ℕ, zero, suc, ◌<◌, ◌≤◌, Boo
 use Rattle.std.specs.List.{list_any}
 use Rattle.std.proofs.lemmas.Bool.{or_cases, or_left, or_right, and_parts, and_from, cases_lt}
 use Rattle.std.proofs.lemmas.Bool.Decides.{same_from_decides}
-use Rattle.graph_meaning.specs.Reach.{Graph, has_id, HasEdge, IsPath, IsReachable, further, within, reached, ReachedIsReachable}
+use Rattle.graph_meaning.specs.Reach.{Graph, has_id, HasEdge, IsPath, IsReachable, next_round, within, reached_nodes, ReachedByPath}
 use Rattle.graph_meaning.proofs.Membership.{filter_itself, has_id-filter, list_any-from_has_id, has_id-from_list_any, length-filter_le, filter-same_length}
 
 -- a path and one more edge are a path
@@ -75,7 +75,7 @@ module _ (g : Graph) (sources : List ℕ) where
 
   same_next : (n : ℕ) → within g sources n ≡ within g sources (suc n) → within g sources (suc n) ≡ within g sources (suc (suc n))
   unfolding within
-  same_next n same = ap (further g) same
+  same_next n same = ap (next_round g) same
 
   many_or_same : (n : ℕ) → (n < length (within g sources (suc n))) ⊎ (within g sources n ≡ within g sources (suc n))
   many_or_same zero = ⊎_elim (λ more. inl (omega arith)) (λ same. inr same) (more_or_same zero)
@@ -99,27 +99,27 @@ module _ (g : Graph) (sources : List ℕ) where
       has_id-filter (grown (within g sources n)) g.nodes x ∙ and_from _ _ (or_left _ _ (source_within n x source node)) node
 
 -- one more round finds nothing new
-pub reached-further : (g : Graph) (sources : List ℕ) → further g (reached g sources) ≡ reached g sources
-unfolding reached within
-reached-further g sources = sym (same_at_last g sources)
+pub reached_nodes-next_round : (g : Graph) (sources : List ℕ) → next_round g (reached_nodes g sources) ≡ reached_nodes g sources
+unfolding reached_nodes within
+reached_nodes-next_round g sources = sym (same_at_last g sources)
 
 -- only nodes are reached
-pub reached-in_nodes : (g : Graph) (sources : List ℕ) (y : ℕ) → IsTrue (has_id (reached g sources) y) → IsTrue (has_id g.nodes y)
-unfolding reached
-reached-in_nodes g sources y at = within-in_nodes g sources (length g.nodes) y at
+pub reached_nodes-in_nodes : (g : Graph) (sources : List ℕ) (y : ℕ) → IsTrue (has_id (reached_nodes g sources) y) → IsTrue (has_id g.nodes y)
+unfolding reached_nodes
+reached_nodes-in_nodes g sources y at = within-in_nodes g sources (length g.nodes) y at
 
 -- the sources that are nodes are reached
-source_reached : (g : Graph) (sources : List ℕ) (x : ℕ) → IsTrue (has_id sources x) → IsTrue (has_id g.nodes x) → IsTrue (has_id (reached g sources) x)
-unfolding reached
+source_reached : (g : Graph) (sources : List ℕ) (x : ℕ) → IsTrue (has_id sources x) → IsTrue (has_id g.nodes x) → IsTrue (has_id (reached_nodes g sources) x)
+unfolding reached_nodes
 source_reached g sources x source node = source_within g sources (length g.nodes) x source node
 
 -- What is reached is closed.
-pub reached-closed : (g : Graph) (sources : List ℕ) → IsClosed g sources (has_id (reached g sources))
-reached-closed g sources = record {
+pub reached_nodes-closed : (g : Graph) (sources : List ℕ) → IsClosed g sources (has_id (reached_nodes g sources))
+reached_nodes-closed g sources = record {
   from_sources = source_reached g sources;
   along_edges = λ x y at passes edge.
-      let found = reached g sources in
-      subst (λ ys. has_id ys y ≡ true) (reached-further g sources)
+      let found = reached_nodes g sources in
+      subst (λ ys. has_id ys y ≡ true) (reached_nodes-next_round g sources)
       (has_id-filter (grown g sources found) g.nodes y ∙ and_from _ _ (or_right _ _ (list_any-from_has_id (λ z. g.passable z && has_id (g.targets z) y) found x at (and_from _ _ passes edge.0))) edge.1);
 }
 
@@ -134,14 +134,39 @@ pub IsClosed-reachable : (g : Graph) (sources : List ℕ) (m : ℕ → Bool) →
 IsClosed-reachable g sources m closed y r =
     closed_path g sources m closed r.0 r.1 y (closed.from_sources r.0 r.2 r.3) r.4
 
-pub reached_is_reachable : ReachedIsReachable
-unfolding reached
+pub reached_is_reachable : ReachedByPath
+unfolding reached_nodes
 reached_is_reachable g sources y = (
   reachable_within g sources (length g.nodes) y,
-  IsClosed-reachable g sources (has_id (reached g sources)) (reached-closed g sources) y,
+  IsClosed-reachable g sources (has_id (reached_nodes g sources)) (reached_nodes-closed g sources) y,
 )
 
 -- A closed test that passes reachable nodes alone passes exactly what is reached.
-pub IsClosed-is_reached : (g : Graph) (sources : List ℕ) (m : ℕ → Bool) → IsClosed g sources m → ((y : ℕ) → IsTrue (m y) → IsReachable g sources y) → (y : ℕ) → m y ≡ has_id (reached g sources) y
-IsClosed-is_reached g sources m closed only y =
-    same_from_decides (m y) (has_id (reached g sources) y) (only y, IsClosed-reachable g sources m closed y) (reached_is_reachable g sources y)
+pub IsClosed-is_reached : (g : Graph) (sources : List ℕ) (m : ℕ → Bool) → IsClosed g sources m → ((y : ℕ) → IsTrue (m y) → IsReachable g sources y) → (y : ℕ) → m y ≡ has_id (reached_nodes g sources) y
+IsClosed-is_reached g sources m closed with_only y =
+    same_from_decides (m y) (has_id (reached_nodes g sources) y) (with_only y, IsClosed-reachable g sources m closed y) (reached_is_reachable g sources y)
+
+-- A node that is reached is a source, or an edge leads to it from a passable node that is reached.
+pub reached_nodes-last : (g : Graph) (sources : List ℕ) (y : ℕ) → IsTrue (has_id (reached_nodes g sources) y) → IsTrue (has_id sources y || list_any (λ x. g.passable x && has_id (g.targets x) y) (reached_nodes g sources))
+reached_nodes-last g sources y at =
+    let found = reached_nodes g sources in
+    let arrived = λ (z : ℕ). has_id sources z || list_any (λ x. g.passable x && has_id (g.targets x) z) found in
+    let m = λ (z : ℕ). has_id g.nodes z && arrived z in
+    let closed_found = reached_nodes-closed g sources in
+    let is_found = λ (z : ℕ) (passes : IsTrue (m z)).
+    let both = and_parts _ _ passes in
+    let found_at : IsTrue (has_id found z) =
+    ⊎_elim
+    (λ source. closed_found.from_sources z source both.0)
+    (λ beyond.
+    let step = has_id-from_list_any (λ x. g.passable x && has_id (g.targets x) z) found beyond in
+    let edge = and_parts _ _ step.2 in
+    closed_found.along_edges step.0 z step.1 edge.0 (edge.1, both.0))
+    (or_cases _ _ both.1) in
+    found_at in
+    let closed : IsClosed g sources m = record {
+      from_sources = λ z source node. and_from _ _ node (or_left _ _ source);
+      along_edges = λ x z passes passable edge.
+          and_from _ _ edge.1 (or_right _ _ (list_any-from_has_id (λ u. g.passable u && has_id (g.targets u) z) found x (is_found x passes) (and_from _ _ passable edge.0)));
+    } in
+    (and_parts _ _ (IsClosed-reachable g sources m closed y ((reached_is_reachable g sources y).0 at))).1

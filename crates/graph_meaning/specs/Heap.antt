@@ -1,17 +1,23 @@
 -- What a heap is, as a trace describes it.
-use Rattle.std.specs.Prelude.{ℕ, List, [], ◌==◌, Bool, Option, None, is_some, find, map, length, replicate, slice_index_or, sum_by}
-use Rattle.std.specs.List.{list_any, filter_map}
-use Rattle.std.specs.Option.{option_map_or}
+use Rattle.std.specs.Prelude.{ℕ, List, [], ◌==◌, Bool, false, if◌then◌else◌, Option, None, is_some, find, map, length, replicate, slice_index_or, sum_by}
+use Rattle.std.specs.List.{list_any, filter_map, enumerate_from}
+use Rattle.std.specs.Option.{option_map, option_map_or}
 use Rattle.std.specs.Ordering.{nat_cmp}
 use Rattle.std.specs.declared.cmp.Ordering.{Ordering}
 use Rattle.std.specs.Cmp.Lexicographic.{slice_cmp}
 use Rattle.std.specs.Str.{bytes_eq}
+use Rattle.heap_base.specs.declared.limits.TheConstants.{MOST_THREADS}
 
--- An object: its id, the name of its type, and what its slots hold, each nothing or the id of an object.
+-- A slot: what it holds, nothing or the id of an object, and whether it is weak.
+pub record Slot : Type 0 where
+  pub held : Option ℕ
+  pub weak : Bool
+
+-- An object: its id, the name of its type, and its slots.
 pub record Object : Type 0 where
   pub id : ℕ
   pub kind : List ℕ
-  pub slots : List (Option ℕ)
+  pub slots : List Slot
 
 -- The objects by id rising; the roots by the bytes of their names rising, each with the id of the object that it
 -- holds; the greatest id that was ever allocated, 0 before the first; and the type names that were seen, in the
@@ -37,12 +43,15 @@ pub record Heap : Type 0 where
 abbrev pub name_cmp : List ℕ → List ℕ → Ordering
 name_cmp = slice_cmp nat_cmp
 
+abbrev pub empty_slot : Slot
+empty_slot = record { held = None; weak = false }
+
 abbrev pub empty_table : Table
 empty_table = record { objects = []; roots = []; greatest = 0; kinds = [] }
 
--- no region of any of the 1,024 threads is open
+-- no region of any thread is open
 abbrev pub no_regions : List (List (List ℕ))
-no_regions = replicate 1024 []
+no_regions = replicate MOST_THREADS []
 
 -- the heap at the beginning of a trace
 abbrev pub empty_heap : Heap
@@ -74,14 +83,28 @@ is_seen kinds kind = list_any (bytes_eq kind) kinds
 abbrev pub regions_of : List (List (List ℕ)) → ℕ → List (List ℕ)
 regions_of regions thread = slice_index_or regions thread []
 
--- What a slot leads to. This is the one place that says which slots are edges: those that hold an object.
-abbrev pub edge_of : Option ℕ → Option ℕ
-edge_of slot = slot
+-- ---- edges
 
--- what an edge from slot k of the object x leads to
-abbrev pub edge_at : Table → ℕ → ℕ → Option ℕ
-edge_at t x k = option_map_or (λ o. edge_of (slice_index_or o.slots k None)) (object_at t.objects x) None
+-- What a slot leads to. This is the one place that says which slots are edges: those that aren't weak and hold an object.
+abbrev pub edge_of : Slot → Option ℕ
+edge_of slot = if slot.weak then None else slot.held
+
+-- the edge by a slot with its number, if it is one
+abbrev pub numbered_edge : ℕ × Slot → Option (ℕ × ℕ)
+numbered_edge slot = option_map (λ y. (slot.0, y)) (edge_of slot.1)
+
+-- The edges by these slots, in order: each the number of its slot, from 0, and the id of the object that it leads to.
+abbrev pub edges_of : List Slot → List (ℕ × ℕ)
+edges_of slots = filter_map numbered_edge (enumerate_from 0 slots)
+
+-- the edges of the object x
+abbrev pub edges : Table → ℕ → List (ℕ × ℕ)
+edges t x = option_map_or (λ o. edges_of o.slots) (object_at t.objects x) []
 
 -- what the edges of an object lead to, in the order of its slots
 abbrev pub targets : Table → ℕ → List ℕ
-targets t x = option_map_or (λ o. filter_map edge_of o.slots) (object_at t.objects x) []
+targets t x = map (λ e. e.1) (edges t x)
+
+-- what an edge from slot k of the object x leads to
+abbrev pub edge_at : Table → ℕ → ℕ → Option ℕ
+edge_at t x k = option_map_or (λ o. edge_of (slice_index_or o.slots k empty_slot)) (object_at t.objects x) None

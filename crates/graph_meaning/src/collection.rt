@@ -40,12 +40,13 @@ pub enum Verdict {
 pub type VerdictList = Sequence<Verdict>;
 
 /// What a collection found: its number from 1, how many objects were live before it, how many were reached
-/// and stay, how many were freed, and the violated assertions.
+/// and stay, how many were freed, how many slots and roots were cleared, and the violated assertions.
 #[derive(Debug, Drop)]
 pub struct Collection {
     pub number: u64,
     pub live: u32,
     pub traced: u32,
     pub freed: u32,
+    pub cleared: u32,
     pub verdicts: VerdictList,
 }

@@ -1,3 +1,5 @@
+use heap_base::OutOfMemory;
+
 /// The fields of the operations, as they stand in a trace.
 #[derive(Clone, Copy, Debug, PartialEq, Eq)]
 pub enum FieldName {
@@ -13,12 +15,13 @@ pub enum FieldName {
     LimitField,
     OwnerField,
     OwneeField,
+    WeakField,
 }
 
 /// Why a line of a trace is refused. A refused line changes nothing.
 #[derive(Clone, Copy, Debug, PartialEq, Eq)]
 pub enum Refusal {
-    /// The line has more than 65,536 bytes.
+    /// The line has more than 65,536 bytes, without its newline.
     LineTooLong,
     /// The trace has more bytes than its limit.
     TraceTooLong,
@@ -59,4 +62,26 @@ pub enum Refusal {
 pub enum Stop {
     Refused(Refusal),
     OutOfMemory,
+}
+
+impl From<Refusal> for Stop {
+    ghost use Rattle.std.specs.Prelude.{◌≡◌};
+    ghost use Rattle.graph_meaning.specs.declared.refusal.Stop.{Stop};
+
+    ghost from_gives = { λ refusal stop. stop ≡ Stop.Refused refusal };
+
+    fn from(refusal: Refusal) -> Stop {
+        Stop::Refused(refusal)
+    }
+}
+
+impl From<OutOfMemory> for Stop {
+    ghost use Rattle.std.specs.Prelude.{◌≡◌};
+    ghost use Rattle.graph_meaning.specs.declared.refusal.Stop.{Stop};
+
+    ghost from_gives = { λ _ stop. stop ≡ Stop.OutOfMemory };
+
+    fn from(_: OutOfMemory) -> Stop {
+        Stop::OutOfMemory
+    }
 }

@@ -21,8 +21,8 @@ pub use errors::{Failed, OutOfMemory};
 pub use gate::{Gate, OpenGate};
 pub use ids::{ObjId, ThreadNo};
 pub use limits::{
-    LONGEST_LINE, LONGEST_NAME, LONGEST_TRACE, MOST_KINDS, MOST_OBJECTS, MOST_REGIONS, MOST_ROOTS,
-    MOST_SLOTS, MOST_STEPS, MOST_THREADS, USUAL_PATHS,
+    END_STEPS, LONGEST_LINE, LONGEST_NAME, LONGEST_TRACE, MOST_KINDS, MOST_OBJECTS, MOST_REGIONS,
+    MOST_ROOTS, MOST_SLOTS, MOST_THREADS, USUAL_PATHS,
 };
 pub use memory::{MemSink, MemSource};
 pub use names::Name;

@@ -31,5 +31,5 @@ pub const MOST_KINDS: u32 = 65_536;
 /// A collection shows paths with so many of its violations, where nothing else is asked for.
 pub const USUAL_PATHS: u32 = 100;
 
-/// Of a longer path so many steps are shown, half of them its first and half its last.
-pub const MOST_STEPS: u32 = 64;
+/// Of a path of more than twice as many steps, so many of the first and so many of the last are shown.
+pub const END_STEPS: u32 = 32;
