@@ -1,5 +1,5 @@
 -- What a heap keeps in order stays so, and there are never more roots and slots than there may be.
-use Rattle.std.proofs.Common.{◌≡◌, ℕ, ◌+◌, ◌≤◌, Bool, true, false, not, cond, ⊎_elim, List, [], ◌∷◌, length, filter, map, replicate, fold, get_or, sym, ap, refl, subst, ◌∙◌, arith, All, Option, None, Some, Result, Ok, Err, IfOk, slice_set}
+use Rattle.std.proofs.Common.{◌≡◌, ℕ, ◌+◌, ◌<◌, ◌≤◌, ◌++◌, ◌&&◌, Bool, true, false, not, cond, ⊎_elim, List, [], ◌∷◌, length, filter, map, replicate, fold, get_or, sym, ap, refl, subst, ◌∙◌, arith, All, Option, None, Some, Result, Ok, Err, IfOk, slice_set}
 use Rattle.std.specs.Prelude.{sum_by, unwrap_or, slice_index_or, nat_le, nat_lt, ◌==◌}
 use Rattle.std.specs.Cmp.{IsTotalOrder}
 use Rattle.std.specs.List.Sorted.{IsStrictlySortedBy}
@@ -12,23 +12,23 @@ use Rattle.std.specs.declared.cmp.Ordering.{Ordering}
 use Rattle.std.specs.declared.cmp.Ordering.TheVariants.{Less, Equal, Greater}
 use Rattle.std.proofs.lemmas.Bool.{false≢true, and_cases, leb-false, ltb-false}
 use Rattle.std.proofs.lemmas.Cmp.{nat_cmp_total, nat_list_cmp_total}
-use Rattle.std.proofs.lemmas.List.{length-map, length-set, length-replicate}
+use Rattle.std.proofs.lemmas.List.{length-append, length-map, length-set, length-replicate}
 use Rattle.std.proofs.lemmas.List.Elements.{All-nil, All-cons, All-head, All-tail, All-weaker, All-from_recursion, recursion_from_All}
 use Rattle.std.proofs.lemmas.List.Kept.{IsStrictlySortedBy-filter}
 use Rattle.std.proofs.lemmas.List.Sums.{sum_by-cons, sum_by-append}
 use Rattle.std.proofs.lemmas.Map.Entries.{sum_by-insert_entry}
 use Rattle.std.proofs.lemmas.Map.Keys.{sorted_head, sorted_tail}
 use Rattle.std.proofs.lemmas.Map.Views.{All-insert_key, All-map-remove_entry}
-use Rattle.heap_base.specs.declared.limits.TheConstants.{MOST_OBJECTS, MOST_SLOTS, MOST_ROOTS}
+use Rattle.heap_base.specs.declared.limits.TheConstants.{MOST_OBJECTS, MOST_SLOTS, MOST_ROOTS, MOST_KINDS}
 use Rattle.graph_meaning.specs.declared.event.Event.{Event}
 use Rattle.graph_meaning.specs.declared.event.Event.TheVariants.{Alloc, Store, SetWeak, Root, AssertDead, StartRegion, AssertAllDead, AssertInstances, AssertUnshared, AssertOwnedBy, Collect}
 use Rattle.graph_meaning.specs.declared.refusal.Refusal.{Refusal}
 use Rattle.graph_meaning.specs.declared.refusal.Refusal.TheVariants.{IdNotRising, TooManyObjects, TooManySlots}
 use Rattle.graph_meaning.specs.Reach.{has_id}
-use Rattle.graph_meaning.specs.Heap.{Slot, Object, Table, Heap, empty_heap, empty_slot, name_cmp, regions_of, slot_count}
+use Rattle.graph_meaning.specs.Heap.{Slot, Object, Table, Heap, empty_heap, empty_slot, name_cmp, is_seen, regions_of, slot_count}
 use Rattle.graph_meaning.specs.Assertions.{traced_ids}
 use Rattle.graph_meaning.specs.Collecting.{Rules, slot_without, object_without, with_only, ids_to_clear, after_sweep, after_collection}
-use Rattle.graph_meaning.specs.Step.{first_refusal, refusal_where, kind_refusal, alloc_refusal, root_refusal, is_root, with_object, slot_holding, slot_made_weak, with_changed_slot, with_root, with_slot, step}
+use Rattle.graph_meaning.specs.Step.{first_refusal, refusal_where, kind_refusal, alloc_refusal, root_refusal, is_root, with_kind, with_object, slot_holding, slot_made_weak, with_changed_slot, with_root, with_slot, step}
 use Rattle.graph_meaning.specs.Laws.{IsOrdered, IsWithinLimits, HeapsAreOrdered, LimitsAreKept}
 use Rattle.graph_meaning.proofs.Membership.{map-filter, length-filter_le}
 use Rattle.graph_meaning.proofs.Keeping.{first_of-None, refusal_where-None, IfOk-unless}
@@ -242,21 +242,49 @@ alloc_few t id kind slots none =
     let n = length-replicate slots empty_slot in
     omega arith
 
-alloc_roots : (t : Table) (id : ℕ) (kind : List ℕ) (slots : ℕ) → length t.roots ≤ MOST_ROOTS → length (with_object t id kind slots).roots ≤ MOST_ROOTS
+-- no type is new where as many as there may be were seen
+kinds_few : (t : Table) (kind : List ℕ) → kind_refusal t kind ≡ None → length t.kinds ≤ MOST_KINDS → length (with_kind t.kinds kind) ≤ MOST_KINDS
+kinds_few t kind none few = go (is_seen t.kinds kind) (refusal_where-None _ _ none)
+  where
+    go : (b : Bool) → (not b && nat_le MOST_KINDS (length t.kinds)) ≡ false → length (cond b t.kinds (t.kinds ++ kind ∷ [])) ≤ MOST_KINDS
+    go true room = few
+    go false room = let space = leb-false MOST_KINDS (length t.kinds) room in let one_more = length-append t.kinds (kind ∷ []) in omega arith
+
+-- an object may be added where there are fewer than there may be
+alloc_room : (t : Table) (id : ℕ) (kind : List ℕ) (slots : ℕ) → alloc_refusal t id kind slots ≡ None → (length t.objects < MOST_OBJECTS) × (kind_refusal t kind ≡ None)
+unfolding alloc_refusal
+alloc_room t id kind slots none =
+    let risen = (first_of-None (refusal_where (nat_le id t.greatest) (IdNotRising id)) _ none).1 in
+    let held = first_of-None (refusal_where (nat_le MOST_OBJECTS (length t.objects)) TooManyObjects) _ risen in
+    (leb-false MOST_OBJECTS (length t.objects) (refusal_where-None _ _ held.0), (first_of-None (refusal_where (nat_lt MOST_SLOTS (slot_count t + slots)) TooManySlots) (kind_refusal t kind) held.1).1)
+
+alloc_keeps_limits : (t : Table) (id : ℕ) (kind : List ℕ) (slots : ℕ) → alloc_refusal t id kind slots ≡ None → IsWithinLimits t → IsWithinLimits (with_object t id kind slots)
 unfolding with_object
-alloc_roots t id kind slots few = few
+alloc_keeps_limits t id kind slots none old =
+    let (fewer, known) = alloc_room t id kind slots none in
+    let one_more = length-append t.objects (record { id = id; kind = kind; slots = replicate slots empty_slot } ∷ []) in
+    record {
+      objects = omega arith;
+      slots = alloc_few t id kind slots none;
+      roots = old.roots;
+      kinds = kinds_few t kind known old.kinds;
+    }
 
 change_few : (t : Table) (at slot : ℕ) (change : Slot → Slot) → IsWithinLimits t → IsWithinLimits (with_changed_slot t at slot change)
 unfolding with_changed_slot
 change_few t at slot change old =
     let same = slots-with_change t at slot change in
     let slots = old.slots in
-    record { roots = old.roots; slots = omega arith }
+    let many = length-map t.objects (with_slot at slot change) in
+    let objects = old.objects in
+    record { objects = omega arith; slots = omega arith; roots = old.roots; kinds = old.kinds }
 
-root_slots : (t : Table) (name : List ℕ) (to : Option ℕ) → slot_count t ≤ MOST_SLOTS → slot_count (with_root t name to) ≤ MOST_SLOTS
+root_keeps_limits : (t : Table) (name : List ℕ) (to : Option ℕ) → root_refusal t name to ≡ None → IsStrictlySortedBy name_cmp (keys_of t.roots) → IsWithinLimits t → IsWithinLimits (with_root t name to)
 unfolding with_root
-root_slots t name None few = few
-root_slots t name (Some id) few = few
+root_keeps_limits t name None none sorted old =
+    record { objects = old.objects; slots = old.slots; roots = roots_few t name None none sorted old.roots; kinds = old.kinds }
+root_keeps_limits t name (Some id) none sorted old =
+    record { objects = old.objects; slots = old.slots; roots = roots_few t name (Some id) none sorted old.roots; kinds = old.kinds }
 
 -- a heap with that order, and within the limits
 abbrev IsLimited : Heap → Type 0
@@ -265,17 +293,17 @@ IsLimited h = IsOrdered h × IsWithinLimits h.table
 step_few : (h : Heap) (event : Event) → IsLimited h → IfOk (step h event) (λ next. IsWithinLimits next.table)
 unfolding step
 step_few h (Alloc id kind slots thread) old =
-    IfOk-unless (λ next. IsWithinLimits next.table) _ _ (λ none. record { roots = alloc_roots h.table id kind slots old.1.roots; slots = alloc_few h.table id kind slots none })
+    IfOk-unless (λ next. IsWithinLimits next.table) _ _ (λ none. alloc_keeps_limits h.table id kind slots none old.1)
 step_few h (Store at slot to) old =
     IfOk-unless (λ next. IsWithinLimits next.table) _ _ (λ none. change_few h.table at slot (slot_holding to) old.1)
 step_few h (SetWeak at slot weak) old =
     IfOk-unless (λ next. IsWithinLimits next.table) _ _ (λ none. change_few h.table at slot (slot_made_weak weak) old.1)
 step_few h (Root name to) old =
-    IfOk-unless (λ next. IsWithinLimits next.table) _ _ (λ none. record { roots = roots_few h.table name to none old.0.roots old.1.roots; slots = root_slots h.table name to old.1.slots })
+    IfOk-unless (λ next. IsWithinLimits next.table) _ _ (λ none. root_keeps_limits h.table name to none old.0.roots old.1)
 step_few h (AssertDead id) old = IfOk-unless (λ next. IsWithinLimits next.table) _ _ (λ none. old.1)
 step_few h (StartRegion thread) old = IfOk-unless (λ next. IsWithinLimits next.table) _ _ (λ none. old.1)
 step_few h (AssertAllDead thread) old = IfOk-unless (λ next. IsWithinLimits next.table) _ _ (λ none. old.1)
-step_few h (AssertInstances kind limit) old = IfOk-unless (λ next. IsWithinLimits next.table) _ _ (λ none. record { roots = old.1.roots; slots = old.1.slots })
+step_few h (AssertInstances kind limit) old = IfOk-unless (λ next. IsWithinLimits next.table) _ _ (λ none. record { objects = old.1.objects; slots = old.1.slots; roots = old.1.roots; kinds = kinds_few h.table kind none old.1.kinds })
 step_few h (AssertUnshared id) old = IfOk-unless (λ next. IsWithinLimits next.table) _ _ (λ none. old.1)
 step_few h (AssertOwnedBy owner ownee) old = IfOk-unless (λ next. IsWithinLimits next.table) _ _ (λ none. old.1)
 step_few h Collect old = old.1
@@ -298,15 +326,19 @@ collect_few rules h old =
     let emptied = same_slots sweep (λ o. length-map o.slots (slot_without (λ id. not (has_id (traced_ids h) id)))) left in
     let fewer = filter_fewer (λ o. kept o.id) h.table.objects in
     let fewer_roots = length-filter_le (λ (r : List ℕ × ℕ). not (gone r.1)) h.table.roots in
+    let fewer_objects = length-filter_le (λ (o : Object). kept o.id) h.table.objects in
+    let swept_objects = length-map left sweep in
+    let cut_objects = length-map (map sweep left) (object_without gone) in
+    let objects = old.objects in
     let roots = old.roots in
     let slots = old.slots in
-    record { roots = omega arith; slots = omega arith }
+    record { objects = omega arith; slots = omega arith; roots = omega arith; kinds = old.kinds }
 
 collect_limits : (rules : Rules) (h : Heap) → IsLimited h → IsLimited (after_collection rules h)
 collect_limits rules h old = (collect_orders rules h old.0, collect_few rules h old.1)
 
 empty_limited : IsLimited empty_heap
-empty_limited = (empty_ordered, record { roots = omega arith; slots = omega arith })
+empty_limited = (empty_ordered, record { objects = omega arith; slots = omega arith; roots = omega arith; kinds = omega arith })
 
 pub limits_are_kept : LimitsAreKept
 limits_are_kept = (empty_limited, step_limits, collect_limits)

@@ -3,7 +3,7 @@ use Rattle.std.specs.Prelude.{◌≡◌, ℕ, ◌+◌, ◌<◌, ◌≤◌, List,
 use Rattle.std.specs.List.Sorted.{IsStrictlySortedBy}
 use Rattle.std.specs.Map.{keys_of}
 use Rattle.std.specs.Ordering.{nat_cmp}
-use Rattle.heap_base.specs.declared.limits.TheConstants.{MOST_ROOTS, MOST_SLOTS}
+use Rattle.heap_base.specs.declared.limits.TheConstants.{MOST_OBJECTS, MOST_SLOTS, MOST_ROOTS, MOST_KINDS}
 use Rattle.graph_meaning.specs.declared.event.Event.{Event}
 use Rattle.graph_meaning.specs.declared.event.Event.TheVariants.{SetWeak}
 use Rattle.graph_meaning.specs.Heap.{Slot, Table, Heap, empty_heap, name_cmp, ids, is_live, slot_count, edges, targets}
@@ -118,10 +118,12 @@ pub record IsOrdered (h : Heap) : Type 0 where
   pub limits : IsStrictlySortedBy name_cmp (keys_of h.limits)
   pub owners : IsStrictlySortedBy nat_cmp (keys_of h.owners)
 
--- There are no more roots and slots than there may be.
+-- There are no more objects, slots, roots and types than there may be.
 pub record IsWithinLimits (t : Table) : Type 0 where
-  pub roots : length t.roots ≤ MOST_ROOTS
+  pub objects : length t.objects ≤ MOST_OBJECTS
   pub slots : slot_count t ≤ MOST_SLOTS
+  pub roots : length t.roots ≤ MOST_ROOTS
+  pub kinds : length t.kinds ≤ MOST_KINDS
 
 -- what is so at the beginning, and stays so by each operation and each collection
 abbrev pub AlwaysHolds : (Heap → Type 0) → Type 0
