@@ -9,6 +9,7 @@ mod laws;
 mod lists;
 mod paths;
 mod refusal;
+mod roles;
 #[cfg(test)]
 mod tests;
 mod views;
@@ -46,4 +47,5 @@ pub use laws::{
 pub use lists::Sequence;
 pub use paths::{PathFrom, PathStep, PathView, Shown, StepList};
 pub use refusal::{FieldName, Refusal, Stop};
-pub use views::{HeapView, ObjectList, ObjectView, OwnerRole, RootList, SlotList};
+pub use roles::{OwnerRole, Roles};
+pub use views::{HeapView, ObjectList, ObjectView, RootList, SlotList};

@@ -1,0 +1,9 @@
+-- How a table of roles keeps which cells are owners.
+use Rattle.std.specs.Prelude.{◌≡◌, ℕ, ◌<◌, List, length, sum_by, Bool, false, slice_index_or}
+use Rattle.heap_base.specs.Counting.{bit}
+use Rattle.graph_meaning.specs.Reach.{has_id}
+
+-- A flag for each cell says whether it is among the owners. There are as many owners as flags are set.
+pub record IsFlagged (flags : List Bool) (owners : List ℕ) : Type 0 where
+  pub each : (cell : ℕ) → cell < length flags → slice_index_or flags cell false ≡ has_id owners cell
+  pub many : length owners ≡ sum_by bit flags

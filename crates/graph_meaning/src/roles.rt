@@ -1,0 +1,152 @@
+ghost use Rattle.std.specs.Prelude.{◌≡◌, ◌<◌, ◌++◌, ◌∷◌, [], IfOk, slice_set, slice_index_or, true, false, None};
+ghost use Rattle.graph_meaning.specs.Reach.{has_id};
+ghost use Rattle.graph_meaning.specs.Roles.{no_roles, cells_of, kinds_of, owner_in};
+
+use heap_base::OutOfMemory;
+use std::alloc::Global;
+use std::marker::Model;
+
+/// Whose ownee the object in a cell is: nobody's, that of the object in another cell, or that of an object that
+/// was freed, by its id.
+#[derive(Clone, Copy, Debug, PartialEq, Eq)]
+pub enum OwnerRole {
+    NotOwned,
+    OwnerCell(u32),
+    OwnerGone(u32),
+}
+
+/// What the assertions make of the objects and types of a table: by cell who is asserted dead, who unshared and whose
+/// ownee it is, by number of a type its limit, and the cells of the owners in order. Contracts see a `RoleTable`.
+#[derive(Drop)]
+pub struct Roles {
+    dead: Vec<bool>,
+    unshared: Vec<bool>,
+    ownees: Vec<OwnerRole>,
+    limits: Vec<Option<u32>>,
+    owners: Vec<u32>,
+    // whether a cell is among the owners
+    is_owner: Vec<bool>,
+}
+
+impl Model for Roles {
+    ghost use Rattle.std.specs.Prelude.{◌≡◌, ◌≤◌, length, vec_len, vec_capacity};
+    ghost use Rattle.graph_meaning.specs.Roles.{RoleTable};
+    ghost use Rattle.graph_meaning.specs.Owners.{IsFlagged};
+
+    ghost Value = { RoleTable };
+
+    ghost view = { λ r. record { dead = r.dead.items; unshared = r.unshared.items; ownees = r.ownees.items; limits = r.limits.items; owners = r.owners.items } };
+
+    ghost invariant = { λ r. (length r.unshared.items ≡ length r.dead.items) × (length r.ownees.items ≡ length r.dead.items) × (length r.is_owner.items ≡ length r.dead.items) × IsFlagged r.is_owner.items r.owners.items × (vec_len r.is_owner ≤ vec_capacity r.owners) };
+}
+
+impl Roles {
+    /// No role in any of so many cells, and no limit of any of so many types. It takes the memory of all later calls.
+    pub fn make(alloc: Global, cells: u32, kinds: u32) -> Result<Roles, OutOfMemory>
+        ensures { IfOk result (λ r. r ≡ no_roles cells kinds) }
+    {
+        let dead = vec![in alloc; false; cells as usize]?;
+        let unshared = vec![in alloc; false; cells as usize]?;
+        let ownees = vec![in alloc; OwnerRole::NotOwned; cells as usize]?;
+        let limits = vec![in alloc; None; kinds as usize]?;
+        let owners = Vec::with_capacity(alloc, cells as usize)?;
+        let is_owner = vec![in alloc; false; cells as usize]?;
+        Ok(Roles {
+            dead,
+            unshared,
+            ownees,
+            limits,
+            owners,
+            is_owner,
+        })
+    }
+
+    /// The object in the cell is asserted dead.
+    pub fn set_dead(&mut self, cell: u32)
+        requires { cell < cells_of self.old }
+        ensures { self.new ≡ record self.old { dead = slice_set self.old.dead cell true } }
+    {
+        self.dead[cell as usize] = true;
+    }
+
+    /// The object in the cell is asserted unshared.
+    pub fn set_unshared(&mut self, cell: u32)
+        requires { cell < cells_of self.old }
+        ensures { self.new ≡ record self.old { unshared = slice_set self.old.unshared cell true } }
+    {
+        self.unshared[cell as usize] = true;
+    }
+
+    /// Says whose ownee the object in the cell is.
+    pub fn set_owner(&mut self, cell: u32, owner: OwnerRole)
+        requires { cell < cells_of self.old }
+        ensures { self.new ≡ record self.old { ownees = slice_set self.old.ownees cell owner } }
+    {
+        self.ownees[cell as usize] = owner;
+    }
+
+    /// Sets the limit of a type, or takes it away.
+    pub fn set_limit(&mut self, kind: u32, limit: Option<u32>)
+        requires { kind < kinds_of self.old }
+        ensures { self.new ≡ record self.old { limits = slice_set self.old.limits kind limit } }
+    {
+        self.limits[kind as usize] = limit;
+    }
+
+    /// Puts the cell last among those of the owners.
+    pub fn add_owner(&mut self, cell: u32)
+        requires cell { cell < cells_of self.old }
+        requires new { has_id self.old.owners cell ≡ false }
+        ensures { self.new ≡ record self.old { owners = self.old.owners ++ cell ∷ [] } }
+    {
+        self.owners.push_reserved(cell);
+        self.is_owner[cell as usize] = true;
+    }
+
+    /// Whether the object in the cell is asserted dead.
+    pub fn dead(&self, cell: u32) -> bool
+        requires { cell < cells_of self.now }
+        ensures { result ≡ slice_index_or self.now.dead cell false }
+    {
+        self.dead[cell as usize]
+    }
+
+    /// Whether the object in the cell is asserted unshared.
+    pub fn unshared(&self, cell: u32) -> bool
+        requires { cell < cells_of self.now }
+        ensures { result ≡ slice_index_or self.now.unshared cell false }
+    {
+        self.unshared[cell as usize]
+    }
+
+    /// Whose ownee the object in the cell is.
+    pub fn owner(&self, cell: u32) -> OwnerRole
+        requires { cell < cells_of self.now }
+        ensures { result ≡ owner_in self.now cell }
+    {
+        self.ownees[cell as usize]
+    }
+
+    /// Whether the cell is among those of the owners.
+    pub fn is_owner(&self, cell: u32) -> bool
+        requires { cell < cells_of self.now }
+        ensures { result ≡ has_id self.now.owners cell }
+    {
+        self.is_owner[cell as usize]
+    }
+
+    /// The limit of a type, if it has one.
+    pub fn limit(&self, kind: u32) -> Option<u32>
+        requires { kind < kinds_of self.now }
+        ensures { result ≡ slice_index_or self.now.limits kind None }
+    {
+        self.limits[kind as usize]
+    }
+
+    /// The cells of the owners, in the order in which they were added.
+    pub fn owners(&self) -> &[u32]
+        ensures { result.now ≡ self.now.owners }
+    {
+        self.owners.as_slice()
+    }
+}
