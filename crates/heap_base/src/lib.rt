@@ -22,7 +22,7 @@ pub use gate::{Gate, OpenGate};
 pub use ids::{ObjId, ThreadNo};
 pub use limits::{
     END_STEPS, LONGEST_LINE, LONGEST_NAME, LONGEST_TRACE, MOST_KINDS, MOST_OBJECTS, MOST_REGIONS,
-    MOST_ROOTS, MOST_SLOTS, MOST_THREADS, USUAL_PATHS,
+    MOST_ROOTS, MOST_SLOTS, MOST_THREADS, MOST_WORKERS, USUAL_PATHS,
 };
 pub use memory::{MemSink, MemSource};
 pub use names::Name;

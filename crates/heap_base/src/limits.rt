@@ -28,6 +28,9 @@ pub const MOST_ROOTS: u32 = 65_536;
 /// So many types may be seen in a trace.
 pub const MOST_KINDS: u32 = 65_536;
 
+/// So many workers may trace a heap.
+pub const MOST_WORKERS: u32 = 16;
+
 /// A collection shows paths with so many of its violations, where nothing else is asked for.
 pub const USUAL_PATHS: u32 = 100;
 
