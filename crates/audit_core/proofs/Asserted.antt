@@ -14,15 +14,15 @@ use Rattle.std.proofs.lemmas.Map.Made.{length-le_from_is_member}
 use Rattle.graph_meaning.specs.declared.collection.Verdict.{Verdict}
 use Rattle.graph_meaning.specs.Heap.{Table, is_live}
 use Rattle.graph_meaning.specs.Reach.{has_id}
-use Rattle.graph_meaning.specs.Collecting.{traced_ids}
-use Rattle.graph_meaning.proofs.HeapLemmas.{traced-is_live}
+use Rattle.audit_core.specs.Tracing.{reachable_ids}
+use Rattle.graph_meaning.proofs.HeapLemmas.{reachable-is_live}
 use Rattle.object_table.specs.Placed.{Placed, IsPlaced}
-use Rattle.audit_core.specs.Verdicts.{dead_verdict, dead_verdicts}
+use Rattle.audit_core.specs.Verdicts.{pathless_verdict, pathless_verdicts}
 
 -- an object that is not live is not traced
-pub not_live-untraced : (t : Table) (id : ℕ) → is_live t id ≡ false → has_id (traced_ids t) id ≡ false
+pub not_live-untraced : (t : Table) (id : ℕ) → is_live t id ≡ false → has_id (reachable_ids t) id ≡ false
 not_live-untraced t id gone =
-    false_from_ne_true (has_id (traced_ids t) id) (λ at. false≢true (sym gone ∙ traced-is_live t id at))
+    false_from_ne_true (has_id (reachable_ids t) id) (λ at. false≢true (sym gone ∙ reachable-is_live t id at))
 
 -- ---- how many there are
 
@@ -53,23 +53,23 @@ member_held (c ∷ cells) q zero held = or_left _ _ (ap (λ o. same_id q (unwrap
 member_held (c ∷ cells) q (suc cell) held = or_right _ _ (member_held cells q cell held)
 
 -- No more objects than there are cells are asserted dead.
-pub dead_few : (p : Placed) (dead : List ℕ) → IsPlaced p → IsStrictlySortedBy nat_cmp dead → All (λ id. IsTrue (is_live p.table id)) dead → length dead ≤ 1048576
+pub dead_few : (p : Placed) (dead : List ℕ) → IsPlaced p → IsStrictlySortedBy nat_cmp dead → All (λ id. IsTrue (is_live p.table id)) dead → length dead ≤ MOST_OBJECTS
 dead_few p dead placed sorted live =
     let in_cells : length dead ≤ length (held_or_0 p.cells) = length-le_from_is_member (eq_by_cmp_equiv nat_cmp_total) dead (held_or_0 p.cells) (IsDistinct-from_sorted nat_cmp dead sorted) (λ q at. let place = placed.somewhere q (member_has (λ id. IsTrue (is_live p.table id)) dead q live at) in member_held p.cells q place.0 place.1) in
     omega (arith, in_cells, placed.few, length-map p.cells (λ c. unwrap_or c 0))
 
 -- ---- the verdicts, one object after another
 
-dead_verdicts-cons : (t : Table) (id : ℕ) (rest : List ℕ) (b : Bool) → has_id (traced_ids t) id ≡ b → dead_verdicts t (id ∷ rest) ≡ cond b (dead_verdict t id ∷ dead_verdicts t rest) (dead_verdicts t rest)
-dead_verdicts-cons t id rest true traced = rw traced refl
-dead_verdicts-cons t id rest false traced = rw traced refl
+pathless_verdicts-cons : (t : Table) (id : ℕ) (rest : List ℕ) (b : Bool) → has_id (reachable_ids t) id ≡ b → pathless_verdicts t (id ∷ rest) ≡ cond b (pathless_verdict t id ∷ pathless_verdicts t rest) (pathless_verdicts t rest)
+pathless_verdicts-cons t id rest true traced = rw traced refl
+pathless_verdicts-cons t id rest false traced = rw traced refl
 
 -- the next object is traced, and has a verdict
-pub verdicts-traced : (t : Table) (all left rest : List ℕ) (so_far : List Verdict) (id : ℕ) → dead_verdicts t all ≡ so_far ++ dead_verdicts t left → left ≡ id ∷ rest → has_id (traced_ids t) id ≡ true → dead_verdicts t all ≡ (so_far ++ dead_verdict t id ∷ []) ++ dead_verdicts t rest
+pub verdicts-traced : (t : Table) (all left rest : List ℕ) (so_far : List Verdict) (id : ℕ) → pathless_verdicts t all ≡ so_far ++ pathless_verdicts t left → left ≡ id ∷ rest → has_id (reachable_ids t) id ≡ true → pathless_verdicts t all ≡ (so_far ++ pathless_verdict t id ∷ []) ++ pathless_verdicts t rest
 verdicts-traced t all left rest so_far id before first traced =
-    before ∙ ap (λ ids. so_far ++ dead_verdicts t ids) first ∙ ap (λ vs. so_far ++ vs) (dead_verdicts-cons t id rest true traced) ∙ sym (append_assoc so_far (dead_verdict t id ∷ []) (dead_verdicts t rest))
+    before ∙ ap (λ ids. so_far ++ pathless_verdicts t ids) first ∙ ap (λ vs. so_far ++ vs) (pathless_verdicts-cons t id rest true traced) ∙ sym (append_assoc so_far (pathless_verdict t id ∷ []) (pathless_verdicts t rest))
 
 -- the next object is not traced
-pub verdicts-untraced : (t : Table) (all left rest : List ℕ) (so_far : List Verdict) (id : ℕ) → dead_verdicts t all ≡ so_far ++ dead_verdicts t left → left ≡ id ∷ rest → has_id (traced_ids t) id ≡ false → dead_verdicts t all ≡ so_far ++ dead_verdicts t rest
+pub verdicts-untraced : (t : Table) (all left rest : List ℕ) (so_far : List Verdict) (id : ℕ) → pathless_verdicts t all ≡ so_far ++ pathless_verdicts t left → left ≡ id ∷ rest → has_id (reachable_ids t) id ≡ false → pathless_verdicts t all ≡ so_far ++ pathless_verdicts t rest
 verdicts-untraced t all left rest so_far id before first untraced =
-    before ∙ ap (λ ids. so_far ++ dead_verdicts t ids) first ∙ ap (λ vs. so_far ++ vs) (dead_verdicts-cons t id rest false untraced)
+    before ∙ ap (λ ids. so_far ++ pathless_verdicts t ids) first ∙ ap (λ vs. so_far ++ vs) (pathless_verdicts-cons t id rest false untraced)

@@ -9,10 +9,10 @@ use Rattle.std.proofs.lemmas.List.Elements.{All-nil, All-cons, All-head, All-tai
 use Rattle.std.proofs.lemmas.Option.{slice_get-get_or}
 use Rattle.graph_meaning.specs.Heap.{Object, object_at, targets, edge_of}
 use Rattle.graph_meaning.specs.Reach.{has_id}
-use Rattle.graph_meaning.specs.Collecting.{object_graph, root_ids, traced_ids}
+use Rattle.graph_meaning.specs.Collecting.{object_graph, root_ids, reachable_ids}
 use Rattle.graph_meaning.proofs.Membership.{has_id-append}
 use Rattle.graph_meaning.proofs.Reaching.{IsClosed, IsClosed-reachable, reached_is_reachable}
-use Rattle.graph_meaning.proofs.HeapLemmas.{traced-from_root, traced-along_edge}
+use Rattle.graph_meaning.proofs.HeapLemmas.{reachable-from_root, reachable-along_edge}
 use Rattle.object_table.specs.Placed.{Placed, id_in, slots_in, kept_ids, IsPlaced, LeadsToKept}
 use Rattle.audit_core.specs.Tracing.{IsTraced, is_marked, ids_in, IsTracing, KeepsTraced}
 use Rattle.audit_core.proofs.Kept.{kept_ids-none, has_id-kept_ids, kept_ids-cell, has_id-kept_ids-set, set_marked}
@@ -122,7 +122,7 @@ module _ (p : Placed) (placed : IsPlaced p) (root cell : ℕ) (within : root < l
 
   named_traced : IsTraced p.table named
   named_traced =
-      traced-from_root p.table named (has_id-map (λ r. r.1) p.table.roots root ([], 0) within) (placed.live cell named named_held)
+      reachable-from_root p.table named (has_id-map (λ r. r.1) p.table.roots root ([], 0) within) (placed.live cell named named_held)
 
   pub named-within : cell < length p.cells
   named-within = id_in-within p cell named named_held
@@ -208,7 +208,7 @@ module _ (p : Placed) (placed : IsPlaced p) (roots : ℕ) (marks : List Bool) (w
   target_traced : IsTraced p.table target_held.0
   target_traced =
       let x = first_held p roots marks work cell tracing in
-      traced-along_edge p.table x.0 target_held.0 x.2 (ap (λ ys. has_id ys target_held.0) (targets-cell p cell x.0 x.1) ∙ has_id-filter_map edge_of (slots_in p cell) slot target_held.0 within (sym leads ∙ target_held.1)) (placed.live target target_held.0 target_held.1)
+      reachable-along_edge p.table x.0 target_held.0 x.2 (ap (λ ys. has_id ys target_held.0) (targets-cell p cell x.0 x.1) ∙ has_id-filter_map edge_of (slots_in p cell) slot target_held.0 within (sym leads ∙ target_held.1)) (placed.live target target_held.0 target_held.1)
 
   pub target-within : target < length marks
   target-within =
@@ -299,12 +299,12 @@ module _ (p : Placed) (placed : IsPlaced p) (marks : List Bool) (tracing : IsTra
   }
 
   traced_kept : (id : ℕ) → IsTraced p.table id → IsTrue (has_id (kept_ids p.cells marks) id)
-  unfolding traced_ids
+  unfolding reachable_ids
   traced_kept id traced =
       IsClosed-reachable (object_graph p.table) (root_ids p.table) (has_id (kept_ids p.cells marks)) closed_graph id ((reached_is_reachable (object_graph p.table) (root_ids p.table) id).0 traced)
 
-  same : (id : ℕ) → has_id (kept_ids p.cells marks) id ≡ has_id (traced_ids p.table) id
-  same id = same_true (has_id (kept_ids p.cells marks) id) (has_id (traced_ids p.table) id) (tracing.sound id) (traced_kept id)
+  same : (id : ℕ) → has_id (kept_ids p.cells marks) id ≡ has_id (reachable_ids p.table) id
+  same id = same_true (has_id (kept_ids p.cells marks) id) (has_id (reachable_ids p.table) id) (tracing.sound id) (traced_kept id)
     where
       same_true : (a b : Bool) → (a ≡ true → b ≡ true) → (b ≡ true → a ≡ true) → a ≡ b
       same_true true b to from = sym (to refl)

@@ -2,13 +2,17 @@
 use Rattle.std.specs.Prelude.{◌≡◌, ℕ, ◌+◌, List, length, take, All, count_by, not, Bool, false, Some, IsTrue, ◌||◌, IsSomeAnd, slice_index_or}
 use Rattle.std.specs.List.{filter_map}
 use Rattle.graph_meaning.specs.Heap.{Table, targets}
-use Rattle.graph_meaning.specs.Reach.{has_id}
-use Rattle.graph_meaning.specs.Collecting.{traced_ids}
+use Rattle.graph_meaning.specs.Reach.{has_id, reached_nodes}
+use Rattle.graph_meaning.specs.Assertions.{object_graph, root_ids}
 use Rattle.object_table.specs.Placed.{Placed, id_in, kept_ids, IsPlaced, LeadsToKept}
+
+-- The objects that a path leads to from a root. Where no object has an owner, these are the traced ones.
+unfoldable pub reachable_ids : Table → List ℕ
+reachable_ids t = reached_nodes (object_graph t) (root_ids t)
 
 -- the object is traced
 abbrev pub IsTraced : Table → ℕ → Type 0
-IsTraced t id = IsTrue (has_id (traced_ids t) id)
+IsTraced t id = IsTrue (has_id (reachable_ids t) id)
 
 -- whether a cell is marked
 abbrev pub is_marked : List Bool → ℕ → Bool
@@ -36,5 +40,5 @@ pub record KeepsTraced (p : Placed) (kept : List Bool) : Type 0 where
   pub placed : IsPlaced p
   pub each : length kept ≡ length p.cells
   pub closed : LeadsToKept p.table (kept_ids p.cells kept)
-  pub traced : (id : ℕ) → has_id (kept_ids p.cells kept) id ≡ has_id (traced_ids p.table) id
-  pub at : (cell id : ℕ) → id_in p cell ≡ Some id → is_marked kept cell ≡ has_id (traced_ids p.table) id
+  pub traced : (id : ℕ) → has_id (kept_ids p.cells kept) id ≡ has_id (reachable_ids p.table) id
+  pub at : (cell id : ℕ) → id_in p cell ≡ Some id → is_marked kept cell ≡ has_id (reachable_ids p.table) id

@@ -1,11 +1,10 @@
 ghost use Rattle.std.specs.Prelude.{◌≡◌, ℕ, ◌+◌, ◌<◌, ◌^◌, Ok, IsTrue, IfOk, OnOk, OnErr};
 ghost use Rattle.std.specs.Result.{result_err};
 ghost use Rattle.graph_meaning.specs.Answers.{RefusesBy};
-ghost use Rattle.graph_meaning.specs.Collecting.{collection_of};
 ghost use Rattle.graph_meaning.specs.Step.{step};
-ghost use Rattle.audit_core.specs.Audit.{first_audit, collected, is_applied, Follows};
+ghost use Rattle.audit_core.specs.Audit.{first_audit, pathless, next_collection, after_next, is_applied, Follows};
 
-use crate::dead::{forget_freed, is_object, verdicts};
+use crate::dead::{forget_freed, is_live, verdicts};
 use crate::trace::traced_cells;
 use graph_meaning::{Collection, Event, Refusal, Stop};
 use heap_base::{Name, ObjId, OutOfMemory};
@@ -26,20 +25,20 @@ pub struct Auditor {
 }
 
 impl Model for Auditor {
-    ghost use Rattle.audit_core.specs.Audit.{Audit};
+    ghost use Rattle.audit_core.specs.Audit.{Audit, pathless};
     ghost use Rattle.audit_core.specs.Held.{heap_of, IsHeld};
 
     ghost Value = { Audit };
 
-    ghost view = { λ a. record { heap = heap_of a.table.table a.dead.keys; collections = a.collections; violations = a.violations } };
+    ghost view = { λ a. record { heap = heap_of a.table.table a.dead.keys; rules = pathless; collections = a.collections; violations = a.violations } };
 
     ghost invariant = { λ a. IsHeld a.table.table a.dead.keys a.collections a.violations };
 }
 
 impl Auditor {
-    /// An auditor at the beginning of a trace.
+    /// An auditor at the beginning of a trace. Its collections show no path.
     pub fn make(alloc: Global) -> Result<Auditor, OutOfMemory>
-        ensures { IfOk result (λ a. a ≡ first_audit) }
+        ensures { IfOk result (λ a. a ≡ first_audit pathless) }
     {
         let table = ObjectTable::make(alloc)?;
         Ok(Auditor {
@@ -57,8 +56,7 @@ impl Auditor {
         requires { IsTrue (is_applied event.now) }
         ensures refused { RefusesBy result (result_err (step self.old.heap event.now)) }
         ensures applied { OnOk result (step self.old.heap event.now ≡ Ok self.new.heap) }
-        ensures collections { self.new.collections ≡ self.old.collections }
-        ensures violations { self.new.violations ≡ self.old.violations }
+        ensures rest { self.new ≡ record self.old { heap = self.new.heap } }
         ensures err { OnErr result (self.new ≡ self.old) }
     {
         match event {
@@ -79,8 +77,8 @@ impl Auditor {
     /// wanting, nothing has changed.
     pub fn collect(&mut self) -> Result<Collection, OutOfMemory>
         requires { self.old.collections < 2 ^ 40 }
-        ensures found { IfOk result (λ c. c ≡ collection_of (self.old.collections + 1) self.old.heap) }
-        ensures after { OnOk result (self.new ≡ collected self.old) }
+        ensures found { IfOk result (λ c. c ≡ next_collection self.old) }
+        ensures after { OnOk result (self.new ≡ after_next self.old) }
         ensures err { OnErr result (self.new ≡ self.old) }
     {
         let kept = traced_cells(self.alloc, &self.table)?;
@@ -96,6 +94,7 @@ impl Auditor {
             live,
             traced,
             freed: live - traced,
+            cleared: 0,
             verdicts,
         })
     }
@@ -131,10 +130,8 @@ impl Auditor {
     fn store(&mut self, at: ObjId, slot: u32, to: Option<ObjId>) -> Result<(), Stop>
         ensures { Follows self.old (Event.Store at slot to) result self.new }
     {
-        match self.table.store(at, slot, to) {
-            Ok(()) => Ok(()),
-            Err(refusal) => Err(Stop::Refused(refusal)),
-        }
+        self.table.store(at, slot, to)?;
+        Ok(())
     }
 
     fn set_root(&mut self, name: &Name, to: Option<ObjId>) -> Result<(), Stop>
@@ -146,7 +143,7 @@ impl Auditor {
     fn assert_dead(&mut self, id: ObjId) -> Result<(), Stop>
         ensures { Follows self.old (Event.AssertDead id) result self.new }
     {
-        if !is_object(&self.table, id) {
+        if !is_live(&self.table, id) {
             return Err(Stop::Refused(Refusal::NotLive(id.number())));
         }
         let Ok(_) = self.dead.insert(id) else {
