@@ -8,4 +8,6 @@ pub mod Positions
 pub mod Refusals
 pub mod Rows
 pub mod Searches
+pub mod Slots
+pub mod Sound
 pub mod Tables

@@ -11,6 +11,7 @@ use Rattle.std.proofs.lemmas.Option.{slice_get-get_or}
 use Rattle.std.proofs.lemmas.List.Edits.{length-insert, length-remove}
 use Rattle.std.proofs.lemmas.List.Quantifiers.{all_pairs_remove}
 use Rattle.std.proofs.lemmas.List.Sorted.{searchable_from_sorted}
+use Rattle.heap_base.specs.declared.limits.TheConstants.{MOST_ROOTS}
 use Rattle.graph_meaning.specs.Heap.{name_cmp}
 use Rattle.object_table.specs.Ordered.{IsOrdered, RisesByName, IsNamedAt, IsGapFor}
 use Rattle.object_table.proofs.Entries.{insert_at_gap, insert_at_place, remove_at_gap, remove_at_place, lookup-gap, lookup-place, rises-insert}
@@ -57,7 +58,7 @@ remove_is roots name i ordered h named = sym (remove_at_place total name roots i
 
 -- ---- where the name would go
 
-pub IsOrdered-insert : (roots : Roots) (name : List ℕ) (i id : ℕ) → IsOrdered roots → i ≤ length roots → IsGapFor name roots i → length roots < 65536 → IsOrdered (insert roots i (name, id))
+pub IsOrdered-insert : (roots : Roots) (name : List ℕ) (i id : ℕ) → IsOrdered roots → i ≤ length roots → IsGapFor name roots i → length roots < MOST_ROOTS → IsOrdered (insert roots i (name, id))
 IsOrdered-insert roots name i id ordered h gap room = record {
   rising = rises-insert total name id roots i ordered.rising h gap;
   few = omega (arith, length-insert roots i (name, id) h);

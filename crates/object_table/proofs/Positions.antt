@@ -1,9 +1,14 @@
 -- Where a list has the first element that passes a test.
-use Rattle.std.proofs.Common.{◌≡◌, ◌≤◌, List, [], ◌∷◌, ◌++◌, length, Bool, true, false, cond, ltb, Some, None, is_some, refl, sym, ◌∙◌, arith}
+use Rattle.std.proofs.Common.{◌≡◌, ℕ, ◌<◌, ◌≤◌, get_or, List, [], ◌∷◌, ◌++◌, length, Bool, true, false, cond, ltb, Some, None, is_some, refl, sym, ◌∙◌, arith}
 use Rattle.std.specs.List.{position, position_or_len, list_any}
 use Rattle.std.proofs.lemmas.List.{length_push}
 use Rattle.std.proofs.lemmas.List.Folds.{position_or_len_push}
+use Rattle.std.specs.Str.{bytes_eq}
+use Rattle.std.specs.List.{IsDistinct}
 use Rattle.std.proofs.lemmas.Bool.Decides.{nat_tests}
+use Rattle.std.proofs.lemmas.List.Sums.{position_or_len_is}
+use Rattle.std.proofs.lemmas.Map.Keys.{apart_from_distinct}
+use Rattle.std.proofs.lemmas.Slice.Eq.{bytes_eq-Decides}
 
 -- the first place is within the list exactly where some element passes
 any_below : {X : Type 0} (p : X → Bool) (xs : List X) → ltb (position_or_len p xs) (length xs) ≡ list_any p xs
@@ -29,3 +34,14 @@ position_push p xs y = grind (arith, nat_tests, position_or_len_push p xs y, len
 -- one more element that no element before passes is the first
 pub position_push_new : {X : Type 0} (p : X → Bool) (xs : List X) (y : X) → position p xs ≡ None → p y ≡ true → position p (xs ++ y ∷ []) ≡ Some (length xs)
 position_push_new p xs y none passes = grind (arith, position_push p xs y)
+
+-- where nothing stands twice, the place of each element is its own
+pub position_distinct : (names : List (List ℕ)) (k : ℕ) → IsDistinct bytes_eq names → k < length names → position (bytes_eq (get_or names k [])) names ≡ Some k
+position_distinct names k distinct h =
+    let name : List ℕ = get_or names k [] in
+    let before : (j : ℕ) → j < k → bytes_eq name (get_or names j []) ≡ false = λ j below. swapped (get_or names j []) name (apart_from_distinct bytes_eq names j k [] distinct below h) in
+    let first : position_or_len (bytes_eq name) names ≡ k = position_or_len_is (bytes_eq name) names k [] (omega arith) before (λ _. (bytes_eq-Decides name name).1 refl) in
+    grind (arith, nat_tests)
+  where
+    swapped : (a b : List ℕ) → bytes_eq a b ≡ false → bytes_eq b a ≡ false
+    swapped a b apart = grind (arith, bytes_eq-Decides a b, bytes_eq-Decides b a)

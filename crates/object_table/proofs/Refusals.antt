@@ -1,6 +1,7 @@
 -- What each refusal comes to, where the tests before it are decided.
 use Rattle.std.proofs.Common.{◌≡◌, ℕ, ◌+◌, ◌<◌, ◌≤◌, List, length, true, false, Option, Some, None, refl, arith}
 use Rattle.std.proofs.lemmas.Bool.Decides.{nat_tests}
+use Rattle.heap_base.specs.declared.limits.TheConstants.{MOST_OBJECTS, MOST_SLOTS, MOST_ROOTS, MOST_KINDS}
 use Rattle.graph_meaning.specs.declared.refusal.Refusal.{Refusal}
 use Rattle.graph_meaning.specs.declared.refusal.Refusal.TheVariants.{IdNotRising, TooManyObjects, TooManySlots, NotLive, BadSlot, TooManyRoots, TooManyTypes}
 use Rattle.graph_meaning.specs.Heap.{Table, is_live, is_seen, slot_count}
@@ -8,17 +9,17 @@ use Rattle.graph_meaning.specs.Step.{alloc_refusal, store_refusal, root_refusal,
 
 -- ---- types
 
-pub kind_full : (t : Table) (kind : List ℕ) → is_seen t.kinds kind ≡ false → 65536 ≤ length t.kinds → kind_refusal t kind ≡ Some TooManyTypes
+pub kind_full : (t : Table) (kind : List ℕ) → is_seen t.kinds kind ≡ false → MOST_KINDS ≤ length t.kinds → kind_refusal t kind ≡ Some TooManyTypes
 kind_full t kind new full = grind (arith, nat_tests)
 
 pub kind_seen : (t : Table) (kind : List ℕ) → is_seen t.kinds kind ≡ true → kind_refusal t kind ≡ None
 kind_seen t kind seen = rw seen refl
 
-pub kind_room : (t : Table) (kind : List ℕ) → length t.kinds < 65536 → kind_refusal t kind ≡ None
+pub kind_room : (t : Table) (kind : List ℕ) → length t.kinds < MOST_KINDS → kind_refusal t kind ≡ None
 kind_room t kind room = grind (arith, nat_tests)
 
 -- a new type that is not refused has room
-pub kind_fits : (t : Table) (kind : List ℕ) → kind_refusal t kind ≡ None → is_seen t.kinds kind ≡ false → length t.kinds < 65536
+pub kind_fits : (t : Table) (kind : List ℕ) → kind_refusal t kind ≡ None → is_seen t.kinds kind ≡ false → length t.kinds < MOST_KINDS
 kind_fits t kind allowed new = grind (arith, nat_tests)
 
 -- ---- a new object
@@ -27,23 +28,23 @@ pub alloc_rising : (t : Table) (id : ℕ) (kind : List ℕ) (slots : ℕ) → id
 unfolding alloc_refusal
 alloc_rising t id kind slots h = grind (arith, nat_tests)
 
-pub alloc_full : (t : Table) (id : ℕ) (kind : List ℕ) (slots : ℕ) → t.greatest < id → 1048576 ≤ length t.objects → alloc_refusal t id kind slots ≡ Some TooManyObjects
+pub alloc_full : (t : Table) (id : ℕ) (kind : List ℕ) (slots : ℕ) → t.greatest < id → MOST_OBJECTS ≤ length t.objects → alloc_refusal t id kind slots ≡ Some TooManyObjects
 unfolding alloc_refusal
 alloc_full t id kind slots above h = grind (arith, nat_tests)
 
-pub alloc_slots : (t : Table) (id : ℕ) (kind : List ℕ) (slots : ℕ) → t.greatest < id → length t.objects < 1048576 → 16777216 < slot_count t + slots → alloc_refusal t id kind slots ≡ Some TooManySlots
+pub alloc_slots : (t : Table) (id : ℕ) (kind : List ℕ) (slots : ℕ) → t.greatest < id → length t.objects < MOST_OBJECTS → MOST_SLOTS < slot_count t + slots → alloc_refusal t id kind slots ≡ Some TooManySlots
 unfolding alloc_refusal
 alloc_slots t id kind slots above room h = grind (arith, nat_tests)
 
-pub alloc_kind : (t : Table) (id : ℕ) (kind : List ℕ) (slots : ℕ) → t.greatest < id → length t.objects < 1048576 → slot_count t + slots ≤ 16777216 → alloc_refusal t id kind slots ≡ kind_refusal t kind
+pub alloc_kind : (t : Table) (id : ℕ) (kind : List ℕ) (slots : ℕ) → t.greatest < id → length t.objects < MOST_OBJECTS → slot_count t + slots ≤ MOST_SLOTS → alloc_refusal t id kind slots ≡ kind_refusal t kind
 unfolding alloc_refusal
 alloc_kind t id kind slots above room h = grind (arith, nat_tests)
 
 -- what holds where an object is not refused
 pub record Fits (t : Table) (id : ℕ) (kind : List ℕ) (slots : ℕ) : Type 0 where
   pub above : t.greatest < id
-  pub room : length t.objects < 1048576
-  pub room_for_slots : slot_count t + slots ≤ 16777216
+  pub room : length t.objects < MOST_OBJECTS
+  pub room_for_slots : slot_count t + slots ≤ MOST_SLOTS
   pub allowed_kind : kind_refusal t kind ≡ None
 
 pub alloc_fits : (t : Table) (id : ℕ) (kind : List ℕ) (slots : ℕ) → alloc_refusal t id kind slots ≡ None → Fits t id kind slots
@@ -89,7 +90,7 @@ pub root_dead : (t : Table) (name : List ℕ) (id : ℕ) (r : Refusal) → not_l
 unfolding root_refusal
 root_dead t name id r dead = rw dead refl
 
-pub root_full : (t : Table) (name : List ℕ) (id : ℕ) → not_live t id ≡ None → is_root t name ≡ false → 65536 ≤ length t.roots → root_refusal t name (Some id) ≡ Some TooManyRoots
+pub root_full : (t : Table) (name : List ℕ) (id : ℕ) → not_live t id ≡ None → is_root t name ≡ false → MOST_ROOTS ≤ length t.roots → root_refusal t name (Some id) ≡ Some TooManyRoots
 unfolding root_refusal
 root_full t name id live new full = grind (arith, nat_tests)
 
@@ -97,12 +98,12 @@ pub root_there : (t : Table) (name : List ℕ) (id : ℕ) → not_live t id ≡ 
 unfolding root_refusal
 root_there t name id live there = grind (arith, nat_tests)
 
-pub root_room : (t : Table) (name : List ℕ) (id : ℕ) → not_live t id ≡ None → length t.roots < 65536 → root_refusal t name (Some id) ≡ None
+pub root_room : (t : Table) (name : List ℕ) (id : ℕ) → not_live t id ≡ None → length t.roots < MOST_ROOTS → root_refusal t name (Some id) ≡ None
 unfolding root_refusal
 root_room t name id live room = grind (arith, nat_tests)
 
 -- a new root that is not refused has room, and its object is live
-pub root_fits : (t : Table) (name : List ℕ) (id : ℕ) → root_refusal t name (Some id) ≡ None → (not_live t id ≡ None) × (is_root t name ≡ false → length t.roots < 65536)
+pub root_fits : (t : Table) (name : List ℕ) (id : ℕ) → root_refusal t name (Some id) ≡ None → (not_live t id ≡ None) × (is_root t name ≡ false → length t.roots < MOST_ROOTS)
 unfolding root_refusal
 root_fits t name id allowed = (grind (arith, nat_tests), λ new. grind (arith, nat_tests))
 

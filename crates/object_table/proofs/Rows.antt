@@ -12,6 +12,7 @@ use Rattle.std.proofs.lemmas.List.Kept.{AllPairs-filter}
 use Rattle.std.proofs.lemmas.List.Quantifiers.{all_pairs_push}
 use Rattle.std.proofs.lemmas.List.Sums.{sum_by-append, sum_by-set}
 use Rattle.std.proofs.lemmas.Bool.Decides.{nat_tests}
+use Rattle.heap_base.specs.declared.limits.TheConstants.{MOST_OBJECTS, MOST_SLOTS}
 use Rattle.graph_meaning.specs.Reach.{has_id}
 use Rattle.object_table.specs.Rows.{Row, row_ids, row_slots, IsHeld, LeadsInto, kept_of}
 
@@ -52,7 +53,7 @@ LeadsInto-more ids more larger r leads = All-weaker _ _ some r.slots leads
     some None h = h
     some (Some id) h = larger id h
 
-pub IsHeld-push : (rows : List Row) (total id kind slots : ℕ) → IsHeld rows total → All (λ r. r.id < id) rows → length rows < 1048576 → total + slots ≤ 16777216 → IsHeld (rows ++ record { id = id; kind = kind; slots = replicate slots None } ∷ []) (total + slots)
+pub IsHeld-push : (rows : List Row) (total id kind slots : ℕ) → IsHeld rows total → All (λ r. r.id < id) rows → length rows < MOST_OBJECTS → total + slots ≤ MOST_SLOTS → IsHeld (rows ++ record { id = id; kind = kind; slots = replicate slots None } ∷ []) (total + slots)
 IsHeld-push rows total id kind slots held above room room_for_slots =
     let r : Row = record { id = id; kind = kind; slots = replicate slots None } in
     record {

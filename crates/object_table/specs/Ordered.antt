@@ -3,16 +3,17 @@ use Rattle.std.specs.Prelude.{◌≡◌, ℕ, ◌≤◌, List, length, HoldsAt}
 use Rattle.std.specs.List.{AllPairs}
 use Rattle.std.specs.List.Sorted.{IsPartitionPoint}
 use Rattle.std.specs.declared.cmp.Ordering.TheVariants.{Less, Equal, Greater}
+use Rattle.heap_base.specs.declared.limits.TheConstants.{MOST_ROOTS}
 use Rattle.graph_meaning.specs.Heap.{name_cmp}
 
 -- each name is below those after it
 abbrev pub RisesByName : List (List ℕ × ℕ) → Type 0
 RisesByName roots = AllPairs (λ a b. name_cmp a.0 b.0 ≡ Less) roots
 
--- Each name is below those after it, and there are at most 65,536.
+-- Each name is below those after it, and there are no more than there may be.
 pub record IsOrdered (roots : List (List ℕ × ℕ)) : Type 0 where
   pub rising : AllPairs (λ a b. name_cmp a.0 b.0 ≡ Less) roots
-  pub few : length roots ≤ 65536
+  pub few : length roots ≤ MOST_ROOTS
 
 -- the root at this place has the name
 abbrev pub IsNamedAt : List ℕ → List (List ℕ × ℕ) → ℕ → Type 0

@@ -1,9 +1,15 @@
 -- A table with the places of its objects: each cell holds one object or is empty.
-use Rattle.std.specs.Prelude.{◌≡◌, ℕ, ◌≤◌, List, [], ◌∷◌, length, All, Bool, true, false, IsTrue, Option, None, Some, option_and_then, slice_index_or}
+use Rattle.std.specs.Prelude.{◌≡◌, ◌==◌, ℕ, ◌+◌, ◌≤◌, List, [], ◌∷◌, length, All, Bool, true, false, IsTrue, if◌then◌else◌, Option, None, Some, option_and_then, slice_index_or}
 use Rattle.std.specs.Option.{option_map_or}
-use Rattle.std.specs.List.{cons_option}
-use Rattle.graph_meaning.specs.Heap.{Object, Table, empty_table, object_at, is_live, targets}
+use Rattle.std.specs.List.{cons_option, IsDistinct}
+use Rattle.std.specs.List.Sorted.{IsStrictlySortedBy}
+use Rattle.std.specs.Map.{keys_of}
+use Rattle.std.specs.Str.{bytes_eq}
+use Rattle.heap_base.specs.declared.limits.TheConstants.{MOST_OBJECTS}
+use Rattle.graph_meaning.specs.Heap.{Slot, Object, Table, empty_slot, empty_table, name_cmp, object_at, is_live, is_seen, targets}
 use Rattle.graph_meaning.specs.Reach.{has_id}
+use Rattle.graph_meaning.specs.Assertions.{root_ids}
+use Rattle.graph_meaning.specs.Laws.{AllLive, HoldsLive, IdsRise, IsWithinLimits}
 
 -- The table, and for each cell the id of the object that it holds, if it holds one.
 pub record Placed : Type 0 where
@@ -22,15 +28,40 @@ abbrev pub object_in : Placed → ℕ → Option Object
 object_in p cell = option_and_then (object_at p.table.objects) (id_in p cell)
 
 -- the slots of the object that a cell holds
-abbrev pub slots_in : Placed → ℕ → List (Option ℕ)
+abbrev pub slots_in : Placed → ℕ → List Slot
 slots_in p cell = option_map_or (λ o. o.slots) (object_in p cell) []
+
+-- a slot of the object that a cell holds
+abbrev pub slot_in : Placed → ℕ → ℕ → Slot
+slot_in p cell slot = slice_index_or (slots_in p cell) slot empty_slot
 
 -- Each object stands in one cell, and in no other.
 pub record IsPlaced (p : Placed) : Type 0 where
-  pub few : length p.cells ≤ 1048576
+  pub few : length p.cells ≤ MOST_OBJECTS
   pub live : (cell id : ℕ) → id_in p cell ≡ Some id → IsTrue (is_live p.table id)
   pub somewhere : (id : ℕ) → IsTrue (is_live p.table id) → (cell : ℕ) × (id_in p cell ≡ Some id)
   pub once : (cell other id : ℕ) → id_in p cell ≡ Some id → id_in p other ≡ Some id → cell ≡ other
+
+-- The ids of the objects rise, no type name stands twice, and each object's type was seen; the roots rise by the bytes of
+-- their names; what roots name and slots hold is live; and nothing passes its limit.
+pub record IsSound (t : Table) : Type 0 where
+  pub ids : IdsRise t
+  pub kinds : IsDistinct bytes_eq t.kinds
+  pub seen : All (λ o. IsTrue (is_seen t.kinds o.kind)) t.objects
+  pub names : IsStrictlySortedBy name_cmp (keys_of t.roots)
+  pub roots : AllLive t (root_ids t)
+  pub slots : All (λ o. All (HoldsLive t) o.slots) t.objects
+  pub limits : IsWithinLimits t
+
+-- how many cells there are with one object more: no more than before where one is empty
+abbrev pub cells_for_one_more : Placed → ℕ
+cells_for_one_more p = if length p.cells == length p.table.objects then length p.cells + 1 else length p.cells
+
+-- A new object takes a cell that was empty, or a new one where none was, and each other object keeps its cell.
+pub record TakesCell (before after : Placed) (id : ℕ) : Type 0 where
+  pub taken : (cell : ℕ) × (id_in before cell ≡ None) × (id_in after cell ≡ Some id)
+  pub others : (cell other : ℕ) → id_in before cell ≡ Some other → id_in after cell ≡ Some other
+  pub count : length after.cells ≡ cells_for_one_more before
 
 -- the ids of the objects whose cells are kept
 abbrev pub kept_ids : List (Option ℕ) → List Bool → List ℕ
@@ -39,7 +70,7 @@ kept_ids (c ∷ cells) [] = []
 kept_ids (c ∷ cells) (true ∷ kept) = cons_option c (kept_ids cells kept)
 kept_ids (c ∷ cells) (false ∷ kept) = kept_ids cells kept
 
--- No root and no slot of an object that is kept leads to one that is not.
+-- No root names and no edge of a kept object leads to an object that is not kept.
 pub record LeadsToKept (t : Table) (kept : List ℕ) : Type 0 where
   pub by_roots : All (λ r. IsTrue (has_id kept r.1)) t.roots
-  pub by_slots : (x y : ℕ) → IsTrue (has_id kept x) → IsTrue (has_id (targets t x) y) → IsTrue (has_id kept y)
+  pub by_edges : (x y : ℕ) → IsTrue (has_id kept x) → IsTrue (has_id (targets t x) y) → IsTrue (has_id kept y)

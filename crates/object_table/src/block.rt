@@ -1,6 +1,7 @@
 ghost use Rattle.std.specs.Prelude.{◌≡◌, ◌+◌, ◌<◌, ◌≤◌, ◌∷◌, [], length, take, drop, Some, slice_get, slice_set, IfSome, IfOk, IfErr, OnOk, OnErr};
 ghost use Rattle.std.specs.List.{insert, remove};
 ghost use Rattle.std.specs.List.Sorted.{IsSearchInRange};
+ghost use Rattle.heap_base.specs.declared.limits.TheConstants.{MOST_ROOTS};
 ghost use Rattle.object_table.specs.Blocks.{Run, begins_above, raised, lowered};
 ghost use Rattle.object_table.specs.Ordered.{IsNamedAt, IsGapFor, RisesByName};
 
@@ -109,7 +110,7 @@ impl Block {
     /// Takes the entries from this place on into a block of their own.
     pub fn split(&mut self, place: usize) -> Result<Block, OutOfMemory>
         requires in_range { place ≤ length self.old.entries }
-        requires small { self.old.start + length self.old.entries ≤ 65536 }
+        requires small { self.old.start + length self.old.entries ≤ MOST_ROOTS }
         ensures front { OnOk result (self.new ≡ record self.old { entries = take place self.old.entries }) }
         ensures tail { IfOk result (λ tail. tail ≡ record { start = self.old.start + place; entries = drop place self.old.entries }) }
         ensures err { OnErr result (self.new ≡ self.old) }
@@ -123,7 +124,7 @@ impl Block {
 
     /// Moves it one place up in the list.
     pub fn raise(&mut self)
-        requires { self.old.start < 65536 }
+        requires { self.old.start < MOST_ROOTS }
         ensures { self.new ≡ raised self.old }
     {
         self.start += 1;

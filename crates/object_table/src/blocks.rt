@@ -1,6 +1,7 @@
 ghost use Rattle.std.specs.Prelude.{◌≡◌, ◌+◌, ◌<◌, ◌≤◌, ◌++◌, [], length, map, take, drop, All, HoldsAt, Some, slice_get, slice_set, IfSome, IfOk, IfErr, OnOk, OnErr};
 ghost use Rattle.std.specs.List.{insert, remove};
 ghost use Rattle.std.specs.List.Sorted.{IsSearchInRange};
+ghost use Rattle.heap_base.specs.declared.limits.TheConstants.{MOST_ROOTS};
 ghost use Rattle.object_table.specs.Blocks.{joined, IsLaid, IsRunOf, raised, lowered};
 ghost use Rattle.object_table.specs.Ordered.{IsOrdered, IsNamedAt, IsGapFor};
 
@@ -43,7 +44,7 @@ impl Blocks {
 
     /// How many entries there are.
     pub fn len(&self) -> usize
-        requires { length self.now ≤ 65536 }
+        requires { length self.now ≤ MOST_ROOTS }
         ensures { result ≡ length self.now }
     {
         match self.blocks.last() {
@@ -95,7 +96,7 @@ impl Blocks {
     /// Puts the entry at this place.
     pub fn insert(&mut self, place: usize, entry: Entry) -> Result<(), OutOfMemory>
         requires in_range { place ≤ length self.old }
-        requires room { length self.old < 65536 }
+        requires room { length self.old < MOST_ROOTS }
         ensures inserted { OnOk result (self.new ≡ insert self.old place entry) }
         ensures err { OnErr result (self.new ≡ self.old) }
     {
@@ -146,7 +147,7 @@ fn split_full(blocks: &mut Vec<Block>, place: usize) -> Result<(), OutOfMemory>
     requires laid { IsLaid 0 blocks.old.items }
     requires some { 0 < length blocks.old.items }
     requires in_range { place ≤ length (joined blocks.old.items) }
-    requires few { length (joined blocks.old.items) ≤ 65536 }
+    requires few { length (joined blocks.old.items) ≤ MOST_ROOTS }
     ensures laid { IsLaid 0 blocks.new.items }
     ensures some { 0 < length blocks.new.items }
     ensures same { joined blocks.new.items ≡ joined blocks.old.items }
@@ -164,7 +165,7 @@ fn split(blocks: &mut Vec<Block>, at: usize) -> Result<(), OutOfMemory>
     requires laid { IsLaid 0 blocks.old.items }
     requires in_range { at < length blocks.old.items }
     requires long { HoldsAt (λ r. 2 ≤ length r.entries) blocks.old.items at }
-    requires few { length (joined blocks.old.items) ≤ 65536 }
+    requires few { length (joined blocks.old.items) ≤ MOST_ROOTS }
     ensures laid { IsLaid 0 blocks.new.items }
     ensures some { 0 < length blocks.new.items }
     ensures same { joined blocks.new.items ≡ joined blocks.old.items }
@@ -181,7 +182,7 @@ fn put(blocks: &mut Vec<Block>, place: usize, entry: Entry) -> Result<(), OutOfM
     requires laid { IsLaid 0 blocks.old.items }
     requires some { 0 < length blocks.old.items }
     requires in_range { place ≤ length (joined blocks.old.items) }
-    requires room { length (joined blocks.old.items) < 65536 }
+    requires room { length (joined blocks.old.items) < MOST_ROOTS }
     ensures laid { IsLaid 0 blocks.new.items }
     ensures put { OnOk result (joined blocks.new.items ≡ insert (joined blocks.old.items) place entry) }
     ensures err { OnErr result (joined blocks.new.items ≡ joined blocks.old.items) }
@@ -225,7 +226,7 @@ fn take_block(blocks: &mut Vec<Block>, at: usize, place: usize)
 // Moves the blocks from this one on one place up in the list.
 fn raise(blocks: &mut Vec<Block>, from: usize)
     requires in_range { from ≤ length blocks.old.items }
-    requires low { All (λ r. r.start < 65536) (drop from blocks.old.items) }
+    requires low { All (λ r. r.start < MOST_ROOTS) (drop from blocks.old.items) }
     ensures { blocks.new.items ≡ take from blocks.old.items ++ map raised (drop from blocks.old.items) }
 {
     for at in from..blocks.len() {

@@ -2,13 +2,14 @@ ghost use Rattle.std.specs.Prelude.{◌≡◌, ◌<◌, ◌≤◌, ◌++◌, ◌
 ghost use Rattle.std.specs.Str.{bytes_eq};
 ghost use Rattle.graph_meaning.specs.Heap.{is_seen};
 ghost use Rattle.graph_meaning.specs.Step.{with_kind};
+ghost use Rattle.heap_base.specs.declared.limits.TheConstants.{MOST_KINDS};
 
 use heap_base::{Name, OutOfMemory};
 use std::alloc::Global;
 use std::collections::HashMap;
 use std::marker::Model;
 
-/// The type names that were seen, at most 65,536, in the order in which they first came. Contracts see their
+/// The type names that were seen, no more than there may be, in the order in which they first came. Contracts see their
 /// list.
 #[derive(Drop)]
 pub struct Kinds {
@@ -52,7 +53,7 @@ impl Kinds {
     /// How many names there are.
     pub fn len(&self) -> u32
         ensures count { result ≡ length self.now }
-        ensures few { result ≤ 65536 }
+        ensures few { result ≤ MOST_KINDS }
     {
         self.names.len() as u32
     }
@@ -67,7 +68,7 @@ impl Kinds {
 
     /// The place of the name, which is put last where it was not seen.
     pub fn number(&mut self, name: &Name) -> Result<u32, OutOfMemory>
-        requires { is_seen self.old name.now ≡ false → length self.old < 65536 }
+        requires { is_seen self.old name.now ≡ false → length self.old < MOST_KINDS }
         ensures number { IfOk result (λ n. position (bytes_eq name.now) self.new ≡ Some n) }
         ensures seen { OnOk result (self.new ≡ with_kind self.old name.now) }
         ensures err { OnErr result (self.new ≡ self.old) }
@@ -80,7 +81,7 @@ impl Kinds {
 
     fn add(&mut self, name: &Name) -> Result<u32, OutOfMemory>
         requires new { position (bytes_eq name.now) self.old ≡ None }
-        requires room { length self.old < 65536 }
+        requires room { length self.old < MOST_KINDS }
         ensures number { IfOk result (λ n. position (bytes_eq name.now) self.new ≡ Some n) }
         ensures seen { OnOk result (self.new ≡ with_kind self.old name.now) }
         ensures err { OnErr result (self.new ≡ self.old) }

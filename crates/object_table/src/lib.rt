@@ -5,7 +5,6 @@ mod block;
 mod blocks;
 mod entry;
 mod kinds;
-mod limits;
 mod object;
 mod objects;
 mod roots;

@@ -1,11 +1,12 @@
 ghost use Rattle.std.specs.Prelude.{◌≡◌, ◌<◌, ◌≤◌, length, replicate, slice_set, slice_index_or, None, IfOk};
 ghost use Rattle.object_table.specs.Rows.{Row};
+ghost use Rattle.heap_base.specs.declared.limits.TheConstants.{MOST_SLOTS};
 
 use heap_base::{ObjId, OutOfMemory};
 use std::alloc::Global;
 use std::marker::Model;
 
-/// A live object: its id, the number of its type, and what its slots hold, at most 16,777,216 of them.
+/// A live object: its id, the number of its type, and what its slots hold.
 #[derive(Drop)]
 pub struct Object {
     id: ObjId,
@@ -16,18 +17,19 @@ pub struct Object {
 impl Model for Object {
     ghost use Rattle.std.specs.Prelude.{length, ◌≤◌};
     ghost use Rattle.object_table.specs.Rows.{Row};
+    ghost use Rattle.heap_base.specs.declared.limits.TheConstants.{MOST_SLOTS};
 
     ghost Value = { Row };
 
     ghost view = { λ o. record { id = o.id; kind = o.kind; slots = o.slots.items } };
 
-    ghost invariant = { λ o. length o.slots.items ≤ 16777216 };
+    ghost invariant = { λ o. length o.slots.items ≤ MOST_SLOTS };
 }
 
 impl Object {
     /// An object with empty slots.
     pub fn make(alloc: Global, id: ObjId, kind: u32, slots: u32) -> Result<Object, OutOfMemory>
-        requires { slots ≤ 16777216 }
+        requires { slots ≤ MOST_SLOTS }
         ensures { IfOk result (λ o. o ≡ record { id = id; kind = kind; slots = replicate slots None }) }
     {
         let slots = vec![in alloc; None; slots as usize]?;
@@ -51,7 +53,7 @@ impl Object {
     /// How many slots it has.
     pub fn slots(&self) -> u32
         ensures count { result ≡ length self.now.slots }
-        ensures few { result ≤ 16777216 }
+        ensures few { result ≤ MOST_SLOTS }
     {
         self.slots.len() as u32
     }

@@ -1,6 +1,7 @@
 ghost use Rattle.std.specs.Prelude.{◌≡◌, ◌+◌, ◌-◌, ◌<◌, ◌≤◌, ◌++◌, ◌∷◌, [], length, take, filter, replicate, slice_get, slice_set, All, HoldsAt, IsTrue, IfSome, IfNone, OnOk, OnErr, Some, None, false};
 ghost use Rattle.std.specs.List.{AllPairs};
 ghost use Rattle.graph_meaning.specs.Reach.{has_id};
+ghost use Rattle.heap_base.specs.declared.limits.TheConstants.{MOST_OBJECTS, MOST_SLOTS};
 ghost use Rattle.object_table.specs.Rows.{Row, row_ids, row_slots, IsHeld, LeadsInto, kept_of};
 
 use crate::object::Object;
@@ -8,7 +9,7 @@ use heap_base::{ObjId, OutOfMemory};
 use std::alloc::Global;
 use std::marker::Model;
 
-/// The live objects by id rising, at most 1,048,576 with at most 16,777,216 slots. No slot leads out of them.
+/// The live objects by id rising, within the limits of a heap. No slot leads out of them.
 /// Contracts see their list.
 #[derive(Drop)]
 pub struct Objects {
@@ -82,8 +83,8 @@ impl Objects {
     /// Puts an object with empty slots last.
     pub fn push(&mut self, id: ObjId, kind: u32, slots: u32) -> Result<(), OutOfMemory>
         requires above { All (λ r. r.id < id) self.old }
-        requires room { length self.old < 1048576 }
-        requires room_for_slots { row_slots self.old + slots ≤ 16777216 }
+        requires room { length self.old < MOST_OBJECTS }
+        requires room_for_slots { row_slots self.old + slots ≤ MOST_SLOTS }
         ensures held { IsHeld self.old (row_slots self.old) }
         ensures last { OnOk result (self.new ≡ self.old ++ record { id = id; kind = kind; slots = replicate slots None } ∷ []) }
         ensures err { OnErr result (self.new ≡ self.old) }
@@ -127,7 +128,7 @@ impl Objects {
 
 // How many slots the objects have together.
 fn slots_of(objects: &[Object]) -> u32
-    requires { row_slots objects.now ≤ 16777216 }
+    requires { row_slots objects.now ≤ MOST_SLOTS }
     ensures { result ≡ row_slots objects.now }
 {
     objects.iter().map(|o| o.slots()).sum()

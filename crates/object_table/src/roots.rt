@@ -2,6 +2,7 @@ ghost use Rattle.std.specs.Prelude.{◌≡◌, ◌<◌, ◌≤◌, [], length, i
 ghost use Rattle.std.specs.List.Sorted.{IsSearchInRange};
 ghost use Rattle.std.specs.Map.{lookup, remove_entry};
 ghost use Rattle.std.specs.BTreeMap.{insert_entry, is_at};
+ghost use Rattle.heap_base.specs.declared.limits.TheConstants.{MOST_ROOTS};
 ghost use Rattle.graph_meaning.specs.Heap.{name_cmp};
 ghost use Rattle.object_table.specs.Ordered.{IsOrdered, IsNamedAt, IsGapFor};
 
@@ -11,7 +12,7 @@ use heap_base::{Name, ObjId, OutOfMemory};
 use std::alloc::Global;
 use std::marker::Model;
 
-/// The roots by the bytes of their names, at most 65,536, each with the object that it holds. Contracts see
+/// The roots by the bytes of their names, no more than there may be, each with the object that it holds. Contracts see
 /// the list of those pairs.
 #[derive(Drop)]
 pub struct Roots {
@@ -42,7 +43,7 @@ impl Roots {
     /// How many there are.
     pub fn len(&self) -> u32
         ensures count { result ≡ length self.now }
-        ensures few { result ≤ 65536 }
+        ensures few { result ≤ MOST_ROOTS }
     {
         self.entries.len() as u32
     }
@@ -72,7 +73,7 @@ impl Roots {
 
     /// Lets the name hold the object. Only a new name wants memory.
     pub fn set(&mut self, name: &Name, id: ObjId) -> Result<(), OutOfMemory>
-        requires { lookup (is_at (name_cmp name.now)) self.old ≡ None → length self.old < 65536 }
+        requires { lookup (is_at (name_cmp name.now)) self.old ≡ None → length self.old < MOST_ROOTS }
         ensures set { OnOk result (self.new ≡ insert_entry name_cmp self.old name.now id) }
         ensures err { OnErr result (self.new ≡ self.old) }
         ensures memory { OnErr result (lookup (is_at (name_cmp name.now)) self.old ≡ None) }

@@ -1,18 +1,17 @@
-ghost use Rattle.std.specs.Prelude.{◌≡◌, ◌<◌, ◌≤◌, ℕ, IsTrue, None, Some, true, false, length, position, option_and_then, is_some, slice_get, slice_index_or, IsSome, IfSome, IfNone, IfOk, OnOk, OnErr};
+ghost use Rattle.std.specs.Prelude.{◌≡◌, ◌<◌, ◌≤◌, ℕ, IsTrue, None, Some, true, false, length, position, option_and_then, is_some, slice_get, IsSome, IfSome, IfOk, OnOk, OnErr};
 ghost use Rattle.std.specs.Result.{result_err};
 ghost use Rattle.std.specs.Str.{bytes_eq};
 ghost use Rattle.graph_meaning.specs.Answers.{RefusesBy};
 ghost use Rattle.graph_meaning.specs.Heap.{edge_of, is_live};
-ghost use Rattle.graph_meaning.specs.Collecting.{only};
-ghost use Rattle.graph_meaning.specs.Step.{alloc_refusal, allocated, not_live, target_refusal, store_refusal, stored, root_refusal, with_root, is_root, kind_refusal, with_kind};
-ghost use Rattle.object_table.specs.Placed.{nothing_placed, id_in, object_in, slots_in, IsPlaced, kept_ids, LeadsToKept};
+ghost use Rattle.graph_meaning.specs.Collecting.{with_only};
+ghost use Rattle.graph_meaning.specs.Step.{alloc_refusal, with_object, not_live, target_refusal, store_refusal, with_changed_slot, slot_holding, root_refusal, with_root, is_root, kind_refusal, with_kind};
+ghost use Rattle.object_table.specs.Placed.{nothing_placed, id_in, object_in, slots_in, slot_in, IsPlaced, IsSound, TakesCell, kept_ids, LeadsToKept};
 
 use crate::kinds::Kinds;
-use crate::limits::{MOST_KINDS, MOST_OBJECTS, MOST_ROOTS, MOST_SLOTS};
 use crate::objects::Objects;
 use crate::roots::Roots;
 use graph_meaning::{Refusal, Stop};
-use heap_base::{Name, ObjId, OutOfMemory};
+use heap_base::{MOST_KINDS, MOST_OBJECTS, MOST_ROOTS, MOST_SLOTS, Name, ObjId, OutOfMemory};
 use std::alloc::Global;
 use std::marker::Model;
 
@@ -41,7 +40,7 @@ impl Model for ObjectTable {
 impl ObjectTable {
     /// The empty table.
     pub fn make(alloc: Global) -> Result<ObjectTable, OutOfMemory>
-        ensures { IfOk result (λ t. t ≡ nothing_placed) }
+        ensures empty { IfOk result (λ t. t ≡ nothing_placed) }
     {
         Ok(ObjectTable {
             objects: Objects::make(alloc),
@@ -53,7 +52,7 @@ impl ObjectTable {
 
     /// Why `alloc_object` would refuse this object, and `None` where it would not.
     pub fn alloc_refusal(&self, id: ObjId, kind: &Name, slots: u32) -> Option<Refusal>
-        ensures { result ≡ alloc_refusal self.now.table id kind.now slots }
+        ensures refusal { result ≡ alloc_refusal self.now.table id kind.now slots }
     {
         if id.number() <= self.greatest {
             Some(Refusal::IdNotRising(id.number()))
@@ -66,28 +65,27 @@ impl ObjectTable {
         }
     }
 
-    /// Adds an object with empty slots. It refuses, in this order, an id that is not above every id before
-    /// (`IdNotRising`), an object too many (1,048,576 are live), slots too many (16,777,216 in all), and a new
-    /// type too many (65,536 were seen). After a refusal, and where memory is wanting, nothing has changed.
+    /// Adds an object with empty slots, none weak. It refuses, in this order, an id that is not above every id
+    /// before (`IdNotRising`), an object too many where `MOST_OBJECTS` are live (`TooManyObjects`), slots that
+    /// with the live ones pass `MOST_SLOTS` (`TooManySlots`), and a new type where `MOST_KINDS` were seen
+    /// (`TooManyTypes`). After a refusal, and where memory is wanting, nothing has changed.
     pub fn alloc_object(&mut self, id: ObjId, kind: &Name, slots: u32) -> Result<(), Stop>
         ensures refused { RefusesBy result (alloc_refusal self.old.table id kind.now slots) }
-        ensures added { OnOk result (self.new.table ≡ allocated self.old.table id kind.now slots) }
+        ensures added { OnOk result (self.new.table ≡ with_object self.old.table id kind.now slots) }
+        ensures cells { OnOk result (TakesCell self.old self.new id) }
         ensures err { OnErr result (self.new ≡ self.old) }
     {
         if let Some(refusal) = self.alloc_refusal(id, kind, slots) {
             return Err(Stop::Refused(refusal));
         }
-        let Ok(()) = self.add_object(id, kind, slots) else {
-            return Err(Stop::OutOfMemory);
-        };
-        Ok(())
+        Ok(self.add_object(id, kind, slots)?)
     }
 
-    /// Lets a slot hold an object, or nothing. It refuses, in this order, an `at` that is not live
+    /// Lets a slot hold an object, or nothing; it stays weak where it is. It refuses, in this order, an `at` that is not live
     /// (`NotLive`), a slot that `at` does not have (`BadSlot`), and a `to` that is not live (`NotLive`).
     pub fn store(&mut self, at: ObjId, slot: u32, to: Option<ObjId>) -> Result<(), Refusal>
         ensures refused { result_err result ≡ store_refusal self.old.table at slot to }
-        ensures stored { OnOk result (self.new.table ≡ stored self.old.table at slot to) }
+        ensures stored { OnOk result (self.new.table ≡ with_changed_slot self.old.table at slot (slot_holding to)) }
         ensures cells { self.new.cells ≡ self.old.cells }
         ensures err { OnErr result (self.new ≡ self.old) }
     {
@@ -97,7 +95,7 @@ impl ObjectTable {
     }
 
     /// Lets a root name hold an object, or takes the name away, also where it is not there. It refuses, in
-    /// this order, a `to` that is not live (`NotLive`), and a new name where 65,536 are there
+    /// this order, a `to` that is not live (`NotLive`), and a new name where `MOST_ROOTS` are there
     /// (`TooManyRoots`). Only a new name may want memory.
     pub fn set_root(&mut self, name: &Name, to: Option<ObjId>) -> Result<(), Stop>
         ensures refused { RefusesBy result (root_refusal self.old.table name.now to) }
@@ -117,12 +115,13 @@ impl ObjectTable {
 
     /// The number of a type, from 0 in the order in which the types first came, and `None` where it was not seen.
     pub fn kind_number(&self, name: &Name) -> Option<u32>
-        ensures { result ≡ position (bytes_eq name.now) self.now.table.kinds }
+        ensures number { result ≡ position (bytes_eq name.now) self.now.table.kinds }
     {
         self.kinds.find(name)
     }
 
-    /// The number of a type, which is seen from now on. It refuses a new type where 65,536 were seen (`TooManyTypes`).
+    /// The number of a type, which is seen from now on. It refuses a new type where
+    /// `MOST_KINDS` were seen (`TooManyTypes`).
     pub fn kind_of(&mut self, name: &Name) -> Result<u32, Stop>
         ensures refused { RefusesBy result (kind_refusal self.old.table name.now) }
         ensures number { IfOk result (λ n. position (bytes_eq name.now) self.new.table.kinds ≡ Some n) }
@@ -133,38 +132,36 @@ impl ObjectTable {
         if let Some(refusal) = self.kind_refusal(name) {
             return Err(Stop::Refused(refusal));
         }
-        let Ok(number) = self.kinds.number(name) else {
-            return Err(Stop::OutOfMemory);
-        };
-        Ok(number)
+        Ok(self.kinds.number(name)?)
     }
 
     /// How many types were seen.
     pub fn kinds(&self) -> u32
-        ensures { result ≡ length self.now.table.kinds }
+        ensures count { result ≡ length self.now.table.kinds }
     {
         self.kinds.len()
     }
 
     /// The name of a type.
     pub fn kind_name(&self, kind: u32) -> &Name
-        requires { kind < length self.now.table.kinds }
-        ensures { slice_get self.now.table.kinds kind ≡ Some result.now }
+        requires in_range { kind < length self.now.table.kinds }
+        ensures name { slice_get self.now.table.kinds kind ≡ Some result.now }
     {
         self.kinds.name(kind)
     }
 
-    /// How many cells there are, at most 1,048,576. Each object stands in one of them.
+    /// How many cells there are, at most `MOST_OBJECTS`. Each object stands in one of them.
     pub fn cells(&self) -> u32
         ensures count { result ≡ length self.now.cells }
         ensures placed { IsPlaced self.now }
+        ensures sound { IsSound self.now.table }
     {
         self.objects.len()
     }
 
     /// How many objects are live.
     pub fn live(&self) -> u32
-        ensures { result ≡ length self.now.table.objects }
+        ensures count { result ≡ length self.now.table.objects }
     {
         self.objects.len()
     }
@@ -172,40 +169,41 @@ impl ObjectTable {
     /// The cell that holds the object, and `None` where it is not live.
     pub fn cell_of(&self, id: ObjId) -> Option<u32>
         ensures cell { IfSome result (λ cell. id_in self.now cell ≡ Some id) }
-        ensures none { IfNone result (is_live self.now.table id ≡ false) }
+        ensures live { is_some result ≡ is_live self.now.table id }
     {
         self.objects.place(id)
     }
 
     /// The object that a cell holds, and `None` where it is empty.
     pub fn id_at(&self, cell: u32) -> Option<ObjId>
-        requires { cell < length self.now.cells }
-        ensures { result ≡ id_in self.now cell }
+        requires in_range { cell < length self.now.cells }
+        ensures id { result ≡ id_in self.now cell }
     {
         Some(self.objects.at(cell).id())
     }
 
     /// The number of the type of the object in a cell.
     pub fn kind_at(&self, cell: u32) -> u32
-        requires { IsSome (id_in self.now cell) }
-        ensures { IfSome (object_in self.now cell) (λ o. slice_get self.now.table.kinds result ≡ Some o.kind) }
+        requires taken { IsSome (id_in self.now cell) }
+        ensures number { IfSome (object_in self.now cell) (λ o. position (bytes_eq o.kind) self.now.table.kinds ≡ Some result) }
     {
         self.objects.at(cell).kind()
     }
 
     /// How many slots the object in a cell has.
     pub fn slots_at(&self, cell: u32) -> u32
-        requires { IsSome (id_in self.now cell) }
-        ensures { result ≡ length (slots_in self.now cell) }
+        requires taken { IsSome (id_in self.now cell) }
+        ensures count { result ≡ length (slots_in self.now cell) }
     {
         self.objects.at(cell).slots()
     }
 
-    /// The cell of what a slot of the object in a cell leads to, and `None` where it leads nowhere.
+    /// The cell of the object that an edge leads to from a slot of the object in a cell, and `None` where the
+    /// slot is no edge: it is empty, or weak.
     pub fn slot_at(&self, cell: u32, slot: u32) -> Option<u32>
-        requires { slot < length (slots_in self.now cell) }
-        ensures leads { option_and_then (id_in self.now) result ≡ edge_of (slice_index_or (slots_in self.now cell) slot None) }
-        ensures in_a_cell { is_some result ≡ is_some (edge_of (slice_index_or (slots_in self.now cell) slot None)) }
+        requires a_slot { slot < length (slots_in self.now cell) }
+        ensures leads { option_and_then (id_in self.now) result ≡ edge_of (slot_in self.now cell slot) }
+        ensures in_a_cell { is_some result ≡ is_some (edge_of (slot_in self.now cell slot)) }
     {
         match self.objects.at(cell).slot(slot) {
             Some(id) => self.objects.place(id),
@@ -215,35 +213,35 @@ impl ObjectTable {
 
     /// How many roots there are. They are numbered from 0 by the bytes of their names.
     pub fn roots(&self) -> u32
-        ensures { result ≡ length self.now.table.roots }
+        ensures count { result ≡ length self.now.table.roots }
     {
         self.roots.len()
     }
 
     /// The name of a root.
     pub fn root_name(&self, root: u32) -> &Name
-        requires { root < length self.now.table.roots }
-        ensures { IfSome (slice_get self.now.table.roots root) (λ r. result.now ≡ r.0) }
+        requires in_range { root < length self.now.table.roots }
+        ensures name { IfSome (slice_get self.now.table.roots root) (λ r. result.now ≡ r.0) }
     {
         self.roots.name(root)
     }
 
     /// The cell of the object that a root names.
     pub fn root_cell(&self, root: u32) -> u32
-        requires { root < length self.now.table.roots }
-        ensures { IfSome (slice_get self.now.table.roots root) (λ r. id_in self.now result ≡ Some r.1) }
+        requires in_range { root < length self.now.table.roots }
+        ensures cell { IfSome (slice_get self.now.table.roots root) (λ r. id_in self.now result ≡ Some r.1) }
     {
         match self.objects.place(self.roots.id(root)) {
             Some(cell) => cell,
-            None => 0,
+            None => unreachable!(),
         }
     }
 
-    /// Frees every object whose cell is not kept. Cells may be numbered anew.
+    /// Frees every object whose cell is not kept. A slot that held one is empty then.
     pub fn keep(&mut self, kept: &[bool])
         requires each { length kept.now ≡ length self.old.cells }
         requires closed { LeadsToKept self.old.table (kept_ids self.old.cells kept.now) }
-        ensures { self.new.table ≡ only (kept_ids self.old.cells kept.now) self.old.table }
+        ensures kept { self.new.table ≡ with_only (kept_ids self.old.cells kept.now) self.old.table }
     {
         self.objects.keep(kept);
     }
@@ -304,10 +302,7 @@ impl ObjectTable {
         if let Some(refusal) = self.root_refusal(name, id) {
             return Err(Stop::Refused(refusal));
         }
-        let Ok(()) = self.roots.set(name, id) else {
-            return Err(Stop::OutOfMemory);
-        };
-        Ok(())
+        Ok(self.roots.set(name, id)?)
     }
 
     // The cell of the object that is stored into, or why the store is refused.
@@ -330,7 +325,8 @@ impl ObjectTable {
     // Puts the object last. Where memory is wanting, nothing has changed.
     fn add_object(&mut self, id: ObjId, kind: &Name, slots: u32) -> Result<(), OutOfMemory>
         requires { alloc_refusal self.old.table id kind.now slots ≡ None }
-        ensures added { OnOk result (self.new.table ≡ allocated self.old.table id kind.now slots) }
+        ensures added { OnOk result (self.new.table ≡ with_object self.old.table id kind.now slots) }
+        ensures cells { OnOk result (TakesCell self.old self.new id) }
         ensures err { OnErr result (self.new ≡ self.old) }
     {
         let number = self.kinds.find(kind).unwrap_or(self.kinds.len());

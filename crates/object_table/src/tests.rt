@@ -127,7 +127,10 @@ fn slots_lead_to_cells(rt: HostRuntime) -> Result<(), Fail> {
     table.store(id(8_192)?, 1, Some(id(4_096)?))?;
     let leaf = table.cell_of(id(4_096)?);
     let cell = table.cell_of(id(8_192)?).ok_or("not live")?;
+    assert_eq!(rt; table.id_at(cell), Some(id(8_192)?));
     assert_eq!(rt; table.kind_at(cell), 0);
+    assert_eq!(rt; table.kind_number(&name(rt.alloc(), "A")?), Some(0));
+    assert_eq!(rt; table.kind_number(&name(rt.alloc(), "B")?), None);
     assert_eq!(rt; table.slots_at(cell), 2);
     assert_eq!(rt; table.slot_at(cell, 0), None);
     assert_eq!(rt; table.slot_at(cell, 1), leaf);

@@ -1,0 +1,245 @@
+-- What holds of every table holds after each operation that is not refused, and after objects are freed.
+use Rattle.std.proofs.Common.{◌≡◌, ℕ, ◌<◌, ◌≤◌, List, [], ◌∷◌, ◌++◌, length, map, filter, Bool, true, false, not, ◌==◌, cond, get_or, slice_set, IsTrue, Option, None, Some, IfOk, refl, sym, ◌∙◌, ap, subst, arith}
+use Rattle.std.specs.List.{All, AllPairs, list_any, sum_by, IsDistinct}
+use Rattle.std.specs.Option.{IfSome}
+use Rattle.std.specs.Str.{bytes_eq}
+use Rattle.std.specs.Cmp.{IsEquivalence}
+use Rattle.std.proofs.lemmas.Bool.{or_left, or_right}
+use Rattle.std.proofs.lemmas.List.{length-map}
+use Rattle.std.proofs.lemmas.List.Elements.{All-nil, All-map, All-filter, All-push, All-weaker, All-replicate}
+use Rattle.std.proofs.lemmas.List.Folds.{list_any-append}
+use Rattle.std.proofs.lemmas.List.Kept.{AllPairs-filter}
+use Rattle.std.proofs.lemmas.List.Sums.{sum_by-cons}
+use Rattle.std.proofs.lemmas.Map.Keys.{IsDistinct-push}
+use Rattle.std.proofs.lemmas.Slice.Eq.{bytes_eq-Decides}
+use Rattle.heap_base.specs.declared.limits.TheConstants.{MOST_THREADS}
+use Rattle.graph_meaning.specs.declared.event.Event.{Event}
+use Rattle.graph_meaning.specs.declared.event.Event.TheVariants.{Alloc, Store, Root, AssertInstances}
+use Rattle.graph_meaning.specs.declared.refusal.Refusal.{Refusal}
+use Rattle.graph_meaning.specs.Heap.{Slot, Object, Table, Heap, empty_slot, empty_table, empty_heap, ids, is_live, is_seen}
+use Rattle.graph_meaning.specs.Reach.{has_id}
+use Rattle.graph_meaning.specs.Assertions.{root_ids}
+use Rattle.graph_meaning.specs.Collecting.{slot_without, object_without, with_only}
+use Rattle.graph_meaning.specs.Step.{alloc_refusal, store_refusal, root_refusal, kind_refusal, with_object, with_kind, with_slot, with_changed_slot, slot_holding, with_root, heap_unless, step}
+use Rattle.graph_meaning.specs.Laws.{AllLive, HoldsLive, RefersToLive, IdsRise, IsOrdered, IsWithinLimits}
+use Rattle.graph_meaning.proofs.Membership.{length-filter_le}
+use Rattle.graph_meaning.proofs.HeapLemmas.{is_live-with_only}
+use Rattle.graph_meaning.proofs.Keeping.{heaps_refer_to_live}
+use Rattle.graph_meaning.proofs.Orders.{limits_are_kept}
+use Rattle.graph_meaning.proofs.Rising.{ids_always_rise, ids-with_only}
+use Rattle.object_table.specs.Placed.{IsSound, LeadsToKept}
+
+-- the heap with this table, where nothing is asserted
+abbrev heap_with : Table → Heap
+heap_with t = record empty_heap { table = t }
+
+-- what the laws of heaps ask of it
+refers : (t : Table) → IsSound t → RefersToLive (heap_with t)
+refers t sound = record {
+  roots = sound.roots;
+  slots = sound.slots;
+  dead = All-nil (λ id. IsTrue (is_live t id));
+  unshared = All-nil (λ id. IsTrue (is_live t id));
+  regions = All-replicate (All (AllLive t)) MOST_THREADS [] (All-nil (AllLive t));
+  ownees = All-nil (λ id. IsTrue (is_live t id));
+}
+
+limited : (t : Table) → IsSound t → IsOrdered (heap_with t) × IsWithinLimits t
+limited t sound = (record { roots = sound.names; dead = limits_are_kept.0.0.dead; unshared = limits_are_kept.0.0.unshared; limits = limits_are_kept.0.0.limits; owners = limits_are_kept.0.0.owners }, sound.limits)
+
+-- what holds after an operation holds of the heap that it leaves where it is not refused
+allowed : (P : Heap → Type 0) (refusal : Option Refusal) (h : Heap) → refusal ≡ None → IfOk (heap_unless refusal h) P → P h
+allowed P None h none holds = holds
+allowed P (Some r) h none holds = absurd cc
+
+-- ---- type names
+
+bytes_eq-refl : (x : List ℕ) → bytes_eq x x ≡ true
+bytes_eq-refl x = (bytes_eq-Decides x x).1 refl
+
+-- texts are equal where they are the same
+bytes_eq-equivalence : IsEquivalence bytes_eq
+bytes_eq-equivalence = record {
+  refl = bytes_eq-refl;
+  symm = λ x y. grind (arith, bytes_eq-Decides x y, bytes_eq-Decides y x);
+  congr = λ x y z same. ap (λ (w : List ℕ). bytes_eq w z) ((bytes_eq-Decides x y).0 same);
+}
+
+pub distinct_with_kind : (kinds : List (List ℕ)) (kind : List ℕ) → IsDistinct bytes_eq kinds → IsDistinct bytes_eq (with_kind kinds kind)
+distinct_with_kind kinds kind distinct = go (is_seen kinds kind) refl
+  where
+    go : (b : Bool) → is_seen kinds kind ≡ b → IsDistinct bytes_eq (cond b kinds (kinds ++ kind ∷ []))
+    go true seen = distinct
+    go false new = IsDistinct-push bytes_eq-equivalence kinds kind distinct new
+
+-- a type that was seen stays so
+seen_with_kind : (kinds : List (List ℕ)) (kind name : List ℕ) → IsTrue (is_seen kinds name) → IsTrue (is_seen (with_kind kinds kind) name)
+seen_with_kind kinds kind name seen = go (is_seen kinds kind)
+  where
+    go : (b : Bool) → list_any (bytes_eq name) (cond b kinds (kinds ++ kind ∷ [])) ≡ true
+    go true = seen
+    go false = list_any-append (bytes_eq name) kinds (kind ∷ []) ∙ or_left _ _ seen
+
+-- and the new one is
+seen_itself : (kinds : List (List ℕ)) (kind : List ℕ) → IsTrue (is_seen (with_kind kinds kind) kind)
+seen_itself kinds kind = go (is_seen kinds kind) refl
+  where
+    go : (b : Bool) → is_seen kinds kind ≡ b → list_any (bytes_eq kind) (cond b kinds (kinds ++ kind ∷ [])) ≡ true
+    go true seen = seen
+    go false new = list_any-append (bytes_eq kind) kinds (kind ∷ []) ∙ or_right _ _ (or_left _ _ (bytes_eq-refl kind))
+
+-- ---- each operation
+
+distinct_none : IsDistinct bytes_eq []
+unfolding IsDistinct
+distinct_none = tt
+
+pub sound_nothing : IsSound empty_table
+sound_nothing = record {
+  ids = ids_always_rise.0;
+  kinds = distinct_none;
+  seen = All-nil (λ o. IsTrue (is_seen [] o.kind));
+  names = limits_are_kept.0.0.roots;
+  roots = All-nil (λ id. IsTrue (is_live empty_table id));
+  slots = All-nil (λ o. All (HoldsLive empty_table) o.slots);
+  limits = limits_are_kept.0.1;
+}
+
+pub sound_with_object : (t : Table) (id : ℕ) (kind : List ℕ) (slots : ℕ) → IsSound t → alloc_refusal t id kind slots ≡ None → IsSound (with_object t id kind slots)
+unfolding step with_object
+sound_with_object t id kind slots sound none =
+    let event : Event = Alloc id kind slots 0 in
+    let live = allowed RefersToLive _ _ none (heaps_refer_to_live.1 (heap_with t) event (refers t sound)) in
+    let kept = allowed (λ h. IsOrdered h × IsWithinLimits h.table) _ _ none (limits_are_kept.1 (heap_with t) event (limited t sound)) in
+    record {
+      ids = allowed (λ h. IdsRise h.table) _ _ none (ids_always_rise.1 (heap_with t) event sound.ids);
+      kinds = distinct_with_kind t.kinds kind sound.kinds;
+      seen = All-push (λ o. IsTrue (is_seen (with_kind t.kinds kind) o.kind)) t.objects _ (All-weaker (λ o. IsTrue (is_seen t.kinds o.kind)) (λ o. IsTrue (is_seen (with_kind t.kinds kind) o.kind)) (λ o. seen_with_kind t.kinds kind o.kind) t.objects sound.seen) (seen_itself t.kinds kind);
+      names = sound.names;
+      roots = live.roots;
+      slots = live.slots;
+      limits = kept.1;
+    }
+
+-- a change to a slot changes no type
+kind-with_slot : (at slot : ℕ) (change : Slot → Slot) (o : Object) → (with_slot at slot change o).kind ≡ o.kind
+kind-with_slot at slot change o = go (o.id == at)
+  where
+    go : (b : Bool) → (cond b (record o { slots = slice_set o.slots slot (change (get_or o.slots slot empty_slot)) }) o).kind ≡ o.kind
+    go true = refl
+    go false = refl
+
+-- a change to a slot that keeps what it holds live
+sound_with_change : (t : Table) (at slot : ℕ) (change : Slot → Slot) → IsSound t → IdsRise (with_changed_slot t at slot change) → RefersToLive (heap_with (with_changed_slot t at slot change)) → IsWithinLimits (with_changed_slot t at slot change) → IsSound (with_changed_slot t at slot change)
+unfolding with_changed_slot
+sound_with_change t at slot change sound rise live kept = record {
+  ids = rise;
+  kinds = sound.kinds;
+  seen = All-map (λ o. IsTrue (is_seen t.kinds o.kind)) (with_slot at slot change) t.objects (All-weaker (λ o. IsTrue (is_seen t.kinds o.kind)) (λ o. IsTrue (is_seen t.kinds (with_slot at slot change o).kind)) (λ o seen. subst (λ kind. IsTrue (is_seen t.kinds kind)) (sym (kind-with_slot at slot change o)) seen) t.objects sound.seen);
+  names = sound.names;
+  roots = live.roots;
+  slots = live.slots;
+  limits = kept;
+}
+
+pub sound_with_store : (t : Table) (at slot : ℕ) (to : Option ℕ) → IsSound t → store_refusal t at slot to ≡ None → IsSound (with_changed_slot t at slot (slot_holding to))
+unfolding step
+sound_with_store t at slot to sound none =
+    let event : Event = Store at slot to in
+    sound_with_change t at slot (slot_holding to) sound
+    (allowed (λ h. IdsRise h.table) _ _ none (ids_always_rise.1 (heap_with t) event sound.ids))
+    (allowed RefersToLive _ _ none (heaps_refer_to_live.1 (heap_with t) event (refers t sound)))
+    (allowed (λ h. IsOrdered h × IsWithinLimits h.table) _ _ none (limits_are_kept.1 (heap_with t) event (limited t sound))).1
+
+distinct_with_root : (t : Table) (name : List ℕ) (to : Option ℕ) → IsDistinct bytes_eq t.kinds → IsDistinct bytes_eq (with_root t name to).kinds
+unfolding with_root
+distinct_with_root t name None distinct = distinct
+distinct_with_root t name (Some id) distinct = distinct
+
+seen_with_root : (t : Table) (name : List ℕ) (to : Option ℕ) → All (λ o. IsTrue (is_seen t.kinds o.kind)) t.objects → All (λ o. IsTrue (is_seen (with_root t name to).kinds o.kind)) (with_root t name to).objects
+unfolding with_root
+seen_with_root t name None seen = seen
+seen_with_root t name (Some id) seen = seen
+
+pub sound_with_root : (t : Table) (name : List ℕ) (to : Option ℕ) → IsSound t → root_refusal t name to ≡ None → IsSound (with_root t name to)
+unfolding step
+sound_with_root t name to sound none =
+    let event : Event = Root name to in
+    let u = with_root t name to in
+    let live = allowed RefersToLive _ _ none (heaps_refer_to_live.1 (heap_with t) event (refers t sound)) in
+    let kept = allowed (λ h. IsOrdered h × IsWithinLimits h.table) _ _ none (limits_are_kept.1 (heap_with t) event (limited t sound)) in
+    record {
+      ids = allowed (λ h. IdsRise h.table) _ _ none (ids_always_rise.1 (heap_with t) event sound.ids);
+      kinds = distinct_with_root t name to sound.kinds;
+      seen = seen_with_root t name to sound.seen;
+      names = kept.0.roots;
+      roots = live.roots;
+      slots = live.slots;
+      limits = kept.1;
+    }
+
+pub sound_with_kind : (t : Table) (kind : List ℕ) → IsSound t → kind_refusal t kind ≡ None → IsSound (record t { kinds = with_kind t.kinds kind })
+unfolding step
+sound_with_kind t kind sound none =
+    let kept = allowed (λ h. IsOrdered h × IsWithinLimits h.table) _ _ none (limits_are_kept.1 (heap_with t) (AssertInstances kind 0) (limited t sound)) in
+    record {
+      ids = record { rising = sound.ids.rising; within = sound.ids.within };
+      kinds = distinct_with_kind t.kinds kind sound.kinds;
+      seen = All-weaker (λ o. IsTrue (is_seen t.kinds o.kind)) (λ o. IsTrue (is_seen (with_kind t.kinds kind) o.kind)) (λ o. seen_with_kind t.kinds kind o.kind) t.objects sound.seen;
+      names = sound.names;
+      roots = sound.roots;
+      slots = sound.slots;
+      limits = kept.1;
+    }
+
+-- ---- freed objects
+
+-- a slot that is not emptied holds what is kept
+kept_slot : (t : Table) (kept : List ℕ) (s : Slot) → HoldsLive t s → HoldsLive (with_only kept t) (slot_without (λ id. not (has_id kept id)) s)
+kept_slot t kept s held = go s.held held
+  where
+    by : (id : ℕ) (b : Bool) → has_id kept id ≡ b → IsTrue (is_live t id) → IfSome (cond (not b) (record s { held = None }) (record s { held = Some id })).held (λ x. IsTrue (is_live (with_only kept t) x))
+    by id true at live = is_live-with_only kept t id ∙ rw (at, live) refl
+    by id false out live = tt
+
+    go : (o : Option ℕ) → IfSome o (λ id. IsTrue (is_live t id)) → HoldsLive (with_only kept t) (slot_without (λ id. not (has_id kept id)) (record s { held = o }))
+    go None held = tt
+    go (Some id) held = by id (has_id kept id) refl held
+
+-- no more slots than before
+fewer_slots : (gone : ℕ → Bool) (p : Object → Bool) (objects : List Object) → sum_by (λ o. length o.slots) (map (object_without gone) (filter p objects)) ≤ sum_by (λ o. length o.slots) objects
+fewer_slots gone p [] = omega arith
+fewer_slots gone p (o ∷ objects) = go (p o) (fewer_slots gone p objects)
+  where
+    go : (b : Bool) → sum_by (λ u. length u.slots) (map (object_without gone) (filter p objects)) ≤ sum_by (λ u. length u.slots) objects → sum_by (λ u. length u.slots) (map (object_without gone) (cond b (o ∷ filter p objects) (filter p objects))) ≤ sum_by (λ u. length u.slots) (o ∷ objects)
+    go true rest =
+        let before = sum_by-cons (λ (u : Object). length u.slots) o objects in
+        let after = sum_by-cons (λ (u : Object). length u.slots) (object_without gone o) (map (object_without gone) (filter p objects)) in
+        let same = length-map o.slots (slot_without gone) in
+        omega arith
+    go false rest = let before = sum_by-cons (λ (u : Object). length u.slots) o objects in omega arith
+
+pub sound_with_only : (t : Table) (kept : List ℕ) → IsSound t → LeadsToKept t kept → IsSound (with_only kept t)
+unfolding with_only
+sound_with_only t kept sound leads =
+    let p : Object → Bool = λ o. has_id kept o.id in
+    let gone : ℕ → Bool = λ id. not (has_id kept id) in
+    let slots = fewer_slots gone p t.objects in
+    let objects = length-filter_le p t.objects in
+    let same = length-map (filter p t.objects) (object_without gone) in
+    let limits = sound.limits in
+    record {
+      ids = record {
+        rising = subst (AllPairs (λ x y. x < y)) (sym (ids-with_only kept t)) (AllPairs-filter (λ x y. x < y) (has_id kept) (ids t) sound.ids.rising);
+        within = subst (All (λ id. id ≤ t.greatest)) (sym (ids-with_only kept t)) (All-filter (has_id kept) (λ id. id ≤ t.greatest) (ids t) sound.ids.within);
+      };
+      kinds = sound.kinds;
+      seen = All-map (λ o. IsTrue (is_seen t.kinds o.kind)) (object_without gone) (filter p t.objects) (All-filter p (λ o. IsTrue (is_seen t.kinds o.kind)) t.objects sound.seen);
+      names = sound.names;
+      roots = λ k d h. is_live-with_only kept t _ ∙ rw (root_kept k d h, sound.roots k d h) refl;
+      slots = All-map (λ o. All (HoldsLive (with_only kept t)) o.slots) (object_without gone) (filter p t.objects) (All-filter p (λ o. All (HoldsLive (with_only kept t)) (object_without gone o).slots) t.objects (λ k d h. All-map (HoldsLive (with_only kept t)) (slot_without gone) (get_or t.objects k d).slots (All-weaker (HoldsLive t) (λ s. HoldsLive (with_only kept t) (slot_without gone s)) (kept_slot t kept) (get_or t.objects k d).slots (sound.slots k d h))));
+      limits = record { objects = omega arith; slots = omega arith; roots = limits.roots; kinds = limits.kinds };
+    }
+  where
+    root_kept : (k d : ℕ) → k < length (root_ids t) → has_id kept (get_or (root_ids t) k d) ≡ true
+    root_kept = All-map (λ id. IsTrue (has_id kept id)) (λ r. r.1) t.roots leads.by_roots
