@@ -11,11 +11,12 @@ use Rattle.std.proofs.lemmas.List.{length-map, append_assoc}
 use Rattle.std.proofs.lemmas.List.Elements.{All-head, All-tail}
 use Rattle.std.proofs.lemmas.Map.Keys.{IsDistinct-from_sorted}
 use Rattle.std.proofs.lemmas.Map.Made.{length-le_from_is_member}
+use Rattle.heap_base.specs.declared.limits.TheConstants.{MOST_OBJECTS}
 use Rattle.graph_meaning.specs.declared.collection.Verdict.{Verdict}
 use Rattle.graph_meaning.specs.Heap.{Table, is_live}
 use Rattle.graph_meaning.specs.Reach.{has_id}
 use Rattle.audit_core.specs.Tracing.{reachable_ids}
-use Rattle.graph_meaning.proofs.HeapLemmas.{reachable-is_live}
+use Rattle.audit_core.proofs.Reached.{reachable-is_live}
 use Rattle.object_table.specs.Placed.{Placed, IsPlaced}
 use Rattle.audit_core.specs.Verdicts.{pathless_verdict, pathless_verdicts}
 

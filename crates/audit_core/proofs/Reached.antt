@@ -1,10 +1,15 @@
--- What roots reach, and heaps with no assertion but of dead objects.
-use Rattle.std.proofs.Common.{◌≡◌, ℕ, zero, suc, Bool, true, false, ◌||◌, List, [], ◌∷◌, ◌++◌, map, filter, replicate, get_or, set, sym, ap, refl, ◌∙◌, IsTrue, slice_set}
+-- What roots reach, heaps with no assertion but of dead objects, and the types of objects in cells.
+use Rattle.std.proofs.Common.{◌≡◌, ℕ, zero, suc, Bool, true, false, ◌||◌, List, [], ◌∷◌, ◌++◌, map, filter, replicate, get_or, sym, ap, refl, subst, ◌∙◌, IsTrue, Option, None, Some, slice_set}
 use Rattle.std.proofs.lemmas.Bool.{false≢true, false_from_ne_true}
 use Rattle.std.proofs.lemmas.List.{set-get_or}
 use Rattle.heap_base.specs.declared.limits.TheConstants.{MOST_THREADS}
-use Rattle.std.specs.List.{flat_map}
-use Rattle.graph_meaning.specs.Heap.{Table, ids, is_live, targets, no_regions}
+use Rattle.std.specs.List.{flat_map, position, slice_get}
+use Rattle.std.specs.Option.{IfSome, is_some, option_and_then, option_map_or}
+use Rattle.std.specs.Str.{bytes_eq}
+use Rattle.std.proofs.lemmas.List.Quantifiers.{position-Some}
+use Rattle.std.proofs.lemmas.Option.{get_or_from_slice_get}
+use Rattle.std.proofs.lemmas.Slice.Eq.{bytes_eq-Decides}
+use Rattle.graph_meaning.specs.Heap.{Object, Table, ids, object_at, is_live, kind_at, targets, no_regions}
 use Rattle.graph_meaning.specs.Reach.{Graph, has_id, reached_nodes}
 use Rattle.graph_meaning.specs.Assertions.{object_graph, root_ids, under_owners, traced_ids}
 use Rattle.graph_meaning.specs.Step.{with_member}
@@ -12,6 +17,7 @@ use Rattle.graph_meaning.proofs.HeapLemmas.{has_id-ids}
 use Rattle.graph_meaning.proofs.Keeping.{has_id-traced_ids}
 use Rattle.graph_meaning.proofs.Reaching.{IsClosed, IsClosed-reachable, reached_is_reachable, reached_nodes-closed, reached_nodes-in_nodes}
 use Rattle.graph_meaning.proofs.Tracing.{traced_is_reached}
+use Rattle.object_table.specs.Placed.{Placed, id_in, object_in}
 use Rattle.audit_core.specs.Held.{heap_of}
 use Rattle.audit_core.specs.Tracing.{reachable_ids}
 
@@ -84,3 +90,20 @@ with_member-no_regions thread id = with_member-replicate MOST_THREADS thread id
 -- a collection keeps that no region is open
 pub kept-no_regions : (p : ℕ → Bool) → map (map (filter p)) no_regions ≡ no_regions
 kept-no_regions p = map-replicate (map (filter p)) MOST_THREADS []
+
+-- ---- types
+
+-- the name under the number of a type is the type's name
+pub named_kind : (kinds : List (List ℕ)) (kind name : List ℕ) (n : ℕ) → position (bytes_eq kind) kinds ≡ Some n → slice_get kinds n ≡ Some name → name ≡ kind
+named_kind kinds kind name n at is =
+    let same : bytes_eq kind (get_or kinds n []) ≡ true = (position-Some (bytes_eq kind) kinds n [] at).1 in
+    sym (get_or_from_slice_get kinds n name [] is) ∙ sym ((bytes_eq-Decides kind (get_or kinds n [])).0 same)
+
+-- and so is that of the object in a cell
+pub kind_named : (p : Placed) (cell id n : ℕ) (name : List ℕ) → id_in p cell ≡ Some id → IsTrue (is_live p.table id) → IfSome (object_in p cell) (λ o. position (bytes_eq o.kind) p.table.kinds ≡ Some n) → slice_get p.table.kinds n ≡ Some name → name ≡ kind_at p.table id
+kind_named p cell id n name held live at is =
+    go (object_at p.table.objects id) live (subst (λ o. IfSome (option_and_then (object_at p.table.objects) o) (λ o. position (bytes_eq o.kind) p.table.kinds ≡ Some n)) held at)
+  where
+    go : (o : Option Object) → IsTrue (is_some o) → IfSome o (λ o. position (bytes_eq o.kind) p.table.kinds ≡ Some n) → name ≡ option_map_or (λ o. o.kind) o []
+    go None live at = absurd (false≢true live)
+    go (Some o) live at = named_kind p.table.kinds o.kind name n at is

@@ -2,7 +2,7 @@
 use Rattle.std.proofs.Common.{◌≡◌, ℕ, true, false, List, [], ◌∷◌, IsTrue, Option, None, Some, Result, Ok, Err, sym, ap, refl, subst, ◌∙◌}
 use Rattle.std.specs.List.{All}
 use Rattle.std.specs.Option.{is_some}
-use Rattle.std.specs.Result.{OnOk, OnErr, result_err}
+use Rattle.std.specs.Result.{OnOk, OnErr, IsErr, IsErrAnd, result_err}
 use Rattle.std.specs.Ordering.{nat_cmp, match_ordering}
 use Rattle.std.specs.declared.cmp.Ordering.{Ordering}
 use Rattle.std.specs.declared.cmp.Ordering.TheVariants.{Less, Equal, Greater}
@@ -126,3 +126,8 @@ Follows-assert_dead t dead after collections violations id result live unrefused
     (on_ok_weaker result (λ e. ap (heap_of t) e) done)
     refl
     (on_err_weaker result (λ e. ap (λ ids. record { heap = heap_of t ids; rules = pathless; collections = collections; violations = violations }) e) err)
+
+-- the error that a `?` hands on
+pub handed_on : {T : Type 0} (r : Result T Stop) (e : Stop) → IsErr r × IsErrAnd r (λ x. x ≡ e) → r ≡ Err e
+handed_on (Ok x) e given = absurd given.1
+handed_on (Err x) e given = ap Err given.1

@@ -1,20 +1,20 @@
 -- The steps of a trace keep what holds while it is under way, and at its end the cells that are kept are those of the
 -- traced objects.
 use Rattle.std.proofs.Common.{◌≡◌, ℕ, zero, suc, ◌+◌, ◌<◌, Bool, true, false, ◌||◌, cond, List, [], ◌∷◌, ◌++◌, length, map, replicate, get_or, slice_set, ⊎_elim, sym, ap, refl, subst, ◌∙◌, arith, eq-eqb, eqb-true, ◌==◌, Option, None, Some, IsTrue}
-use Rattle.std.specs.List.{All, filter_map, slice_get, cons_option}
-use Rattle.std.specs.Option.{IsSomeAnd, IfSome, is_some, option_map_or}
+use Rattle.std.specs.List.{All, filter_map, enumerate_from, slice_get, cons_option}
+use Rattle.std.specs.Option.{IsSomeAnd, IfSome, is_some, option_map, option_map_or}
 use Rattle.std.proofs.lemmas.Bool.{false≢true, or_left, or_right, or_cases, cases_lt, false_from_ne_true}
 use Rattle.std.proofs.lemmas.List.{length-replicate, length-set, take_all}
 use Rattle.std.proofs.lemmas.List.Elements.{All-nil, All-cons, All-head, All-tail, All-push, All-pop, All-weaker, All-more, filter_map-append}
 use Rattle.std.proofs.lemmas.Option.{slice_get-get_or}
-use Rattle.graph_meaning.specs.Heap.{Object, object_at, targets, edge_of}
+use Rattle.graph_meaning.specs.Heap.{Slot, Object, empty_slot, object_at, targets, edge_of, edges_of, numbered_edge}
 use Rattle.graph_meaning.specs.Reach.{has_id}
-use Rattle.graph_meaning.specs.Collecting.{object_graph, root_ids, reachable_ids}
+use Rattle.graph_meaning.specs.Assertions.{object_graph, root_ids}
 use Rattle.graph_meaning.proofs.Membership.{has_id-append}
 use Rattle.graph_meaning.proofs.Reaching.{IsClosed, IsClosed-reachable, reached_is_reachable}
-use Rattle.graph_meaning.proofs.HeapLemmas.{reachable-from_root, reachable-along_edge}
-use Rattle.object_table.specs.Placed.{Placed, id_in, slots_in, kept_ids, IsPlaced, LeadsToKept}
-use Rattle.audit_core.specs.Tracing.{IsTraced, is_marked, ids_in, IsTracing, KeepsTraced}
+use Rattle.audit_core.proofs.Reached.{reachable-from_root, reachable-along_edge}
+use Rattle.object_table.specs.Placed.{Placed, id_in, slots_in, slot_in, kept_ids, IsPlaced, LeadsToKept}
+use Rattle.audit_core.specs.Tracing.{IsTraced, is_marked, ids_in, IsTracing, KeepsTraced, reachable_ids}
 use Rattle.audit_core.proofs.Kept.{kept_ids-none, has_id-kept_ids, kept_ids-cell, has_id-kept_ids-set, set_marked}
 
 -- a cell that holds an object is one of the table's cells
@@ -148,56 +148,65 @@ first_held p roots marks work cell tracing = go (id_in p cell) refl (All-head (�
     go None held none = absurd none
     go (Some x) held traced = (x, held, traced)
 
+-- what the edges by these slots lead to, in order
+targets-numbered : (n : ℕ) (slots : List Slot) → map (λ e. e.1) (filter_map numbered_edge (enumerate_from n slots)) ≡ filter_map edge_of slots
+targets-numbered n [] = refl
+targets-numbered n (s ∷ slots) = go (edge_of s) (targets-numbered (n + 1) slots)
+  where
+    go : (o : Option ℕ) → map (λ e. e.1) (filter_map numbered_edge (enumerate_from (n + 1) slots)) ≡ filter_map edge_of slots → map (λ e. e.1) (cons_option (option_map (λ y. (n, y)) o) (filter_map numbered_edge (enumerate_from (n + 1) slots))) ≡ cons_option o (filter_map edge_of slots)
+    go None rest = rest
+    go (Some y) rest = ap (λ ys. y ∷ ys) rest
+
 -- the targets of the object in a cell
 targets-cell : (p : Placed) (cell x : ℕ) → id_in p cell ≡ Some x → targets p.table x ≡ filter_map edge_of (slots_in p cell)
 targets-cell p cell x held = rw held (go (object_at p.table.objects x))
   where
-    go : (o : Option Object) → option_map_or (λ o. filter_map edge_of o.slots) o [] ≡ filter_map edge_of (option_map_or (λ o. o.slots) o [])
+    go : (o : Option Object) → map (λ e. e.1) (option_map_or (λ o. edges_of o.slots) o []) ≡ filter_map edge_of (option_map_or (λ o. o.slots) o [])
     go None = refl
-    go (Some o) = refl
+    go (Some o) = targets-numbered 0 o.slots
 
-has_id-filter_map : (f : Option ℕ → Option ℕ) (slots : List (Option ℕ)) (k y : ℕ) → k < length slots → f (get_or slots k None) ≡ Some y → has_id (filter_map f slots) y ≡ true
-has_id-filter_map f [] k y within leads = absurd (omega arith)
-has_id-filter_map f (s ∷ slots) zero y within leads = rw leads (or_left _ _ (eq-eqb y y refl))
-has_id-filter_map f (s ∷ slots) (suc k) y within leads = go (f s) (has_id-filter_map f slots k y (omega arith) leads)
+has_id-filter_map : (slots : List Slot) (k y : ℕ) → k < length slots → edge_of (get_or slots k empty_slot) ≡ Some y → has_id (filter_map edge_of slots) y ≡ true
+has_id-filter_map [] k y within leads = absurd (omega arith)
+has_id-filter_map (s ∷ slots) zero y within leads = ap (λ o. has_id (cons_option o (filter_map edge_of slots)) y) leads ∙ or_left _ _ (eq-eqb y y refl)
+has_id-filter_map (s ∷ slots) (suc k) y within leads = go (edge_of s) (has_id-filter_map slots k y (omega arith) leads)
   where
-    go : (o : Option ℕ) → has_id (filter_map f slots) y ≡ true → has_id (cons_option o (filter_map f slots)) y ≡ true
+    go : (o : Option ℕ) → has_id (filter_map edge_of slots) y ≡ true → has_id (cons_option o (filter_map edge_of slots)) y ≡ true
     go None at = at
     go (Some x) at = or_right _ _ at
 
-filter_map-slot : (f : Option ℕ → Option ℕ) (slots : List (Option ℕ)) (y : ℕ) → has_id (filter_map f slots) y ≡ true → (k : ℕ) × (k < length slots) × (f (get_or slots k None) ≡ Some y)
-filter_map-slot f [] y at = absurd (false≢true at)
-filter_map-slot f (s ∷ slots) y at =
+filter_map-slot : (slots : List Slot) (y : ℕ) → has_id (filter_map edge_of slots) y ≡ true → (k : ℕ) × (k < length slots) × (edge_of (get_or slots k empty_slot) ≡ Some y)
+filter_map-slot [] y at = absurd (false≢true at)
+filter_map-slot (s ∷ slots) y at =
     go
-    (f s)
+    (edge_of s)
     refl
-    (λ later. let rest = filter_map-slot f slots y later in (suc rest.0, omega (arith, rest.1), rest.2))
+    (λ later. let rest = filter_map-slot slots y later in (suc rest.0, omega (arith, rest.1), rest.2))
     at
   where
-    go : (o : Option ℕ) → f s ≡ o → (has_id (filter_map f slots) y ≡ true → (k : ℕ) × (k < length (s ∷ slots)) × (f (get_or (s ∷ slots) k None) ≡ Some y)) → has_id (cons_option o (filter_map f slots)) y ≡ true → (k : ℕ) × (k < length (s ∷ slots)) × (f (get_or (s ∷ slots) k None) ≡ Some y)
+    go : (o : Option ℕ) → edge_of s ≡ o → (has_id (filter_map edge_of slots) y ≡ true → (k : ℕ) × (k < length (s ∷ slots)) × (edge_of (get_or (s ∷ slots) k empty_slot) ≡ Some y)) → has_id (cons_option o (filter_map edge_of slots)) y ≡ true → (k : ℕ) × (k < length (s ∷ slots)) × (edge_of (get_or (s ∷ slots) k empty_slot) ≡ Some y)
     go None leads later at = later at
     go (Some x) leads later at =
         ⊎_elim (λ here. (zero, omega arith, leads ∙ ap Some (eqb-true x y here))) (λ rest. later rest) (or_cases _ _ at)
 
 -- What the first slots of the object in a cell lead to is kept.
 pub record IsFollowed (p : Placed) (cell slots : ℕ) (marks : List Bool) : Type 0 where
-  pub kept : (k y : ℕ) → k < slots → edge_of (get_or (slots_in p cell) k None) ≡ Some y → IsTrue (has_id (kept_ids p.cells marks) y)
+  pub kept : (k y : ℕ) → k < slots → edge_of (slot_in p cell k) ≡ Some y → IsTrue (has_id (kept_ids p.cells marks) y)
 
 pub IsFollowed-none : (p : Placed) (cell : ℕ) (marks : List Bool) → IsFollowed p cell 0 marks
 IsFollowed-none p cell marks = record { kept = λ k y below leads. absurd (omega arith) }
 
 -- a slot that leads nowhere
-pub IsFollowed-empty : (p : Placed) (cell slot : ℕ) (marks : List Bool) → IsFollowed p cell slot marks → false ≡ is_some (edge_of (get_or (slots_in p cell) slot None)) → IsFollowed p cell (slot + 1) marks
+pub IsFollowed-empty : (p : Placed) (cell slot : ℕ) (marks : List Bool) → IsFollowed p cell slot marks → false ≡ is_some (edge_of (slot_in p cell slot)) → IsFollowed p cell (slot + 1) marks
 IsFollowed-empty p cell slot marks followed empty = record {
   kept = λ k y below leads.
       ⊎_elim
       (λ before. followed.kept k y before leads)
-      (λ here. absurd (false≢true (empty ∙ ap is_some (ap (λ n. edge_of (get_or (slots_in p cell) n None)) (let e : slot ≡ k = omega arith in e) ∙ leads))))
+      (λ here. absurd (false≢true (empty ∙ ap is_some (ap (λ n. edge_of (slot_in p cell n)) (let e : slot ≡ k = omega arith in e) ∙ leads))))
       (cases_lt k slot);
 }
 
 -- a slot that leads to an object, which a cell holds
-module _ (p : Placed) (placed : IsPlaced p) (roots : ℕ) (marks : List Bool) (work : List ℕ) (cell slot target : ℕ) (tracing : IsTracing p roots marks (cell ∷ work)) (within : slot < length (slots_in p cell)) (leads : id_in p target ≡ edge_of (get_or (slots_in p cell) slot None)) (somewhere : true ≡ is_some (edge_of (get_or (slots_in p cell) slot None))) where
+module _ (p : Placed) (placed : IsPlaced p) (roots : ℕ) (marks : List Bool) (work : List ℕ) (cell slot target : ℕ) (tracing : IsTracing p roots marks (cell ∷ work)) (within : slot < length (slots_in p cell)) (leads : id_in p target ≡ edge_of (slot_in p cell slot)) (somewhere : true ≡ is_some (edge_of (slot_in p cell slot))) where
   target_held : (y : ℕ) × (id_in p target ≡ Some y)
   target_held = go (id_in p target) refl (somewhere ∙ ap is_some (sym leads))
     where
@@ -208,7 +217,7 @@ module _ (p : Placed) (placed : IsPlaced p) (roots : ℕ) (marks : List Bool) (w
   target_traced : IsTraced p.table target_held.0
   target_traced =
       let x = first_held p roots marks work cell tracing in
-      reachable-along_edge p.table x.0 target_held.0 x.2 (ap (λ ys. has_id ys target_held.0) (targets-cell p cell x.0 x.1) ∙ has_id-filter_map edge_of (slots_in p cell) slot target_held.0 within (sym leads ∙ target_held.1)) (placed.live target target_held.0 target_held.1)
+      reachable-along_edge p.table x.0 target_held.0 x.2 (ap (λ ys. has_id ys target_held.0) (targets-cell p cell x.0 x.1) ∙ has_id-filter_map (slots_in p cell) slot target_held.0 within (sym leads ∙ target_held.1)) (placed.live target target_held.0 target_held.1)
 
   pub target-within : target < length marks
   target-within =
@@ -228,7 +237,7 @@ module _ (p : Placed) (placed : IsPlaced p) (roots : ℕ) (marks : List Bool) (w
         (λ before. kept-still p roots marks (cell ∷ work) target target_held.0 tracing target_held.1 target_traced y (followed.kept k y before edge))
         (λ here.
         let same : slot ≡ k = omega arith in
-        let is_target : target_held.0 ≡ y = same_Some (sym target_held.1 ∙ leads ∙ ap (λ n. edge_of (get_or (slots_in p cell) n None)) same ∙ edge) in
+        let is_target : target_held.0 ≡ y = same_Some (sym target_held.1 ∙ leads ∙ ap (λ n. edge_of (slot_in p cell n)) same ∙ edge) in
         subst (λ z. IsTrue (has_id (kept_ids p.cells (slice_set marks target true)) z)) is_target (kept-marked p roots marks (cell ∷ work) target target_held.0 tracing target_held.1 target_traced))
         (cases_lt k slot);
   }
@@ -238,7 +247,7 @@ pub IsTracing-followed : (p : Placed) (roots : ℕ) (marks : List Bool) (work : 
 IsTracing-followed p roots marks work cell tracing followed =
     let first = first_held p roots marks work cell tracing in
     let in_cells : (x : ℕ) → has_id (ids_in p (cell ∷ work)) x ≡ ((first.0 == x) || has_id (ids_in p work) x) = λ x. ap (λ o. has_id (cons_option o (ids_in p work)) x) first.1 in
-    let followed_here : (x y : ℕ) → first.0 ≡ x → IsTrue (has_id (targets p.table x) y) → IsTrue (has_id (kept_ids p.cells marks) y) = λ x y here held_by. let slot = filter_map-slot edge_of (slots_in p cell) y (sym (ap (λ ys. has_id ys y) (targets-cell p cell x (first.1 ∙ ap Some here))) ∙ held_by) in followed.kept slot.0 y slot.1 slot.2 in
+    let followed_here : (x y : ℕ) → first.0 ≡ x → IsTrue (has_id (targets p.table x) y) → IsTrue (has_id (kept_ids p.cells marks) y) = λ x y here held_by. let slot = filter_map-slot (slots_in p cell) y (sym (ap (λ ys. has_id ys y) (targets-cell p cell x (first.1 ∙ ap Some here))) ∙ held_by) in followed.kept slot.0 y slot.1 slot.2 in
     record {
       each = tracing.each;
       sound = tracing.sound;
@@ -289,13 +298,13 @@ module _ (p : Placed) (placed : IsPlaced p) (marks : List Bool) (tracing : IsTra
   all_closed : LeadsToKept p.table (kept_ids p.cells marks)
   all_closed = record {
     by_roots = subst (All (λ r. IsTrue (has_id (kept_ids p.cells marks) r.1))) (take_all (length p.table.roots) p.table.roots (omega arith)) tracing.by_roots;
-    by_slots = λ x y at held_by. sym (or_false (has_id (kept_ids p.cells marks) y)) ∙ tracing.by_slots x y at held_by;
+    by_edges = λ x y at held_by. sym (or_false (has_id (kept_ids p.cells marks) y)) ∙ tracing.by_slots x y at held_by;
   }
 
   closed_graph : IsClosed (object_graph p.table) (root_ids p.table) (has_id (kept_ids p.cells marks))
   closed_graph = record {
     from_sources = λ x source node. All-has_id (λ r. r.1) (λ y. IsTrue (has_id (kept_ids p.cells marks) y)) p.table.roots x all_closed.by_roots source;
-    along_edges = λ x y at passes edge. all_closed.by_slots x y at edge.0;
+    along_edges = λ x y at passes edge. all_closed.by_edges x y at edge.0;
   }
 
   traced_kept : (id : ℕ) → IsTraced p.table id → IsTrue (has_id (kept_ids p.cells marks) id)

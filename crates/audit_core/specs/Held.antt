@@ -1,5 +1,5 @@
 -- What an auditor holds: the heap that it stands for, and what is true of it at any time.
-use Rattle.std.specs.Prelude.{◌≡◌, ℕ, ◌*◌, ◌≤◌, List, [], All, false, IsTrue}
+use Rattle.std.specs.Prelude.{ℕ, ◌*◌, ◌≤◌, List, [], All, IsTrue}
 use Rattle.heap_base.specs.declared.limits.TheConstants.{MOST_OBJECTS}
 use Rattle.graph_meaning.specs.Heap.{Table, Heap, is_live, no_regions}
 

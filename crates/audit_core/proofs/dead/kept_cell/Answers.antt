@@ -4,4 +4,4 @@ use Rattle.audit_core.proofs.dead.kept_cell.Goals as goal
 
 pub returns-in_err-cell-clause-kept : goal.returns-in_err-cell-clause-kept
 returns-in_err-cell-clause-kept c =
-    rw c.from_residual.ensures (sym (not_live-untraced c.args.table.now.table c.args.id c.in_err-cell.ensures.none))
+    rw c.from_residual.ensures (sym (not_live-untraced c.args.table.now.table c.args.id (sym c.in_err-cell.ensures.live)))

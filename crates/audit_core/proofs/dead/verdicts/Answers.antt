@@ -1,6 +1,7 @@
 use Rattle.std.proofs.Common.{◌≡◌, ◌≤◌, ◌∷◌, ◌++◌, [], length, refl, sym, ap, ◌∙◌, arith, IsTrue}
 use Rattle.std.proofs.lemmas.List.{length_push}
 use Rattle.std.proofs.lemmas.List.Elements.{All-rest}
+use Rattle.heap_base.specs.declared.limits.TheConstants.{MOST_OBJECTS}
 use Rattle.graph_meaning.specs.Heap.{is_live}
 use Rattle.audit_core.specs.Verdicts.{pathless_verdict}
 use Rattle.audit_core.proofs.Asserted.{dead_few, verdicts-traced, verdicts-untraced}

@@ -1,5 +1,6 @@
 use Rattle.std.proofs.Common.{◌≡◌, ◌+◌, ◌≤◌, ◌++◌, length, IsTrue}
 use Rattle.std.specs.List.{All}
+use Rattle.heap_base.specs.declared.limits.TheConstants.{MOST_OBJECTS}
 use Rattle.graph_meaning.specs.Heap.{is_live}
 use Rattle.audit_core.specs.Verdicts.{pathless_verdicts}
 use Rattle.audit_core.proofs.dead.verdicts.Given as goal

@@ -4,8 +4,8 @@ use Rattle.graph_meaning.specs.Heap.{is_live}
 use Rattle.audit_core.proofs.Steps.{live-insert_key, Follows-not_live, Follows-assert_dead}
 use Rattle.audit_core.proofs.auditor.Auditor.assert_dead.Goals as goal
 
-pub returns-then-not-is_object : goal.returns-then-not-is_object
-returns-then-not-is_object c =
+pub returns-then-not-is_live : goal.returns-then-not-is_live
+returns-then-not-is_live c =
     let gone : is_live c.self.inside.table.table c.args.id ≡ false = search rules in
     rw (← c.self.view_is, c.number.ensures.value)
     (Follows-not_live c.self.inside.table.table c.self.inside.dead.keys c.self.inside.collections c.self.inside.violations c.args.id gone)

@@ -1,16 +1,21 @@
 use Rattle.std.proofs.Common.{IsTrue, ap, sym, Ok, Err}
-use Rattle.graph_meaning.specs.declared.refusal.Stop.TheVariants.{Refused}
 use Rattle.std.specs.List.{All}
 use Rattle.std.proofs.lemmas.Result.{on_err_weaker}
+use Rattle.graph_meaning.specs.declared.refusal.Stop.TheVariants.{Refused}
 use Rattle.graph_meaning.specs.Heap.{is_live}
 use Rattle.graph_meaning.specs.Step.{with_changed_slot, slot_holding}
 use Rattle.object_table.specs.Placed.{Placed}
-use Rattle.audit_core.proofs.Steps.{holds_after, live-with_change, Follows-store}
+use Rattle.audit_core.proofs.Steps.{holds_after, handed_on, live-with_change, Follows-store}
 use Rattle.audit_core.proofs.auditor.Auditor.store.Goals as goal
-use Rattle.audit_core.proofs.auditor.Auditor.store.Goals.{in-Ok, in-Err}
 
-pub invariant_of-self : goal.invariant_of-self
-invariant_of-self c =
+pub returns-in_err-store : goal.returns-in_err-store
+returns-in_err-store c =
+    let refusal = c.in_err-store.field-0.0 in
+    rw (← c.self.view_is, handed_on c.from_residual.result (Refused refusal) c.from_residual.ensures)
+    (Follows-store c.self.inside.table.table c.store.new.self.table c.self.inside.dead.keys c.self.inside.collections c.self.inside.violations (Err (Refused refusal)) c.args.at c.args.slot c.args.to (sym c.in_err-store.ensures.refused) tt (ap (λ (p : Placed). p.table) c.in_err-store.ensures.err))
+
+pub invariant_of-self-2 : goal.invariant_of-self-2
+invariant_of-self-2 c =
     let before = c.self.inside.table.table in
     let dead = c.self.inside.dead.keys in
     record {
@@ -20,14 +25,5 @@ invariant_of-self c =
 
 pub returns : goal.returns
 returns c =
-    let t = c.self.inside.table.table in
-    let after = c.store.new.self.table in
-    let dead = c.self.inside.dead.keys in
-    elim c.match-store.branch [
-      | in-Ok w ↦
-          rw (← c.self.view_is, w.result-is)
-          (Follows-store t after dead c.self.inside.collections c.self.inside.violations (Ok tt) c.args.at c.args.slot c.args.to (sym w.in-Ok.ensures.refused) w.in-Ok.ensures.stored tt)
-      | in-Err w ↦
-          rw (← c.self.view_is, w.result-is)
-          (Follows-store t after dead c.self.inside.collections c.self.inside.violations (Err (Refused w.in-Err.refusal)) c.args.at c.args.slot c.args.to (sym w.in-Err.ensures.refused) tt (ap (λ (p : Placed). p.table) w.in-Err.ensures.err))
-    ]
+    rw (← c.self.view_is)
+    (Follows-store c.self.inside.table.table c.store.new.self.table c.self.inside.dead.keys c.self.inside.collections c.self.inside.violations (Ok tt) c.args.at c.args.slot c.args.to (sym c.in_ok-store.ensures.refused) c.in_ok-store.ensures.stored tt)
