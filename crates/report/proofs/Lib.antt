@@ -1,2 +1,4 @@
 mod Computed
 mod Ranges
+pub mod Runs
+pub mod WholeLines

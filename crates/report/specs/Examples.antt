@@ -1,40 +1,114 @@
--- Worked examples: the whole report on a short trace, and how its run ends.
-use Rattle.std.specs.Prelude.{◌≡◌, ℕ, List, [], ◌∷◌, ◌++◌, map, codes, Some}
+-- Worked examples: the whole report on a short trace, and the status that it ends with.
+use Rattle.std.specs.Prelude.{◌≡◌, ℕ, List, [], ◌∷◌, ◌++◌, map, codes, true, false, None, Some}
 use Rattle.heap_base.specs.declared.status.Status.{Status}
 use Rattle.heap_base.specs.declared.status.Status.TheVariants.{Clean, Violated, TraceFault}
 use Rattle.graph_meaning.specs.declared.event.Event.{Event}
-use Rattle.graph_meaning.specs.declared.event.Event.TheVariants.{Store, Collect}
-use Rattle.graph_meaning.specs.Heap.{empty_heap}
-use Rattle.graph_meaning.specs.Examples.{order, cycle, cart}
+use Rattle.graph_meaning.specs.declared.event.Event.TheVariants.{Store, StartRegion, AssertDead, AssertAllDead, AssertUnshared, AssertOwnedBy, Collect}
+use Rattle.graph_meaning.specs.Collecting.{Rules}
+use Rattle.graph_meaning.specs.Examples.{plain, alloc, root, store, order, cycle, cart, cached, pools}
 use Rattle.trace_reader.specs.Meaning.{event}
-use Rattle.report.specs.Report.{run, report_text, run_status}
+use Rattle.report.specs.Report.{report_of, status_of}
 
--- The run of these operations from the empty heap has this report, and ends so.
-abbrev pub Reports : List Event → List ℕ → Status → Type 0
-Reports events text status =
-    let ran = run empty_heap 0 0 (map event events) in (report_text ran ≡ text) × (run_status ran ≡ status)
+-- These operations have this report by these rules, and end with this status.
+abbrev pub Reports : Rules → List Event → List ℕ → Status → Type 0
+Reports rules events text status =
+    let items = map event events in (report_of rules items ≡ text) × (status_of rules items ≡ status)
 
-abbrev pub OfNothing : Type 0
-OfNothing = Reports [] (codes "end gcs 0 violations 0\n") Clean
+abbrev pub Nothing : Type 0
+Nothing = Reports plain [] (codes "end gcs 0 violations 0\n") Clean
 
 abbrev pub OneCollection : Type 0
-OneCollection = Reports (Collect ∷ []) (codes "gc 1 live 0 traced 0 freed 0\n" ++ codes "end gcs 1 violations 0\n") Clean
+OneCollection =
+    Reports plain (Collect ∷ [])
+    (codes "gc 1 live 0 traced 0 freed 0\n" ++ codes "end gcs 1 violations 0\n")
+    Clean
 
 -- an object that is asserted dead and that a root names
 abbrev pub DeadAndNamed : Type 0
 DeadAndNamed =
-    Reports (order ++ Collect ∷ [])
-    (codes "gc 1 live 1 traced 1 freed 0\n" ++ codes "gc 1 dead 7 Order: path left out\n" ++ codes "end gcs 1 violations 1\n")
+    Reports plain (order ++ Collect ∷ [])
+    (codes "gc 1 live 1 traced 1 freed 0\n" ++ codes "gc 1 dead 7 Order: root a -> 7 Order\n" ++ codes "end gcs 1 violations 1\n")
     Violated
 
 -- two objects that hold each other and that no root leads to
 abbrev pub CycleIsFreed : Type 0
 CycleIsFreed =
-    Reports (cycle ++ Collect ∷ []) (codes "gc 1 live 2 traced 0 freed 2\n" ++ codes "end gcs 1 violations 0\n") Clean
+    Reports plain (cycle ++ Collect ∷ [])
+    (codes "gc 1 live 2 traced 0 freed 2\n" ++ codes "end gcs 1 violations 0\n")
+    Clean
+
+-- a region within a region; in the end no region is open
+abbrev pub RegionsNest : Type 0
+RegionsNest =
+    Reports plain (StartRegion 0 ∷ alloc 1 (codes "Conn") 0 ∷ StartRegion 0 ∷ alloc 2 (codes "Buf") 0 ∷ root (codes "c") 1 ∷ root (codes "b") 2 ∷ AssertAllDead 0 ∷ Collect ∷ AssertAllDead 0 ∷ Collect ∷ AssertAllDead 0 ∷ [])
+    (codes "gc 1 live 2 traced 2 freed 0\n"
+    ++ codes "gc 1 dead 2 Buf: root b -> 2 Buf\n"
+    ++ codes "gc 2 live 2 traced 2 freed 0\n"
+    ++ codes "gc 2 dead 1 Conn: root c -> 1 Conn\n"
+    ++ codes "gc 2 dead 2 Buf: root b -> 2 Buf\n"
+    ++ codes "fault line 11: NoRegion 0\n")
+    TraceFault
+
+-- an entry of a map that a cache holds too, once it is taken out of the map
+abbrev pub OwnershipIsLost : Type 0
+OwnershipIsLost =
+    Reports plain (cached ++ Store 1 0 None ∷ Collect ∷ [])
+    (codes "gc 1 live 3 traced 3 freed 0\n"
+    ++ codes "gc 2 live 3 traced 3 freed 0\n"
+    ++ codes "gc 2 ownedby 3 Entry owner 1: root c -> 2 Cache [0] -> 3 Entry\n"
+    ++ codes "end gcs 2 violations 1\n")
+    Violated
+
+-- two owners share an array, and one of them lets it go
+abbrev pub ArrayIsLetGo : Type 0
+ArrayIsLetGo =
+    Reports plain (pools ++ Store 2 0 None ∷ Collect ∷ [])
+    (codes "gc 1 live 5 traced 5 freed 0\n" ++ codes "gc 1 ownedby 4 Job owner 2: root x -> 4 Job\n" ++ codes "end gcs 1 violations 1\n")
+    Violated
 
 -- an object that was freed is to be stored
 abbrev pub FreedIsNotLive : Type 0
 FreedIsNotLive =
-    Reports (cart ++ Collect ∷ Store 8 0 (Some 7) ∷ [])
+    Reports plain (cart ++ Collect ∷ store 8 0 7 ∷ [])
     (codes "gc 1 live 2 traced 1 freed 1\n" ++ codes "fault line 5: NotLive 7\n")
     TraceFault
+
+-- of two ways of one length the path takes the one through the least object
+abbrev pub LeastPredecessor : Type 0
+LeastPredecessor =
+    Reports plain (alloc 1 (codes "Top") 2 ∷ alloc 2 (codes "Mid") 2 ∷ alloc 3 (codes "Mid") 2 ∷ alloc 4 (codes "End") 0 ∷ root (codes "r") 1 ∷ store 1 0 3 ∷ store 1 1 2 ∷ store 3 0 4 ∷ store 2 1 4 ∷ AssertDead 4 ∷ Collect ∷ [])
+    (codes "gc 1 live 4 traced 4 freed 0\n"
+    ++ codes "gc 1 dead 4 End: root r -> 1 Top [1] -> 2 Mid [1] -> 4 End\n"
+    ++ codes "end gcs 1 violations 1\n")
+    Violated
+
+-- paths from an owner that isn't traced
+abbrev pub PathsFromAnOwner : Type 0
+PathsFromAnOwner =
+    Reports plain (alloc 3 (codes "Book") 2 ∷ alloc 5 (codes "Order") 0 ∷ store 3 0 5 ∷ store 3 1 5 ∷ AssertOwnedBy 3 5 ∷ AssertDead 5 ∷ AssertUnshared 5 ∷ Collect ∷ [])
+    (codes "gc 1 live 2 traced 1 freed 1\n"
+    ++ codes "gc 1 dead 5 Order: owner 3 Book [0] -> 5 Order\n"
+    ++ codes "gc 1 unshared 5 Order refs 2: owner 3 Book [0] -> 5 Order | owner 3 Book [1] -> 5 Order\n"
+    ++ codes "end gcs 1 violations 2\n")
+    Violated
+
+-- one path is shown, and the next is left out
+abbrev pub OnePathIsShown : Type 0
+OnePathIsShown =
+    Reports (record { paths = 1; force = false }) (alloc 1 (codes "A") 0 ∷ alloc 2 (codes "A") 0 ∷ root (codes "a") 1 ∷ root (codes "b") 2 ∷ AssertDead 1 ∷ AssertDead 2 ∷ Collect ∷ [])
+    (codes "gc 1 live 2 traced 2 freed 0\n"
+    ++ codes "gc 1 dead 1 A: root a -> 1 A\n"
+    ++ codes "gc 1 dead 2 A: path left out\n"
+    ++ codes "end gcs 1 violations 2\n")
+    Violated
+
+-- by force what is asserted dead is cut off, and the next collection frees it
+abbrev pub DeadIsCutOff : Type 0
+DeadIsCutOff =
+    Reports (record { paths = 100; force = true }) (order ++ Collect ∷ Collect ∷ [])
+    (codes "gc 1 live 1 traced 1 freed 0\n"
+    ++ codes "gc 1 dead 7 Order: root a -> 7 Order\n"
+    ++ codes "gc 1 cleared 1\n"
+    ++ codes "gc 2 live 1 traced 0 freed 1\n"
+    ++ codes "end gcs 2 violations 1\n")
+    Violated

@@ -1,75 +1,147 @@
--- What a trace's items lead to, one after another from a heap, and the report on it.
-use Rattle.std.specs.Prelude.{ℕ, ◌+◌, List, [], ◌∷◌, ◌++◌, length, nat_lt, if◌then◌else◌, Option, None, Some, Result, Ok, Err, sum_by}
+-- What a trace's items lead to, one after another, and the report on it.
+use Rattle.std.specs.Prelude.{ℕ, ◌+◌, List, [], ◌∷◌, ◌++◌, length, nat_lt, if◌then◌else◌, Result, Ok, Err}
 use Rattle.std.specs.List.{flat_map}
+use Rattle.heap_base.specs.Counting.{total}
 use Rattle.heap_base.specs.declared.status.Status.{Status}
 use Rattle.heap_base.specs.declared.status.Status.TheVariants.{Clean, Violated, TraceFault}
 use Rattle.graph_meaning.specs.declared.collection.Collection.{Collection}
 use Rattle.graph_meaning.specs.declared.event.Event.{Event}
 use Rattle.graph_meaning.specs.declared.event.Event.TheVariants.{Collect}
 use Rattle.graph_meaning.specs.declared.refusal.Refusal.{Refusal}
-use Rattle.graph_meaning.specs.Heap.{Heap}
+use Rattle.graph_meaning.specs.Heap.{Heap, empty_heap}
 use Rattle.graph_meaning.specs.Step.{step}
-use Rattle.graph_meaning.specs.Collecting.{collection_of}
+use Rattle.graph_meaning.specs.Collecting.{Rules, collection_of, after_collection}
 use Rattle.trace_reader.specs.Meaning.{Item, blank, event, refused}
 use Rattle.report.specs.Text.{collection_text, fault_text, end_text}
 
--- The collections that were made, in order, and the line that was refused, if one was, with the reason. The run of a
--- trace ends at its first refused line.
+-- ---- totals
+
+-- How many collections there are, and how many violations they have together.
+pub record Totals : Type 0 where
+  pub collections : ℕ
+  pub violations : ℕ
+
+abbrev pub no_totals : Totals
+no_totals = record { collections = 0; violations = 0 }
+
+-- how many violations there are in all these collections
+abbrev pub violations_of : List Collection → ℕ
+violations_of collections = total (λ c. length c.verdicts) collections
+
+-- the totals with these collections besides
+abbrev pub with_collections : Totals → List Collection → Totals
+with_collections before made =
+    record { collections = before.collections + length made; violations = before.violations + violations_of made }
+
+-- ---- one item
+
+-- Where a run stands between two lines: its heap, the totals of the collections that it made, and how many lines were
+-- read.
+pub record RunState : Type 0 where
+  pub heap : Heap
+  pub totals : Totals
+  pub lines : ℕ
+
+-- the state at the beginning of a trace
+abbrev pub first_state : RunState
+first_state = record { heap = empty_heap; totals = no_totals; lines = 0 }
+
+-- What an item does: the collections that it makes, none or one, and the state after it.
+pub record Turn : Type 0 where
+  pub collections : List Collection
+  pub state : RunState
+
+-- the turn that makes these collections and leaves this heap
+abbrev pub turn_to : RunState → List Collection → Heap → Turn
+turn_to s made h =
+    record { collections = made; state = record { heap = h; totals = with_collections s.totals made; lines = s.lines + 1 } }
+
+-- the turn of an operation that makes no collection, unless its step is refused
+abbrev pub turn_by_step : RunState → Result Heap Refusal → Result Turn Refusal
+turn_by_step s (Ok h) = Ok (turn_to s [] h)
+turn_by_step s (Err r) = Err r
+
+-- What one operation does, or why it is refused. A collection is the next in number, and the run goes on from what it
+-- leaves; any other operation is a step.
+unfoldable pub turn : Rules → RunState → Event → Result Turn Refusal
+turn rules s Collect =
+    Ok (turn_to s (collection_of rules (s.totals.collections + 1) s.heap ∷ []) (after_collection rules s.heap))
+turn rules s e = turn_by_step s (step s.heap e)
+
+-- a line with no operation changes the number of lines alone
+abbrev pub turn_of_item : Rules → RunState → Item → Result Turn Refusal
+turn_of_item rules s blank = Ok (turn_to s [] s.heap)
+turn_of_item rules s (event e) = turn rules s e
+turn_of_item rules s (refused r) = Err r
+
+-- ---- the run
+
+-- How a run ends: behind the last item, or at the line of this number, from 1, which is refused for this reason.
+pub data Ending : Type 0 where
+  end_of_trace : Ending
+  refused_line : ℕ → Refusal → Ending
+
+-- What a run did: the collections that it made, in order, and how it ended.
 pub record Ran : Type 0 where
   pub collections : List Collection
-  pub fault : Option (ℕ × Refusal)
+  pub ending : Ending
 
-abbrev pub nothing_ran : Ran
-nothing_ran = record { collections = []; fault = None }
+-- a run that makes no collection and ends so
+abbrev pub empty_run : Ending → Ran
+empty_run ending = record { collections = []; ending = ending }
 
--- with these collections before
-abbrev pub preceded : List Collection → Ran → Ran
-preceded before ran = record { collections = before ++ ran.collections; fault = ran.fault }
+-- the run with these collections before its own
+abbrev pub with_earlier : List Collection → Ran → Ran
+with_earlier earlier ran = record { collections = earlier ++ ran.collections; ending = ran.ending }
 
--- the run that ends here, since line `line` is refused
-abbrev pub stopped_at : ℕ → Refusal → Ran
-stopped_at line refusal = record { collections = []; fault = Some (line, refusal) }
+-- the run that goes on from a turn, or ends at this line where the turn is refused
+abbrev pub after_turn : ℕ → Result Turn Refusal → (RunState → Ran) → Ran
+after_turn line (Ok t) go_on = with_earlier t.collections (go_on t.state)
+after_turn line (Err r) go_on = empty_run (refused_line line r)
 
--- the collection that an operation makes, if it makes one, where n were made before
-abbrev pub collections_of : ℕ → Heap → Event → List Collection
-collections_of n h Collect = collection_of (n + 1) h ∷ []
-collections_of n h e = []
+-- The run of these items from a state. It ends at the first line that is refused.
+unfoldable pub run : Rules → RunState → List Item → Ran
+run rules s [] = empty_run end_of_trace
+run rules s (item ∷ items) = after_turn (s.lines + 1) (turn_of_item rules s item) (λ next. run rules next items)
 
-abbrev pub after_step : Result Heap Refusal → (Heap → Ran) → (Refusal → Ran) → Ran
-after_step (Ok h) on refused_by = on h
-after_step (Err r) on refused_by = refused_by r
-
--- The run of the items from a heap, where n collections were made and `lines` lines were read before.
-unfoldable pub run : Heap → ℕ → ℕ → List Item → Ran
-run h n lines [] = nothing_ran
-run h n lines (blank ∷ items) = run h n (lines + 1) items
-run h n lines (refused r ∷ items) = stopped_at (lines + 1) r
-run h n lines (event e ∷ items) =
-    after_step (step h e)
-    (λ next. preceded (collections_of n h e) (run next (n + length (collections_of n h e)) (lines + 1) items))
-    (λ r. stopped_at (lines + 1) r)
-
--- how many verdicts there are in all collections
-abbrev pub violations_of : List Collection → ℕ
-violations_of collections = sum_by (λ c. length c.verdicts) collections
+-- ---- the report
 
 -- the texts of the collections alone
 abbrev pub collections_text : List Collection → List ℕ
 collections_text collections = flat_map collection_text collections
 
--- the last line of the report
-abbrev pub last_line : List Collection → Option (ℕ × Refusal) → List ℕ
-last_line collections None = end_text (length collections) (violations_of collections)
-last_line collections (Some fault) = fault_text fault.0 fault.1
+-- the last line of a report, where these are the totals of all its collections
+abbrev pub last_line : Totals → Ending → List ℕ
+last_line totals end_of_trace = end_text totals.collections totals.violations
+last_line totals (refused_line line r) = fault_text line r
 
--- the whole report on a run
-unfoldable pub report_text : Ran → List ℕ
-report_text ran = collections_text ran.collections ++ last_line ran.collections ran.fault
+-- The report on a run, where collections of these totals came before it.
+unfoldable pub report_text : Totals → Ran → List ℕ
+report_text before ran = collections_text ran.collections ++ last_line (with_collections before ran.collections) ran.ending
 
-abbrev pub end_status : List Collection → Option (ℕ × Refusal) → Status
-end_status collections None = if nat_lt 0 (violations_of collections) then Violated else Clean
-end_status collections (Some fault) = TraceFault
+abbrev pub last_status : Totals → Ending → Status
+last_status totals end_of_trace = if nat_lt 0 totals.violations then Violated else Clean
+last_status totals (refused_line line r) = TraceFault
 
--- how a run ends
-unfoldable pub run_status : Ran → Status
-run_status ran = end_status ran.collections ran.fault
+-- The status that a run ends with, where collections of these totals came before it: a line was refused, or some
+-- assertion was violated, or neither.
+unfoldable pub run_status : Totals → Ran → Status
+run_status before ran = last_status (with_collections before ran.collections) ran.ending
+
+-- ---- from the beginning of a trace
+
+-- the whole report on these items
+abbrev pub report_of : Rules → List Item → List ℕ
+report_of rules items = report_text no_totals (run rules first_state items)
+
+-- how the run of these items ends
+abbrev pub ending_of : Rules → List Item → Ending
+ending_of rules items = (run rules first_state items).ending
+
+-- the status that they end with
+abbrev pub status_of : Rules → List Item → Status
+status_of rules items = run_status no_totals (run rules first_state items)
+
+-- the text of their collections, without a last line
+abbrev pub part_of : Rules → List Item → List ℕ
+part_of rules items = collections_text (run rules first_state items).collections

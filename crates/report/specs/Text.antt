@@ -1,6 +1,7 @@
 -- The lines of a report, byte for byte. Numbers are decimal; names are written as their bytes; each line ends with a newline.
-use Rattle.std.specs.Prelude.{ℕ, ◌==◌, List, [], ◌++◌, take, drop, Bool, true, false, if◌then◌else◌, codes, decimal}
+use Rattle.std.specs.Prelude.{ℕ, ◌==◌, List, [], ◌++◌, take, drop, Bool, true, false, nat_lt, if◌then◌else◌, codes, decimal}
 use Rattle.std.specs.List.{flat_map}
+use Rattle.heap_base.specs.declared.limits.TheConstants.{END_STEPS}
 use Rattle.graph_meaning.specs.declared.collection.Collection.{Collection}
 use Rattle.graph_meaning.specs.declared.collection.Verdict.{Verdict}
 use Rattle.graph_meaning.specs.declared.collection.Verdict.TheVariants.{Dead, Instances, Unshared, OwnedBy}
@@ -29,11 +30,11 @@ start_text (Owner id kind) = codes "owner " ++ object_text id kind
 abbrev pub step_text : PathStep → List ℕ
 step_text s = codes " [" ++ decimal s.slot ++ codes "] -> " ++ object_text s.id s.kind
 
--- the steps, with how many are left out between the first 32 and the others
+-- the steps, with how many are left out behind the first `END_STEPS`, where any are
 abbrev pub steps_text : List PathStep → ℕ → List ℕ
 steps_text steps left_out =
     if left_out == 0 then flat_map step_text steps
-    else flat_map step_text (take 32 steps) ++ codes " ... " ++ decimal left_out ++ codes " steps ..." ++ flat_map step_text (drop 32 steps)
+    else flat_map step_text (take END_STEPS steps) ++ codes " ... " ++ decimal left_out ++ codes " steps ..." ++ flat_map step_text (drop END_STEPS steps)
 
 unfoldable pub path_text : PathView → List ℕ
 path_text p = start_text p.from ++ steps_text p.steps p.left_out
@@ -78,9 +79,13 @@ unfoldable pub summary_line : Collection → List ℕ
 summary_line c =
     gc_text c.number ++ codes "live " ++ decimal c.live ++ codes " traced " ++ decimal c.traced ++ codes " freed " ++ decimal c.freed ++ codes "\n"
 
--- the line that sums a collection up, and a line for each verdict
+-- how many slots and roots were cleared, where any were
+unfoldable pub cleared_line : Collection → List ℕ
+cleared_line c = if nat_lt 0 c.cleared then gc_text c.number ++ codes "cleared " ++ decimal c.cleared ++ codes "\n" else []
+
+-- the line that sums a collection up, a line for each verdict, and what was cleared
 unfoldable pub collection_text : Collection → List ℕ
-collection_text c = summary_line c ++ flat_map (verdict_line c.number) c.verdicts
+collection_text c = summary_line c ++ flat_map (verdict_line c.number) c.verdicts ++ cleared_line c
 
 -- ---- the last line
 

@@ -1,7 +1,7 @@
 //! The texts of a report: a collection, a fault line, the end line.
 #![tactic(auto)]
 
-mod laws;
+mod examples;
 mod parts;
 mod paths;
 mod refusals;
@@ -10,9 +10,12 @@ mod tests;
 mod texts;
 mod verdicts;
 
-pub use laws::{
+pub use examples::{
     a_collection_of_nothing_has_one_line, a_cycle_that_is_freed_has_no_line,
+    a_path_may_begin_at_an_owner, a_path_names_each_slot_and_object,
     a_refused_line_ends_the_report, a_trace_of_nothing_has_the_end_line,
-    an_object_asserted_dead_has_a_line,
+    an_object_asserted_dead_has_a_line, an_ownee_of_an_array_that_was_let_go_has_a_line,
+    an_ownee_that_another_object_holds_has_a_line, each_collection_has_its_lines,
+    paths_past_the_number_shown_are_left_out, what_force_cleared_has_a_line,
 };
 pub use texts::{collection_text, end_text, fault_text};

@@ -4,10 +4,7 @@ ghost use Rattle.report.specs.Text.{both_text, left_out_text, path_text, shown_t
 
 use crate::parts::{put, put_name, put_number, put_object};
 use graph_meaning::{PathFrom, PathStep, PathView, Shown, StepList};
-use heap_base::OutOfMemory;
-
-/// So many steps stand before those that are left out.
-const FIRST_STEPS: u32 = 32;
+use heap_base::{END_STEPS, OutOfMemory};
 
 /// Appends the path that a verdict shows, or that it is left out.
 pub(crate) fn put_shown(text: &mut Vec<u8>, shown: &Shown) -> Result<(), OutOfMemory>
@@ -62,14 +59,14 @@ fn put_start(text: &mut Vec<u8>, from: &PathFrom) -> Result<(), OutOfMemory>
     }
 }
 
-/// Appends all the steps, with the number of those that are left out after the first 32 where there are any.
+/// Appends all the steps, with the number of those that are left out after the first where there are any.
 fn put_steps(text: &mut Vec<u8>, steps: &StepList, left_out: u32) -> Result<(), OutOfMemory>
     ensures { OnOk result (text.new.items ≡ text.old.items ++ steps_text steps.now left_out) }
 {
     if left_out == 0 {
         return put_steps_between(text, steps, 0, steps.len());
     }
-    let gap = steps.len().min(FIRST_STEPS);
+    let gap = steps.len().min(END_STEPS);
     put_steps_between(text, steps, 0, gap)?;
     put(text, b" ... ")?;
     put_number(text, left_out as u64)?;

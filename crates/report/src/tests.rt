@@ -21,6 +21,7 @@ fn check(rt: &impl Abort, alloc: Global, verdict: Verdict, expected: &str) -> Re
         live: 3,
         traced: 3,
         freed: 0,
+        cleared: 0,
         verdicts,
     };
     let text = collection_text(alloc, &collection)?;
@@ -110,6 +111,30 @@ fn a_path_from_a_root(rt: HostRuntime) -> Result<(), Fail> {
         entry,
         "gc 2 live 3 traced 3 freed 0\ngc 2 ownedby 3 Entry owner 1: root c -> 2 Cache [0] -> 3 Entry\n",
     )
+}
+
+#[test]
+fn what_was_cleared_stands_behind_the_verdicts(rt: HostRuntime) -> Result<(), Fail> {
+    let mut verdicts = VerdictList::empty(rt.alloc());
+    verdicts.push(Verdict::Dead {
+        id: 7,
+        kind: name(rt.alloc(), "Order")?,
+        path: Shown::LeftOut,
+    })?;
+    let collection = Collection {
+        number: 1,
+        live: 4,
+        traced: 3,
+        freed: 1,
+        cleared: 2,
+        verdicts,
+    };
+    let text = collection_text(rt.alloc(), &collection)?;
+    assert_eq!(rt;
+        text.as_slice(),
+        b"gc 1 live 4 traced 3 freed 1\ngc 1 dead 7 Order: path left out\ngc 1 cleared 2\n".as_slice()
+    );
+    Ok(())
 }
 
 #[test]

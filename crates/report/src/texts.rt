@@ -3,12 +3,13 @@ ghost use Rattle.report.specs.Text.{collection_text, end_text, fault_text};
 
 use crate::parts::{put, put_number};
 use crate::refusals::put_refusal;
-use crate::verdicts::{put_summary, put_verdicts};
+use crate::verdicts::{put_cleared, put_summary, put_verdicts};
 use graph_meaning::{Collection, Refusal};
 use heap_base::OutOfMemory;
 use std::alloc::Global;
 
-/// The lines of a collection: one that sums it up, and one for each verdict.
+/// The lines of a collection: one that sums it up, one for each verdict, and where slots or roots were cleared one that
+/// says how many.
 #[tactic(auto, unfolding(crate::specs::Text::collection_text))]
 pub fn collection_text(alloc: Global, collection: &Collection) -> Result<Vec<u8>, OutOfMemory>
     ensures { IfOk result (λ text. text.items ≡ collection_text collection.now) }
@@ -16,6 +17,7 @@ pub fn collection_text(alloc: Global, collection: &Collection) -> Result<Vec<u8>
     let mut text = Vec::new(alloc);
     put_summary(&mut text, collection)?;
     put_verdicts(&mut text, collection.number, &collection.verdicts)?;
+    put_cleared(&mut text, collection)?;
     Ok(text)
 }
 

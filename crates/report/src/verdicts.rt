@@ -1,6 +1,6 @@
 ghost use Rattle.std.specs.Prelude.{◌≡◌, ◌++◌, OnOk};
 ghost use Rattle.std.specs.List.{flat_map};
-ghost use Rattle.report.specs.Text.{gc_text, gone_text, summary_line, verdict_line, verdict_text};
+ghost use Rattle.report.specs.Text.{cleared_line, gc_text, gone_text, summary_line, verdict_line, verdict_text};
 
 use crate::parts::{put, put_name, put_number, put_object};
 use crate::paths::{put_both, put_shown};
@@ -35,6 +35,20 @@ pub(crate) fn put_verdicts(
         put_line(text, number, verdicts.at(place))?;
     }
     Ok(())
+}
+
+/// Appends the line that says how much was cleared, where anything was.
+#[tactic(auto, unfolding(crate::specs::Text::cleared_line))]
+pub(crate) fn put_cleared(text: &mut Vec<u8>, collection: &Collection) -> Result<(), OutOfMemory>
+    ensures { OnOk result (text.new.items ≡ text.old.items ++ cleared_line collection.now) }
+{
+    if collection.cleared == 0 {
+        return Ok(());
+    }
+    put_gc(text, collection.number)?;
+    put(text, b"cleared ")?;
+    put_number(text, collection.cleared as u64)?;
+    put(text, b"\n")
 }
 
 #[tactic(auto, unfolding(crate::specs::Text::verdict_line))]

@@ -5,15 +5,15 @@ use Rattle.std.specs.Option.{MatchOption}
 use Rattle.graph_meaning.specs.declared.refusal.Refusal.TheVariants.{LineTooLong, TraceTooLong}
 use Rattle.trace_reader.specs.declared.error.CutError.{CutError}
 use Rattle.trace_reader.specs.declared.error.CutError.TheVariants as error
-use Rattle.trace_reader.specs.Cutting.{Cutting, StepsOn, Cuts}
+use Rattle.trace_reader.specs.Cutter.{CutterState, StepsOn, Cuts}
 use Rattle.trace_reader.specs.Items.{pieces, items_from}
 use Rattle.trace_reader.specs.Meaning.{Item, refused, item_of_line}
 use Rattle.trace_reader.proofs.Pieces.{items_from-given, items_from-done, items_from-line_too_long, items_from-trace_too_long}
 
-unfoldable pub items_left : Cutting → List ℕ → List Item
+unfoldable pub items_left : CutterState → List ℕ → List Item
 items_left c left = items_from c.limit c.given (pieces (c.pending ++ left))
 
-module _ (old new : Cutting) (left_before left_after : List ℕ) (before after : ℕ) (took : List ℕ) where
+module _ (old new : CutterState) (left_before left_after : List ℕ) (before after : ℕ) (took : List ℕ) where
   abbrev Step : Result (Option ℕ) CutError → Type 0
   Step result = StepsOn old new (Some left_before) (Some left_after) before after result took
 
@@ -50,9 +50,9 @@ module _ (old new : Cutting) (left_before left_after : List ℕ) (before after :
       ∙ items_from-done new old.limit old.given left_after cuts.1 (nothing_left (Ok None) step known cuts.1.at_end)
 
   -- the same items, after a step that gave no line
-  kept : (result : Result (Option ℕ) CutError) → Step result → new.pending ≡ old.pending ++ took → new.given ≡ old.given → items_left old left_before ≡ items_left new left_after
+  items_left-same : (result : Result (Option ℕ) CutError) → Step result → new.pending ≡ old.pending ++ took → new.given ≡ old.given → items_left old left_before ≡ items_left new left_after
   unfolding items_left
-  kept result step pending given =
+  items_left-same result step pending given =
       ap (λ bs. items_from old.limit old.given (pieces bs)) (same_bytes result step ∙ ap (λ bs. bs ++ left_after) (sym pending))
       ∙ ap (λ limit. items_from limit old.given (pieces (new.pending ++ left_after))) (sym step.limit)
       ∙ ap (λ given. items_from new.limit given (pieces (new.pending ++ left_after))) (sym given)
@@ -60,18 +60,18 @@ module _ (old new : Cutting) (left_before left_after : List ℕ) (before after :
   pub items_left-read_fault : Step (Err error.ReadFault) → old.stopped ≡ None → items_left old left_before ≡ items_left new left_after
   items_left-read_fault step going =
       let cuts = cuts_of (Err error.ReadFault) step going in
-      kept (Err error.ReadFault) step cuts.0.pending cuts.0.given
+      items_left-same (Err error.ReadFault) step cuts.0.pending cuts.0.given
 
   pub items_left-line_too_long : Step (Err error.LineTooLong) → old.stopped ≡ None → (more : List Item) × (items_left old left_before ≡ refused LineTooLong ∷ more)
   unfolding items_left
   items_left-line_too_long step going =
       let cuts = cuts_of (Err error.LineTooLong) step going in
-      let first = items_from-line_too_long new left_after cuts.1 in
-      (first.0, kept (Err error.LineTooLong) step cuts.0.pending cuts.0.given ∙ first.1)
+      let first = items_from-line_too_long new left_after cuts.1.too_long in
+      (first.0, items_left-same (Err error.LineTooLong) step cuts.0.pending cuts.0.given ∙ first.1)
 
   pub items_left-trace_too_long : Step (Err error.TraceTooLong) → old.stopped ≡ None → (more : List Item) × (items_left old left_before ≡ refused TraceTooLong ∷ more)
   unfolding items_left
   items_left-trace_too_long step going =
       let cuts = cuts_of (Err error.TraceTooLong) step going in
-      let first = items_from-trace_too_long new left_after cuts.1.0 cuts.1.1 in
-      (first.0, kept (Err error.TraceTooLong) step cuts.0.pending cuts.0.given ∙ first.1)
+      let first = items_from-trace_too_long new left_after cuts.0.within cuts.1.past_limit in
+      (first.0, items_left-same (Err error.TraceTooLong) step cuts.0.pending cuts.0.given ∙ first.1)

@@ -4,8 +4,8 @@ use Rattle.std.proofs.lemmas.List.{take_all, get_or-take, get_or-drop, length-ta
 use Rattle.std.proofs.lemmas.List.Elements.{All-take, All-append, All-more}
 use Rattle.std.proofs.lemmas.Bool.Decides.{leb_tells}
 use Rattle.std.proofs.Math.Seq.{take-take, take-add}
-use Rattle.trace_reader.specs.Cutting.{HasNoNewline}
-use Rattle.trace_reader.specs.Cuts.{IsFirstNewline, HasTooLongLine, EndsPastLimit, IsLineFront}
+use Rattle.heap_base.specs.declared.limits.TheConstants.{LONGEST_LINE}
+use Rattle.trace_reader.specs.Cuts.{HasNoNewline, IsFirstNewline, HasTooLongLine, EndsPastLimit, IsLineFront}
 
 pub front_of_front : (xs : List ℕ) (m n : ℕ) → m ≤ n → HasNoNewline (take n xs) → HasNoNewline (take m xs)
 front_of_front xs m n h p = subst HasNoNewline (take-take m n xs h) (All-take (λ b. b ≢ 10) m (take n xs) p)
@@ -38,48 +38,48 @@ first_in_part xs m k n p first fits =
       newline = sym (get_or-drop m xs n 0) ∙ sym (get_or-take k (drop m xs) n 0 within) ∙ first.newline;
     }
 
--- 65,537 bytes are there, and none of the first is a newline
-pub too_long_below : (xs : List ℕ) (allowed : ℕ) → 65536 < length xs → 65536 < allowed → HasNoNewline (take (min allowed 65537) xs) → HasTooLongLine xs allowed
+-- more bytes than a line may have are there, and none of the first is a newline
+pub too_long_below : (xs : List ℕ) (allowed : ℕ) → LONGEST_LINE < length xs → LONGEST_LINE < allowed → HasNoNewline (take (min allowed (LONGEST_LINE + 1)) xs) → HasTooLongLine xs allowed
 too_long_below xs allowed h k p = record {
   there = omega arith;
-  one_line = front_of_front xs 65537 (min allowed 65537) (omega arith) p;
+  one_line = front_of_front xs (LONGEST_LINE + 1) (min allowed (LONGEST_LINE + 1)) (omega arith) p;
   within = omega arith;
 }
 
-pub too_long_at : (xs : List ℕ) (allowed : ℕ) → 65536 < length xs → allowed ≡ 65536 → HasNoNewline (take (min allowed 65537) xs) → get_or xs 65536 0 ≢ 10 → HasTooLongLine xs allowed
+pub too_long_at : (xs : List ℕ) (allowed : ℕ) → LONGEST_LINE < length xs → allowed ≡ LONGEST_LINE → HasNoNewline (take (min allowed (LONGEST_LINE + 1)) xs) → get_or xs LONGEST_LINE 0 ≢ 10 → HasTooLongLine xs allowed
 too_long_at xs allowed h k p q = record {
   there = omega arith;
-  one_line = All-more (λ b. b ≢ 10) xs 65536 0 h (front_of_front xs 65536 (min allowed 65537) (omega arith) p) q;
+  one_line = All-more (λ b. b ≢ 10) xs LONGEST_LINE 0 h (front_of_front xs LONGEST_LINE (min allowed (LONGEST_LINE + 1)) (omega arith) p) q;
   within = omega arith;
 }
 
--- the 65,537th byte of a line that is too long is no newline
-pub too_long_next : (xs : List ℕ) (allowed : ℕ) → HasTooLongLine xs allowed → get_or xs 65536 0 ≢ 10
+-- the byte behind the longest line is no newline, where a line is too long
+pub too_long_next : (xs : List ℕ) (allowed : ℕ) → HasTooLongLine xs allowed → get_or xs LONGEST_LINE 0 ≢ 10
 too_long_next xs allowed long e =
-    long.one_line 65536 0 (omega (arith, length-take-le 65537 xs long.there)) (get_or-take 65537 xs 65536 0 (omega arith) ∙ e)
+    long.one_line LONGEST_LINE 0 (omega (arith, length-take-le (LONGEST_LINE + 1) xs long.there)) (get_or-take (LONGEST_LINE + 1) xs LONGEST_LINE 0 (omega arith) ∙ e)
 
-pub ends_past_limit : (xs : List ℕ) (allowed : ℕ) → allowed < length xs → (HasTooLongLine xs allowed → ⊥) → HasNoNewline (take (min allowed 65537) xs) → EndsPastLimit xs allowed
+pub ends_past_limit : (xs : List ℕ) (allowed : ℕ) → allowed < length xs → (HasTooLongLine xs allowed → ⊥) → HasNoNewline (take (min allowed (LONGEST_LINE + 1)) xs) → EndsPastLimit xs allowed
 ends_past_limit xs allowed h not_long p =
-    let at_most : allowed ≤ 65536 =
-    elim (leb_tells allowed 65536) as (λ _. allowed ≤ 65536) [
+    let at_most : allowed ≤ LONGEST_LINE =
+    elim (leb_tells allowed LONGEST_LINE) as (λ _. allowed ≤ LONGEST_LINE) [
       | inl low ↦ low.1
-      | inr high ↦ absurd (not_long (too_long_below xs allowed (let l : 65536 < allowed = high.1 in omega arith) high.1 p))
+      | inr high ↦ absurd (not_long (too_long_below xs allowed (let l : LONGEST_LINE < allowed = high.1 in omega arith) high.1 p))
     ] in
     record {
       there = h;
-      one_line = front_of_front xs allowed (min allowed 65537) (omega arith) p;
+      one_line = front_of_front xs allowed (min allowed (LONGEST_LINE + 1)) (omega arith) p;
       not_too_long = not_long;
     }
 
-pub line_front : (xs : List ℕ) (allowed : ℕ) → length xs ≤ allowed → (HasTooLongLine xs allowed → ⊥) → HasNoNewline (take (min allowed 65537) xs) → IsLineFront xs allowed
+pub line_front : (xs : List ℕ) (allowed : ℕ) → length xs ≤ allowed → (HasTooLongLine xs allowed → ⊥) → HasNoNewline (take (min allowed (LONGEST_LINE + 1)) xs) → IsLineFront xs allowed
 line_front xs allowed h not_long p =
-    let short : length xs ≤ 65536 =
-    elim (leb_tells (length xs) 65536) as (λ _. length xs ≤ 65536) [
+    let short : length xs ≤ LONGEST_LINE =
+    elim (leb_tells (length xs) LONGEST_LINE) as (λ _. length xs ≤ LONGEST_LINE) [
       | inl low ↦ low.1
-      | inr high ↦ absurd (not_long (too_long_below xs allowed high.1 (let l : 65536 < length xs = high.1 in omega arith) p))
+      | inr high ↦ absurd (not_long (too_long_below xs allowed high.1 (let l : LONGEST_LINE < length xs = high.1 in omega arith) p))
     ] in
     record {
-      one_line = front_is_all xs (min allowed 65537) (omega arith) p;
+      one_line = front_is_all xs (min allowed (LONGEST_LINE + 1)) (omega arith) p;
       short = short;
       within = h;
     }

@@ -5,8 +5,10 @@ use Rattle.std.proofs.lemmas.Bool.{ne_eqb, cond-true, cond-false, le-ltb, lt-ltb
 use Rattle.std.proofs.lemmas.Bool.Decides.{eqb_tells}
 use Rattle.std.proofs.lemmas.List.Elements.{All-head, All-tail, All-more}
 use Rattle.std.proofs.lemmas.List.Sums.{take_while-cons}
+use Rattle.heap_base.specs.declared.limits.TheConstants.{LONGEST_LINE}
 use Rattle.graph_meaning.specs.declared.refusal.Refusal.TheVariants.{LineTooLong, TraceTooLong}
-use Rattle.trace_reader.specs.Cutting.{Cutting, HasNoNewline, GivesLine, IsLineTooLong, IsTraceTooLong, IsDone}
+use Rattle.trace_reader.specs.Cuts.{HasNoNewline, HasTooLongLine, EndsPastLimit}
+use Rattle.trace_reader.specs.Cutter.{CutterState, GivesLine, IsDone, room}
 use Rattle.trace_reader.specs.Items.{pieces, in_front, line_of, item_of, items_from}
 use Rattle.trace_reader.specs.Meaning.{Item, refused, item_of_line}
 use Rattle.trace_reader.proofs.Newlines.{front_of_front}
@@ -89,25 +91,25 @@ items_from-append limit before (p ∷ ps) qs =
     )
 
 -- a piece within both limits is what its line is
-pub item_of-short : (limit before : ℕ) (piece : List ℕ) → length (line_of piece) ≤ 65536 → before + length piece ≤ limit → item_of limit before piece ≡ item_of_line (line_of piece)
+pub item_of-short : (limit before : ℕ) (piece : List ℕ) → length (line_of piece) ≤ LONGEST_LINE → before + length piece ≤ limit → item_of limit before piece ≡ item_of_line (line_of piece)
 unfolding item_of
 item_of-short limit before piece short within =
-    cond-false _ _ _ (ap (λ b. b && leb (before + 65537) (limit + 1)) (le-ltb 65536 (length (line_of piece)) short))
+    cond-false _ _ _ (ap (λ b. b && leb (before + LONGEST_LINE) limit) (le-ltb LONGEST_LINE (length (line_of piece)) short))
     ∙ cond-false _ _ _ (le-ltb limit (before + length piece) within)
 
-pub item_of-too_long : (limit before : ℕ) (piece : List ℕ) → 65536 < length (line_of piece) → before + 65537 ≤ limit + 1 → item_of limit before piece ≡ refused LineTooLong
+pub item_of-too_long : (limit before : ℕ) (piece : List ℕ) → LONGEST_LINE < length (line_of piece) → before + LONGEST_LINE ≤ limit → item_of limit before piece ≡ refused LineTooLong
 unfolding item_of
 item_of-too_long limit before piece long within =
-    cond-true _ _ _ (ap (λ b. b && leb (before + 65537) (limit + 1)) (lt-ltb 65536 (length (line_of piece)) long) ∙ le-leb (before + 65537) (limit + 1) within)
+    cond-true _ _ _ (ap (λ b. b && leb (before + LONGEST_LINE) limit) (lt-ltb LONGEST_LINE (length (line_of piece)) long) ∙ le-leb (before + LONGEST_LINE) limit within)
 
-pub item_of-past_limit : (limit before : ℕ) (piece : List ℕ) → (65536 < length (line_of piece) → before + 65537 ≤ limit + 1 → ⊥) → limit < before + length piece → item_of limit before piece ≡ refused TraceTooLong
+pub item_of-past_limit : (limit before : ℕ) (piece : List ℕ) → (LONGEST_LINE < length (line_of piece) → before + LONGEST_LINE ≤ limit → ⊥) → limit < before + length piece → item_of limit before piece ≡ refused TraceTooLong
 unfolding item_of
 item_of-past_limit limit before piece not_long past =
     let long = length (line_of piece) in
-    let test : (ltb 65536 long && leb (before + 65537) (limit + 1)) ≡ false =
-    elim (cases_lt 65536 long) as (λ _. (ltb 65536 long && leb (before + 65537) (limit + 1)) ≡ false) [
-      | inl more ↦ ap (λ b. b && leb (before + 65537) (limit + 1)) (lt-ltb 65536 long more) ∙ lt-leb (before + 65537) (limit + 1) (elim (cases_lt (limit + 1) (before + 65537)) [ inl out ↦ out | inr close ↦ absurd (not_long more close) ])
-      | inr less ↦ ap (λ b. b && leb (before + 65537) (limit + 1)) (le-ltb 65536 long less)
+    let test : (ltb LONGEST_LINE long && leb (before + LONGEST_LINE) limit) ≡ false =
+    elim (cases_lt LONGEST_LINE long) as (λ _. (ltb LONGEST_LINE long && leb (before + LONGEST_LINE) limit) ≡ false) [
+      | inl more ↦ ap (λ b. b && leb (before + LONGEST_LINE) limit) (lt-ltb LONGEST_LINE long more) ∙ lt-leb (before + LONGEST_LINE) limit (elim (cases_lt limit (before + LONGEST_LINE)) [ inl out ↦ out | inr close ↦ absurd (not_long more close) ])
+      | inr less ↦ ap (λ b. b && leb (before + LONGEST_LINE) limit) (le-ltb LONGEST_LINE long less)
     ] in
     cond-false _ _ _ test
     ∙ cond-true _ _ _ (lt-ltb limit (before + length piece) past)
@@ -115,7 +117,7 @@ item_of-past_limit limit before piece not_long past =
 -- ---- steps of a cutter
 
 -- a line that is given is what its piece is
-pub item_of-given : (old new : Cutting) (bytes piece : List ℕ) (n : ℕ) → GivesLine old new bytes piece n → item_of old.limit old.given piece ≡ item_of_line new.line
+pub item_of-given : (old new : CutterState) (bytes piece : List ℕ) (n : ℕ) → GivesLine old new bytes piece n → item_of old.limit old.given piece ≡ item_of_line new.line
 item_of-given old new bytes piece n gives =
     let same : line_of piece ≡ new.line =
     elim gives.next.ended as (λ _. line_of piece ≡ new.line) [
@@ -125,7 +127,7 @@ item_of-given old new bytes piece n gives =
     item_of-short old.limit old.given piece (omega (arith, ap length same, gives.short)) (omega (arith, gives.given, gives.within)) ∙ ap item_of_line same
 
 -- the piece of a line that is given is the first, whatever the source gives after it; nothing, where its end was read
-pub pieces-given : (old new : Cutting) (bytes piece rest : List ℕ) (n : ℕ) → GivesLine old new bytes piece n → (IsTrue new.at_end → rest ≡ []) → pieces (bytes ++ rest) ≡ piece ∷ pieces (new.pending ++ rest)
+pub pieces-given : (old new : CutterState) (bytes piece rest : List ℕ) (n : ℕ) → GivesLine old new bytes piece n → (IsTrue new.at_end → rest ≡ []) → pieces (bytes ++ rest) ≡ piece ∷ pieces (new.pending ++ rest)
 pieces-given old new bytes piece rest n gives end =
     let next = gives.next in
     ap (λ bs. pieces (bs ++ rest)) next.split
@@ -141,7 +143,7 @@ pieces-given old new bytes piece rest n gives end =
     ]
 
 -- so the items that are left are what that line is, and then those of the bytes behind it
-pub items_from-given : (old new : Cutting) (bytes piece rest : List ℕ) (n : ℕ) → GivesLine old new bytes piece n → (IsTrue new.at_end → rest ≡ [])
+pub items_from-given : (old new : CutterState) (bytes piece rest : List ℕ) (n : ℕ) → GivesLine old new bytes piece n → (IsTrue new.at_end → rest ≡ [])
     → items_from old.limit old.given (pieces (bytes ++ rest)) ≡ item_of_line new.line ∷ items_from old.limit new.given (pieces (new.pending ++ rest))
 items_from-given old new bytes piece rest n gives end =
     let later = pieces (new.pending ++ rest) in
@@ -151,31 +153,31 @@ items_from-given old new bytes piece rest n gives end =
     ∙ ap (λ k. item_of_line new.line ∷ items_from old.limit k later) (sym gives.given)
 
 -- no item is left where no byte is
-pub items_from-done : (new : Cutting) (limit given : ℕ) (rest : List ℕ) → IsDone new → rest ≡ [] → items_from limit given (pieces (new.pending ++ rest)) ≡ []
+pub items_from-done : (new : CutterState) (limit given : ℕ) (rest : List ℕ) → IsDone new → rest ≡ [] → items_from limit given (pieces (new.pending ++ rest)) ≡ []
 unfolding items_from pieces
 items_from-done new limit given rest done end =
     ap (λ bs. items_from limit given (pieces (bs ++ rest))) done.nothing_left ∙ ap (λ bs. items_from limit given (pieces bs)) end
 
 -- the first item left is the refusal that the cutter met, whatever the source gives after its bytes
-pub items_from-line_too_long : (new : Cutting) (rest : List ℕ) → IsLineTooLong new → (more : List Item) × (items_from new.limit new.given (pieces (new.pending ++ rest)) ≡ refused LineTooLong ∷ more)
+pub items_from-line_too_long : (new : CutterState) (rest : List ℕ) → HasTooLongLine new.pending (room new) → (more : List Item) × (items_from new.limit new.given (pieces (new.pending ++ rest)) ≡ refused LineTooLong ∷ more)
 items_from-line_too_long new rest long =
-    let front = take 65537 new.pending in
-    let size : length front ≡ 65537 = length-take-le 65537 new.pending long.there in
-    let after = drop 65537 new.pending ++ rest in
+    let front = take (LONGEST_LINE + 1) new.pending in
+    let size : length front ≡ LONGEST_LINE + 1 = length-take-le (LONGEST_LINE + 1) new.pending long.there in
+    let after = drop (LONGEST_LINE + 1) new.pending ++ rest in
     let first = pieces-front front after long.one_line (omega arith) in
     let whole : new.pending ++ rest ≡ front ++ after =
-    ap (λ bs. bs ++ rest) (sym (take-append-drop 65537 new.pending)) ∙ append_assoc front (drop 65537 new.pending) rest in
+    ap (λ bs. bs ++ rest) (sym (take-append-drop (LONGEST_LINE + 1) new.pending)) ∙ append_assoc front (drop (LONGEST_LINE + 1) new.pending) rest in
     let piece = front ++ first.0 in
     let line : length (line_of piece) ≡ length front + length (line_of first.0) = ap length (line_of-front front first.0 long.one_line) ∙ length-append front (line_of first.0) in (
       items_from new.limit (new.given + length piece) first.1,
       ap (λ bs. items_from new.limit new.given (pieces bs)) whole
           ∙ ap (items_from new.limit new.given) first.2
           ∙ items_from-cons new.limit new.given piece first.1
-          ∙ ap (λ item. item ∷ items_from new.limit (new.given + length piece) first.1) (item_of-too_long new.limit new.given piece (omega arith) long.within),
+          ∙ ap (λ item. item ∷ items_from new.limit (new.given + length piece) first.1) (item_of-too_long new.limit new.given piece (omega arith) (omega (arith, long.within))),
     )
 
 past_limit : (limit given : ℕ) (bytes piece : List ℕ) (others : List (List ℕ)) → pieces bytes ≡ piece ∷ others
-    → (65536 < length (line_of piece) → given + 65537 ≤ limit + 1 → ⊥) → limit < given + length piece
+    → (LONGEST_LINE < length (line_of piece) → given + LONGEST_LINE ≤ limit → ⊥) → limit < given + length piece
     → (more : List Item) × (items_from limit given (pieces bytes) ≡ refused TraceTooLong ∷ more)
 past_limit limit given bytes piece others is not_long past =
     let more = items_from limit (given + length piece) others in (
@@ -185,11 +187,16 @@ past_limit limit given bytes piece others is not_long past =
           ∙ ap (λ item. item ∷ more) (item_of-past_limit limit given piece not_long past),
     )
 
-pub items_from-trace_too_long : (new : Cutting) (rest : List ℕ) (n : ℕ) → IsTraceTooLong new n → (more : List Item) × (items_from new.limit new.given (pieces (new.pending ++ rest)) ≡ refused TraceTooLong ∷ more)
-items_from-trace_too_long new rest n past =
+-- it is not whole in the bytes that the trace may still have, and is not too long by one byte more
+pub items_from-trace_too_long : (new : CutterState) (rest : List ℕ) → new.given ≤ new.limit → EndsPastLimit new.pending (room new) → (more : List Item) × (items_from new.limit new.given (pieces (new.pending ++ rest)) ≡ refused TraceTooLong ∷ more)
+items_from-trace_too_long new rest within past =
     let pending = new.pending in
+    let n = room new in
     let front = take n pending in
-    let size : length front ≡ n = length-take-le n pending (let there = past.there in omega arith) in
+    let there : n < length pending = past.there in
+    let size : length front ≡ n = length-take-le n pending (omega arith) in
+    let not_long : HasNoNewline (take (LONGEST_LINE + 1) pending) → LONGEST_LINE < length pending → LONGEST_LINE ≤ n → ⊥ =
+    λ none long close. past.not_too_long (record { there = omega arith; one_line = none; within = close }) in
     elim (eqb_tells (get_or pending n 0) 10) as (λ _. (more : List Item) × (items_from new.limit new.given (pieces (pending ++ rest)) ≡ refused TraceTooLong ∷ more)) [
       | inl newline ↦ (
           let piece = front ++ 10 ∷ [] in
@@ -200,20 +207,20 @@ items_from-trace_too_long new rest n past =
           past_limit new.limit new.given (pending ++ rest) piece (pieces (drop (n + 1) pending ++ rest)) (
           ap pieces whole ∙ pieces-line front (drop (n + 1) pending ++ rest) past.one_line
           ) (
-          λ long close. let there = past.there in past.not_too_long (omega arith) (front_of_front pending 65537 n (omega arith) past.one_line) close
-          ) (omega (arith, past.place, length-append front (10 ∷ [])))
+          λ long close. not_long (front_of_front pending (LONGEST_LINE + 1) n (omega arith) past.one_line) (omega arith) (omega arith)
+          ) (omega (arith, length-append front (10 ∷ [])))
           )
       | inr other ↦ (
           let more = take (n + 1) pending in
           let none : HasNoNewline more = All-more (λ b. b ≢ 10) pending n 0 past.there past.one_line other.1 in
-          let more_size : length more ≡ n + 1 = length-take-le (n + 1) pending (let there = past.there in omega arith) in
+          let more_size : length more ≡ n + 1 = length-take-le (n + 1) pending (omega arith) in
           let after = drop (n + 1) pending ++ rest in
           let first = pieces-front more after none (omega arith) in
           let whole : pending ++ rest ≡ more ++ after =
           ap (λ bs. bs ++ rest) (sym (take-append-drop (n + 1) pending)) ∙ append_assoc more (drop (n + 1) pending) rest in
           let piece = more ++ first.0 in
           past_limit new.limit new.given (pending ++ rest) piece first.1 (ap pieces whole ∙ first.2) (
-          λ long close. let there = past.there in let place = past.place in past.not_too_long (omega arith) (front_of_front pending 65537 (n + 1) (omega arith) none) close
-          ) (omega (arith, past.place, length-append more first.0))
+          λ long close. not_long (front_of_front pending (LONGEST_LINE + 1) (n + 1) (omega arith) none) (omega arith) (omega arith)
+          ) (omega (arith, length-append more first.0))
           )
     ]

@@ -3,12 +3,11 @@ use Rattle.std.proofs.Common.{◌≡◌, ℕ, ◌+◌, ◌-◌, ◌≤◌, ◌<�
 use Rattle.std.proofs.Math.Seq.{split_at}
 use Rattle.std.specs.Option.{MatchOption}
 use Rattle.trace_reader.specs.declared.error.CutError.{CutError}
-use Rattle.trace_reader.specs.declared.error.CutError.TheVariants.{TraceTooLong}
-use Rattle.trace_reader.specs.Cutting.{Cutting, Cuts, StepsOn, MayRead, GivesLine, HasNoNewline, IsTraceTooLong}
-use Rattle.trace_reader.specs.Cuts.{IsLine, IsFirstNewline, EndsPastLimit}
-use Rattle.trace_reader.specs.Reading.{ReadsOn}
+use Rattle.trace_reader.specs.Cutter.{CutterState, Cuts, StepsOn, MayRead, GivesLine}
+use Rattle.trace_reader.specs.Cuts.{HasNoNewline, IsLine, IsFirstNewline}
+use Rattle.trace_reader.specs.Reads.{ReadsOn}
 
-pub step_of_cut : (old new : Cutting) (held : List ℕ) (left_before left_after : Option (List ℕ)) (before after : ℕ) (result : Result (Option ℕ) CutError) (took : List ℕ)
+pub step_of_cut : (old new : CutterState) (held : List ℕ) (left_before left_after : Option (List ℕ)) (before after : ℕ) (result : Result (Option ℕ) CutError) (took : List ℕ)
     → old.stopped ≡ None → new.limit ≡ old.limit
     → ReadsOn (record { held = old.pending; at_end = old.at_end; left = left_before; faults = before }) (record { held = held; at_end = new.at_end; left = left_after; faults = after }) took
     → Cuts old new held before after result
@@ -38,7 +37,7 @@ line_split held n first =
     ∙ sym (append_assoc (take n held) (10 ∷ []) (drop (suc n) held))
     ∙ ap (λ k. (take n held ++ 10 ∷ []) ++ drop k held) (sym (add-one n))
 
-pub gives_line : (old new : Cutting) (held : List ℕ) (allowed n : ℕ) → IsLine held allowed n → allowed ≡ old.limit - old.given
+pub gives_line : (old new : CutterState) (held : List ℕ) (allowed n : ℕ) → IsLine held allowed n → allowed ≡ old.limit - old.given
     → new.line ≡ take n held → new.pending ≡ drop (n + 1) held → new.given ≡ old.given + (n + 1) → new.lines ≡ old.lines + 1 → new.stopped ≡ None
     → GivesLine old new held (take n held ++ 10 ∷ []) (old.lines + 1)
 gives_line old new held allowed n is allowed_is line pending given lines stopped =
@@ -56,17 +55,3 @@ gives_line old new held allowed n is allowed_is line pending given lines stopped
       within = omega (arith, is.within);
       stopped = stopped;
     }
-
-pub trace_too_long : (new : Cutting) (held : List ℕ) (allowed : ℕ) → EndsPastLimit held allowed → allowed ≡ new.limit - new.given → new.given ≤ new.limit → new.pending ≡ held
-    → new.stopped ≡ Some TraceTooLong → IsTraceTooLong new allowed
-trace_too_long new held allowed past allowed_is within pending stopped = record {
-  place = omega arith;
-  there = subst (λ bytes. allowed < length bytes) (sym pending) past.there;
-  one_line = subst (λ bytes. HasNoNewline (take allowed bytes)) (sym pending) past.one_line;
-  not_too_long = λ there one_line close. past.not_too_long (record {
-    there = subst (λ bytes. 65537 ≤ length bytes) pending there;
-    one_line = subst (λ bytes. HasNoNewline (take 65537 bytes)) pending one_line;
-    within = omega arith;
-  });
-  stopped = stopped;
-}

@@ -1,5 +1,6 @@
 -- A trace as the list of its items, one for each line.
 use Rattle.std.specs.Prelude.{ℕ, ◌+◌, ◌==◌, List, [], ◌∷◌, length, ◌&&◌, not, nat_le, nat_lt, if◌then◌else◌, take_while}
+use Rattle.heap_base.specs.declared.limits.TheConstants.{LONGEST_LINE}
 use Rattle.graph_meaning.specs.declared.refusal.Refusal.TheVariants.{LineTooLong, TraceTooLong}
 use Rattle.trace_reader.specs.Meaning.{Item, refused, item_of_line}
 
@@ -18,10 +19,10 @@ abbrev pub line_of : List ℕ → List ℕ
 line_of piece = take_while (λ b. not (b == 10)) piece
 
 -- The item of a piece that this many bytes of the trace stand before, in a trace of at most `limit` bytes.
--- A line is too long where its 65,537th byte is there, within the first `limit` + 1 bytes of the trace.
+-- A line is too long where it has more than `LONGEST_LINE` bytes, so many of them within the limit.
 unfoldable pub item_of : ℕ → ℕ → List ℕ → Item
 item_of limit before piece =
-    if nat_lt 65536 (length (line_of piece)) && nat_le (before + 65537) (limit + 1) then refused LineTooLong
+    if nat_lt LONGEST_LINE (length (line_of piece)) && nat_le (before + LONGEST_LINE) limit then refused LineTooLong
     else (if nat_lt limit (before + length piece) then refused TraceTooLong
     else item_of_line (line_of piece))
 

@@ -1,7 +1,7 @@
 pub mod Cuts
-pub mod Cutting
+pub mod Cutter
 pub mod Items
 pub mod Meaning
 pub mod Objects
-pub mod Reading
+pub mod Reads
 pub mod Windows

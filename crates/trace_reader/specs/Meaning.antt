@@ -6,10 +6,11 @@ use Rattle.serde_json.specs.Data.{Data, null, boolean, number, string, array, ob
 use Rattle.serde_json.specs.Read.{read}
 use Rattle.serde_json.specs.Find.{get, as_number, as_str, as_u64}
 use Rattle.heap_base.specs.Names.{is_name}
+use Rattle.heap_base.specs.declared.limits.TheConstants.{MOST_THREADS}
 use Rattle.graph_meaning.specs.declared.event.Event.{Event}
 use Rattle.graph_meaning.specs.declared.event.Event.TheVariants.{Alloc, Store, Root, AssertDead, StartRegion, AssertAllDead, AssertInstances, AssertUnshared, AssertOwnedBy, Collect}
 use Rattle.graph_meaning.specs.declared.refusal.FieldName.{FieldName}
-use Rattle.graph_meaning.specs.declared.refusal.FieldName.TheVariants.{OpField, IdField, TypeField, SlotsField, ThreadField, AtField, SlotField, ToField, NameField, LimitField, OwnerField, OwneeField}
+use Rattle.graph_meaning.specs.declared.refusal.FieldName.TheVariants.{OpField, IdField, TypeField, SlotsField, ThreadField, AtField, SlotField, ToField, NameField, LimitField, OwnerField, OwneeField, WeakField}
 use Rattle.graph_meaning.specs.declared.refusal.Refusal.{Refusal}
 use Rattle.graph_meaning.specs.declared.refusal.Stop.{Stop}
 use Rattle.graph_meaning.specs.declared.refusal.Stop.TheVariants.{Refused, OutOfMemory}
@@ -37,6 +38,7 @@ field_text NameField = codes "name"
 field_text LimitField = codes "limit"
 field_text OwnerField = codes "owner"
 field_text OwneeField = codes "ownee"
+field_text WeakField = codes "weak"
 
 -- a value if it passes the test
 abbrev pub only_if : {A : Type 0} → (A → Bool) → A → Option A
@@ -54,9 +56,9 @@ id_value d = option_and_then (only_if (λ n. nat_le 1 n && nat_lt n (2 ^ 32))) (
 abbrev pub count_value : Data → Option ℕ
 count_value d = option_and_then (only_if (λ n. nat_lt n (2 ^ 32))) (whole_number d)
 
--- a thread is a whole number from 0 to 1,023
+-- a thread is a whole number below `MOST_THREADS`
 abbrev pub thread_value : Data → Option ℕ
-thread_value d = option_and_then (only_if (λ n. nat_lt n 1024)) (whole_number d)
+thread_value d = option_and_then (only_if (λ n. nat_lt n MOST_THREADS)) (whole_number d)
 
 -- what a slot or a root is to hold is an id, or null for nothing
 abbrev pub target_value : Data → Option (Option ℕ)
@@ -75,25 +77,25 @@ abbrev pub ◌>>=◌ : {A B : Type 0} → Result A Refusal → (A → Result B R
 (Err r) >>= f = Err r
 
 -- the value that is there, if it is good
-abbrev pub good : {A : Type 0} → FieldName → Option A → Result A Refusal
-good f None = Err (BadField f)
-good f (Some a) = Ok a
+abbrev pub good_value : {A : Type 0} → FieldName → Option A → Result A Refusal
+good_value f None = Err (BadField f)
+good_value f (Some a) = Ok a
 
-abbrev pub needed_in : {A : Type 0} → FieldName → (Data → Option A) → Option Data → Result A Refusal
-needed_in f value None = Err (MissingField f)
-needed_in f value (Some d) = good f (value d)
+abbrev pub needed_value : {A : Type 0} → FieldName → (Data → Option A) → Option Data → Result A Refusal
+needed_value f value None = Err (MissingField f)
+needed_value f value (Some d) = good_value f (value d)
 
 -- a field that must be there
-abbrev pub needed : {A : Type 0} → FieldName → (Data → Option A) → Data → Result A Refusal
-needed f value d = needed_in f value (get (field_text f) d)
+abbrev pub needed_field : {A : Type 0} → FieldName → (Data → Option A) → Data → Result A Refusal
+needed_field f value d = needed_value f value (get (field_text f) d)
 
-abbrev pub optional_in : {A : Type 0} → FieldName → (Data → Option A) → A → Option Data → Result A Refusal
-optional_in f value default None = Ok default
-optional_in f value default (Some d) = good f (value d)
+abbrev pub optional_value : {A : Type 0} → FieldName → (Data → Option A) → A → Option Data → Result A Refusal
+optional_value f value default None = Ok default
+optional_value f value default (Some d) = good_value f (value d)
 
 -- a field that may be missing, and is the default then
-abbrev pub optional : {A : Type 0} → FieldName → (Data → Option A) → A → Data → Result A Refusal
-optional f value default d = optional_in f value default (get (field_text f) d)
+abbrev pub optional_field : {A : Type 0} → FieldName → (Data → Option A) → A → Data → Result A Refusal
+optional_field f value default d = optional_value f value default (get (field_text f) d)
 
 -- the answer is what the definition gives, unless memory was wanting
 abbrev pub Gives : {A : Type 0} → Result A Stop → Result A Refusal → Type 0
@@ -105,55 +107,55 @@ Gives (Err OutOfMemory) given = ⊤
 
 unfoldable pub alloc_in : Data → Result Event Refusal
 alloc_in d = do
-  id ← needed IdField id_value d
-  kind ← needed TypeField name_value d
-  slots ← optional SlotsField count_value 0 d
-  thread ← optional ThreadField thread_value 0 d
+  id ← needed_field IdField id_value d
+  kind ← needed_field TypeField name_value d
+  slots ← optional_field SlotsField count_value 0 d
+  thread ← optional_field ThreadField thread_value 0 d
   Ok (Alloc id kind slots thread)
 
 unfoldable pub store_in : Data → Result Event Refusal
 store_in d = do
-  at ← needed AtField id_value d
-  slot ← needed SlotField count_value d
-  to ← needed ToField target_value d
+  at ← needed_field AtField id_value d
+  slot ← needed_field SlotField count_value d
+  to ← needed_field ToField target_value d
   Ok (Store at slot to)
 
 unfoldable pub root_in : Data → Result Event Refusal
 root_in d = do
-  name ← needed NameField name_value d
-  to ← needed ToField target_value d
+  name ← needed_field NameField name_value d
+  to ← needed_field ToField target_value d
   Ok (Root name to)
 
 unfoldable pub dead_in : Data → Result Event Refusal
 dead_in d = do
-  id ← needed IdField id_value d
+  id ← needed_field IdField id_value d
   Ok (AssertDead id)
 
 unfoldable pub start_in : Data → Result Event Refusal
 start_in d = do
-  thread ← optional ThreadField thread_value 0 d
+  thread ← optional_field ThreadField thread_value 0 d
   Ok (StartRegion thread)
 
 unfoldable pub all_dead_in : Data → Result Event Refusal
 all_dead_in d = do
-  thread ← optional ThreadField thread_value 0 d
+  thread ← optional_field ThreadField thread_value 0 d
   Ok (AssertAllDead thread)
 
 unfoldable pub instances_in : Data → Result Event Refusal
 instances_in d = do
-  kind ← needed TypeField name_value d
-  limit ← needed LimitField count_value d
+  kind ← needed_field TypeField name_value d
+  limit ← needed_field LimitField count_value d
   Ok (AssertInstances kind limit)
 
 unfoldable pub unshared_in : Data → Result Event Refusal
 unshared_in d = do
-  id ← needed IdField id_value d
+  id ← needed_field IdField id_value d
   Ok (AssertUnshared id)
 
 unfoldable pub owned_in : Data → Result Event Refusal
 owned_in d = do
-  owner ← needed OwnerField id_value d
-  ownee ← needed OwneeField id_value d
+  owner ← needed_field OwnerField id_value d
+  ownee ← needed_field OwneeField id_value d
   Ok (AssertOwnedBy owner ownee)
 
 -- the operation of this name, from its fields
@@ -174,7 +176,7 @@ operation op d =
 -- an object's operation is named by its field `op`; fields that the operation does not name are ignored
 unfoldable pub event_in : Data → Result Event Refusal
 event_in (object members) = do
-  op ← needed OpField as_str (object members)
+  op ← needed_field OpField as_str (object members)
   operation op (object members)
 event_in null = Err NotObject
 event_in (boolean b) = Err NotObject

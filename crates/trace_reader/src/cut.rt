@@ -1,11 +1,8 @@
-ghost use Rattle.std.specs.Prelude.{◌≤◌, ◌<◌, ◌↔◌, length, take, min, MatchOption, IsTrue};
-ghost use Rattle.trace_reader.specs.Cutting.{HasNoNewline};
-ghost use Rattle.trace_reader.specs.Cuts.{IsFirstNewline, HasTooLongLine, IsCutOf};
+ghost use Rattle.std.specs.Prelude.{◌≤◌, ◌<◌, ◌+◌, ◌↔◌, length, take, min, MatchOption, IsTrue};
+ghost use Rattle.trace_reader.specs.Cuts.{HasNoNewline, IsFirstNewline, HasTooLongLine, IsCutOf};
 
+use heap_base::LONGEST_LINE;
 use memchr::memchr;
-
-// The most bytes that a line may have, without its newline.
-const LONGEST_LINE: usize = 65_536;
 
 /// Where the bytes that a cutter holds are to be cut.
 #[derive(Clone, Copy)]
@@ -16,7 +13,7 @@ pub enum Cut {
     LastLine,
     /// No byte is left.
     End,
-    /// The first 65,537 bytes have no newline.
+    /// More than `LONGEST_LINE` bytes are there without a newline.
     LineTooLong,
     /// The line goes on past the last byte that the trace may have.
     TraceTooLong,
@@ -58,7 +55,7 @@ fn first_newline(bytes: &[u8]) -> Option<usize>
 
 // The cut of bytes that have no newline among those that a line within both limits may have.
 fn cut_without_newline(held: &[u8], at_end: bool, allowed: u64) -> Option<Cut>
-    requires { HasNoNewline (take (min allowed 65537) held.now) }
+    requires { HasNoNewline (take (min allowed (LONGEST_LINE + 1)) held.now) }
     ensures { IsCutOf held.now at_end allowed result }
 {
     if is_too_long(held, allowed) {
@@ -74,9 +71,9 @@ fn cut_without_newline(held: &[u8], at_end: bool, allowed: u64) -> Option<Cut>
     }
 }
 
-// Whether the 65,537th byte of the line is there, within one byte more than the trace may have.
+// Whether more than `LONGEST_LINE` bytes of the line are there, so many of them within what the trace may have.
 fn is_too_long(held: &[u8], allowed: u64) -> bool
-    requires { HasNoNewline (take (min allowed 65537) held.now) }
+    requires { HasNoNewline (take (min allowed (LONGEST_LINE + 1)) held.now) }
     ensures { IsTrue result ↔ HasTooLongLine held.now allowed }
 {
     if held.len() <= LONGEST_LINE || allowed < LONGEST_LINE as u64 {

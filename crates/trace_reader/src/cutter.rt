@@ -1,6 +1,7 @@
 ghost use Rattle.std.specs.Prelude.{◌≡◌, ◌≤◌, ℕ, List, length, take, IfOk, None};
-ghost use Rattle.trace_reader.specs.Cutting.{HasNoNewline, fresh_cutting, StepsOn};
-ghost use Rattle.trace_reader.specs.Reading.{Reading, ReadsOn, Settles};
+ghost use Rattle.trace_reader.specs.Cuts.{HasNoNewline};
+ghost use Rattle.trace_reader.specs.Cutter.{fresh_cutter, StepsOn};
+ghost use Rattle.trace_reader.specs.Reads.{ReadState, ReadsOn, Settles};
 
 use crate::CutError;
 use crate::cut::{Cut, cut_of};
@@ -27,10 +28,10 @@ pub struct LineCutter {
 
 impl Model for LineCutter {
     ghost use Rattle.std.specs.Prelude.{take, drop};
-    ghost use Rattle.trace_reader.specs.Cutting.{Cutting};
-    ghost use Rattle.trace_reader.specs.Reading.{IsCutter};
+    ghost use Rattle.trace_reader.specs.Cutter.{CutterState};
+    ghost use Rattle.trace_reader.specs.Reads.{IsCutter};
 
-    ghost Value = { Cutting };
+    ghost Value = { CutterState };
 
     ghost view = { λ c. record { limit = c.limit; pending = drop c.piece_length c.window; at_end = c.at_end; given = c.given; lines = c.lines; line = take c.line_length c.window; stopped = c.stopped } };
 
@@ -40,7 +41,7 @@ impl Model for LineCutter {
 impl LineCutter {
     /// A cutter for a trace of at most `limit` bytes.
     pub fn make(alloc: Global, limit: u64) -> Result<LineCutter, OutOfMemory>
-        ensures { IfOk result (λ cutter. cutter ≡ fresh_cutting limit) }
+        ensures { IfOk result (λ cutter. cutter ≡ fresh_cutter limit) }
     {
         let window = Window::make(alloc)?;
         Ok(LineCutter {
@@ -135,8 +136,8 @@ fn settle<S: Source>(
 ) -> Result<Cut, Failed>
     requires within { searched ≤ length window.old }
     requires searched { HasNoNewline (take searched window.old) }
-    ensures { let old : Reading = record { held = window.old; at_end = at_end.old; left = S.left source.old; faults = S.faults source.old } in
-        let new : Reading = record { held = window.new; at_end = at_end.new; left = S.left source.new; faults = S.faults source.new } in
+    ensures { let old : ReadState = record { held = window.old; at_end = at_end.old; left = S.left source.old; faults = S.faults source.old } in
+        let new : ReadState = record { held = window.new; at_end = at_end.new; left = S.left source.new; faults = S.faults source.new } in
         (took : List ℕ) × ReadsOn old new took × Settles old new allowed result }
 {
     let mut searched = searched;

@@ -1,7 +1,7 @@
 ghost use Rattle.std.specs.Prelude.{◌≡◌, ◌^◌, ◌<◌, IfOk, Some, None, Ok, Err, option_map, MatchResult};
 ghost use Rattle.serde_json.specs.Find.{get, as_u64, as_number};
 ghost use Rattle.trace_reader.specs.Objects.{object_data, value_data};
-ghost use Rattle.trace_reader.specs.Meaning.{Gives, field_text, good, needed, optional, id_value, count_value, thread_value, target_value, name_value};
+ghost use Rattle.trace_reader.specs.Meaning.{Gives, field_text, good_value, needed_field, optional_field, id_value, count_value, thread_value, target_value, name_value};
 
 use crate::object::{FieldValue, Object};
 use graph_meaning::{FieldName, Refusal, Stop};
@@ -10,38 +10,35 @@ use std::alloc::Global;
 
 /// An id, in a field that must be there.
 pub fn id_field(object: Object<'_>, field: FieldName) -> Result<ObjId, Stop>
-    ensures { Gives result (needed field id_value (object_data object.entry)) }
+    ensures { Gives result (needed_field field id_value (object_data object.entry)) }
 {
     good_field(field, id_in(needed_field(object, field)?))
 }
 
 /// A slot number or a limit, in a field that must be there.
 pub fn count_field(object: Object<'_>, field: FieldName) -> Result<u32, Stop>
-    ensures { Gives result (needed field count_value (object_data object.entry)) }
+    ensures { Gives result (needed_field field count_value (object_data object.entry)) }
 {
     good_field(field, count_in(needed_field(object, field)?))
 }
 
 /// An id, or null for nothing, in a field that must be there.
 pub fn target_field(object: Object<'_>, field: FieldName) -> Result<Option<ObjId>, Stop>
-    ensures { Gives result (needed field target_value (object_data object.entry)) }
+    ensures { Gives result (needed_field field target_value (object_data object.entry)) }
 {
     good_field(field, target_in(needed_field(object, field)?))
 }
 
 /// A name, in a field that must be there.
 pub fn name_field(alloc: Global, object: Object<'_>, field: FieldName) -> Result<Name, Stop>
-    ensures { Gives result (needed field name_value (object_data object.entry)) }
+    ensures { Gives result (needed_field field name_value (object_data object.entry)) }
 {
-    match name_in(alloc, needed_field(object, field)?) {
-        Ok(name) => good_field(field, name),
-        Err(OutOfMemory) => Err(Stop::OutOfMemory),
-    }
+    good_field(field, name_in(alloc, needed_field(object, field)?)?)
 }
 
 /// A number of slots, 0 where the field is missing.
 pub fn slots_field(object: Object<'_>) -> Result<u32, Stop>
-    ensures { Gives result (optional FieldName.SlotsField count_value 0 (object_data object.entry)) }
+    ensures { Gives result (optional_field FieldName.SlotsField count_value 0 (object_data object.entry)) }
 {
     match object.get(FieldName::SlotsField) {
         None => Ok(0),
@@ -51,7 +48,7 @@ pub fn slots_field(object: Object<'_>) -> Result<u32, Stop>
 
 /// A thread, number 0 where the field is missing.
 pub fn thread_field(object: Object<'_>) -> Result<ThreadNo, Stop>
-    ensures { Gives result (optional FieldName.ThreadField thread_value 0 (object_data object.entry)) }
+    ensures { Gives result (optional_field FieldName.ThreadField thread_value 0 (object_data object.entry)) }
 {
     let thread = match object.get(FieldName::ThreadField) {
         None => ThreadNo::of(0),
@@ -65,20 +62,16 @@ pub fn needed_field<'a>(object: Object<'a>, field: FieldName) -> Result<FieldVal
     ensures { MatchResult result (λ value. get (field_text field) (object_data object.entry) ≡ Some (value_data value))
         (λ stop. (stop ≡ Stop.Refused (Refusal.MissingField field)) × (get (field_text field) (object_data object.entry) ≡ None)) }
 {
-    match object.get(field) {
-        None => Err(Stop::Refused(Refusal::MissingField(field))),
-        Some(value) => Ok(value),
-    }
+    let value = object.get(field).ok_or(Refusal::MissingField(field))?;
+    Ok(value)
 }
 
 /// The value of a field, if it is one that the field may have.
 pub fn good_field<T>(field: FieldName, value: Option<T>) -> Result<T, Stop>
-    ensures { Gives result (good field value) }
+    ensures { Gives result (good_value field value) }
 {
-    match value {
-        None => Err(Stop::Refused(Refusal::BadField(field))),
-        Some(value) => Ok(value),
-    }
+    let value = value.ok_or(Refusal::BadField(field))?;
+    Ok(value)
 }
 
 /// How a field is spelled in a trace.
@@ -98,6 +91,7 @@ pub fn spelling_of(field: FieldName) -> &'static str
         FieldName::LimitField => "limit",
         FieldName::OwnerField => "owner",
         FieldName::OwneeField => "ownee",
+        FieldName::WeakField => "weak",
     }
 }
 

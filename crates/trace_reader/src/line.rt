@@ -1,6 +1,6 @@
 ghost use Rattle.std.specs.Prelude.{◌≡◌};
 ghost use Rattle.std.specs.List.{list_all};
-ghost use Rattle.trace_reader.specs.Cutting.{Tells};
+ghost use Rattle.trace_reader.specs.Cutter.{Tells};
 ghost use Rattle.trace_reader.specs.Meaning.{Gives, event_of_json, item_of_line, json_of, is_blank};
 ghost use Rattle.serde_json.specs.Read.{read};
 
@@ -8,7 +8,6 @@ use crate::object::{Object, PlainMembers};
 use crate::operation::event_of_object;
 use crate::plain::read_plain;
 use graph_meaning::{Event, Refusal, Stop};
-use heap_base::OutOfMemory;
 use json::Scratch;
 use serde_json::Value;
 use std::alloc::Global;
@@ -75,10 +74,10 @@ fn event_of_text(alloc: Global, text: &str, scratch: &mut Scratch) -> Result<Eve
     ensures { Gives result (event_of_json (read text.now)) }
 {
     let mut members = PlainMembers::new();
-    match read_plain(text, scratch, &mut members) {
-        Ok(true) => event_of_object(alloc, Object::Plain(&members)),
-        Ok(false) => event_of_any(alloc, text),
-        Err(OutOfMemory) => Err(Stop::OutOfMemory),
+    if read_plain(text, scratch, &mut members)? {
+        event_of_object(alloc, Object::Plain(&members))
+    } else {
+        event_of_any(alloc, text)
     }
 }
 

@@ -2,15 +2,15 @@ ghost use Rattle.std.specs.Prelude.{◌≡◌, ◌+◌, ◌-◌, ◌≤◌, ℕ,
 ghost use Rattle.heap_base.specs.Causes.{HasCause};
 ghost use Rattle.trace_reader.specs.Windows.{ReadsInto};
 
-use heap_base::{Failed, OutOfMemory, Source};
+use heap_base::{Failed, LONGEST_LINE, OutOfMemory, Source};
 use std::alloc::Global;
 use std::marker::Model;
 
-// Room for the longest front of a line that is held, and for a read of as much behind it.
-const CAPACITY: usize = 131_136;
-
 // Each read is asked for at least this many bytes.
 const LEAST_READ: usize = 64;
+
+// Room for the longest front of a line that is held, and for a read of more than as much behind it.
+const CAPACITY: usize = 2 * LONGEST_LINE + LEAST_READ;
 
 /// The bytes that were read and are still held, in a buffer of fixed size. Contracts see the list of them.
 #[derive(Drop)]
@@ -22,12 +22,13 @@ pub struct Window {
 
 impl Model for Window {
     ghost use Rattle.std.specs.Prelude.{◌≡◌, ◌≤◌, List, ℕ, vec_len, slice_range};
+    ghost use Rattle.trace_reader.specs.declared.window.TheConstants.{CAPACITY};
 
     ghost Value = { List ℕ };
 
     ghost view = { λ w. slice_range w.buffer.items w.start w.end };
 
-    ghost invariant = { λ w. (w.start ≤ w.end) × (w.end ≤ vec_len w.buffer) × (vec_len w.buffer ≡ 131136) };
+    ghost invariant = { λ w. (w.start ≤ w.end) × (w.end ≤ vec_len w.buffer) × (vec_len w.buffer ≡ CAPACITY) };
 }
 
 impl Window {
@@ -61,7 +62,7 @@ impl Window {
     /// Reads more bytes behind those that it holds, and answers how many. It moves the held bytes only where
     /// too little room is left behind them, so none is moved again and again.
     pub fn fill<S: Source>(&mut self, source: &mut S) -> Result<usize, Failed>
-        requires { length self.old ≤ 65536 }
+        requires { length self.old ≤ LONGEST_LINE }
         ensures reads { ReadsInto self.old self.new (S.left source.old) (S.left source.new) result }
         ensures cause { HasCause (S.faults source.old) (S.faults source.new) result }
     {
@@ -80,8 +81,8 @@ impl Window {
 fn make_room(buffer: &mut [u8], start: usize, end: usize) -> usize
     requires order { start ≤ end }
     requires within { end ≤ length buffer.old }
-    requires room { end - start + 64 ≤ length buffer.old }
-    ensures room { result + (end - start) + 64 ≤ length buffer.new }
+    requires room { end - start + LEAST_READ ≤ length buffer.old }
+    ensures room { result + (end - start) + LEAST_READ ≤ length buffer.new }
     ensures held { slice_range buffer.new result (result + (end - start)) ≡ slice_range buffer.old start end }
 {
     if buffer.len() - end >= LEAST_READ {

@@ -1,8 +1,8 @@
 use Rattle.std.proofs.Common.{◌≡◌, ◌-◌, refl, ap, ◌∙◌, subst, None}
 use Rattle.std.proofs.lemmas.Result.{MatchResult-at_ok}
-use Rattle.trace_reader.specs.declared.cut.Cut.TheVariants.{Line, TraceTooLong}
+use Rattle.trace_reader.specs.declared.cut.Cut.TheVariants.{Line}
 use Rattle.trace_reader.specs.Cuts.{IsCut}
-use Rattle.trace_reader.proofs.Steps.{step_of_cut, gives_line, trace_too_long}
+use Rattle.trace_reader.proofs.Steps.{step_of_cut, gives_line}
 use Rattle.trace_reader.proofs.cutter.LineCutter.cut_next.Goals as goal
 
 pub returns-in-Ok-Line : goal.returns-in-Ok-Line
@@ -19,22 +19,5 @@ returns-in-Ok-Line g c =
       step_of_cut _ _ _ _ _ _ _ _ s.0 going refl (rw c.skip.ensures at s.1) (
         _,
         gives_line _ _ settled.window allowed arm.n cut refl refl refl refl refl going,
-      ),
-    )
-
-pub returns-in-Ok-TraceTooLong : goal.returns-in-Ok-TraceTooLong
-returns-in-Ok-TraceTooLong g c =
-    let s = c.settle-settled.ensures in
-    let arm = c.in-Ok-TraceTooLong in
-    let settled = c.settle-settled.new in
-    let allowed = c.self.inside.limit - c.self.inside.given in
-    let going : c.self.inside.stopped ≡ None = ap (λ k. k.stopped) c.self.view_is ∙ c.requires in
-    let cut : IsCut settled.window settled.at_end allowed TraceTooLong =
-    subst (IsCut settled.window settled.at_end allowed) (rw arm.is at arm.field-0-is) (MatchResult-at_ok _ _ _ arm.is s.2) in
-    rw (← c.self.view_is) (
-      s.0,
-      step_of_cut _ _ _ _ _ _ _ _ s.0 going refl (rw c.skip.ensures at s.1) (
-        record { pending = refl; given = refl; lines = refl },
-        (allowed, trace_too_long _ settled.window allowed cut refl c.self.invariant.within refl refl),
       ),
     )

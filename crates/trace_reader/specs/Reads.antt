@@ -4,11 +4,10 @@ use Rattle.std.specs.Io.KnownBytes.{Consumes, IsAtEnd}
 use Rattle.heap_base.specs.Causes.{Rose}
 use Rattle.heap_base.specs.declared.errors.Failed.{Failed}
 use Rattle.trace_reader.specs.declared.cut.Cut.{Cut}
-use Rattle.trace_reader.specs.Cutting.{HasNoNewline}
-use Rattle.trace_reader.specs.Cuts.{IsCut, IsLineFront}
+use Rattle.trace_reader.specs.Cuts.{HasNoNewline, IsCut, IsLineFront}
 
 -- The bytes that are held, whether the source's end was read, the bytes that the source has left, and its count of faults.
-pub record Reading : Type 0 where
+pub record ReadState : Type 0 where
   pub held : List ℕ
   pub at_end : Bool
   pub left : Option (List ℕ)
@@ -16,7 +15,7 @@ pub record Reading : Type 0 where
 
 -- Bytes were taken from the source and are held behind those that were, none once the end was read. The source is
 -- asked only where no newline is held.
-pub record ReadsOn (old new : Reading) (took : List ℕ) : Type 0 where
+pub record ReadsOn (old new : ReadState) (took : List ℕ) : Type 0 where
   pub held : new.held ≡ old.held ++ took
   pub consumes : Consumes old.left new.left took
   pub at_end : IsTrue new.at_end → IsTrue old.at_end ⊎ IsAtEnd new.left
@@ -25,7 +24,7 @@ pub record ReadsOn (old new : Reading) (took : List ℕ) : Type 0 where
   pub later : old.faults ≤ new.faults
 
 -- The bytes that are held have a cut, or a read failed before they had one.
-abbrev pub Settles : Reading → Reading → ℕ → Result Cut Failed → Type 0
+abbrev pub Settles : ReadState → ReadState → ℕ → Result Cut Failed → Type 0
 Settles old new allowed result =
     MatchResult result (IsCut new.held new.at_end allowed) (λ _. IsLineFront new.held allowed × (new.at_end ≡ false) × Rose old.faults new.faults)
 
