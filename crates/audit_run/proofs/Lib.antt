@@ -1,3 +1,4 @@
+pub mod Causes
 pub mod Endings
 pub mod Progress
 pub mod Turns

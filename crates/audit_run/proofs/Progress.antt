@@ -6,74 +6,70 @@ use Rattle.std.specs.Io.KnownBytes.{Appends, Consumes, IsAtEnd}
 use Rattle.std.proofs.KnownBytes.{Consumes-nil, Consumes-trans, Appends-nil, Appends-trans}
 use Rattle.std.proofs.lemmas.List.{append_assoc, append-nil, map-append, length-append}
 use Rattle.std.proofs.lemmas.Bool.{false≢true, true≢false}
-use Rattle.std.proofs.lemmas.List.Sums.{sum_by-append}
-use Rattle.std.proofs.lemmas.Grind.{flat_map-append}
+use Rattle.heap_base.specs.declared.limits.TheConstants.{LONGEST_TRACE}
+use Rattle.heap_base.specs.Streams.{Stream}
 use Rattle.graph_meaning.specs.declared.collection.Collection.{Collection}
-use Rattle.graph_meaning.specs.Heap.{empty_heap}
 use Rattle.trace_reader.specs.declared.error.CutError.{CutError}
 use Rattle.trace_reader.specs.Meaning.{Item, item_of_line}
 use Rattle.trace_reader.specs.Items.{pieces, items_from, item_of}
-use Rattle.trace_reader.specs.Cutting.{Cutting, HasNoNewline, fresh_cutting, IsNextPiece, GivesLine, StepsOn, Cuts}
-use Rattle.report.specs.Text.{collection_text}
-use Rattle.report.specs.Report.{Ran, run, preceded, violations_of, collections_text}
-use Rattle.audit_core.specs.Audit.{Audit, first_audit}
-use Rattle.audit_run.specs.Report.{known, trace_limit}
+use Rattle.trace_reader.specs.Cutter.{CutterState, fresh_cutter, IsNextPiece, GivesLine, StepsOn, Cuts}
+use Rattle.report.specs.Report.{Totals, first_state, turn_of_item, collections_text}
+use Rattle.audit_core.specs.Audit.{Audit, pathless, first_audit}
+use Rattle.audit_run.specs.Known.{known}
 use Rattle.audit_run.specs.Outcome.{Outside}
-use Rattle.audit_run.specs.Turn.{GoesOn}
+use Rattle.audit_run.specs.Turn.{state_at, line_of, IsTaken}
+use Rattle.report.proofs.Runs.{LeadsTo, LeadsTo-nil, LeadsTo-push, collections_text-append}
+use Rattle.report.proofs.WholeLines.{IsWholeLine}
 use Rattle.trace_reader.proofs.Pieces.{item_of-given, pieces-given, items_from-append, items_from-cons}
 
--- a line and its newline
-abbrev pub IsWholeLine : List ℕ → Type 0
-IsWholeLine piece = (line : List ℕ) × HasNoNewline line × (piece ≡ line ++ 10 ∷ [])
+-- the items of these pieces
+abbrev pub known_from : List (List ℕ) → List Item
+known_from done = map known (items_from LONGEST_TRACE 0 done)
 
 -- These bytes were taken since the start, these pieces of them were run, and these collections were made and written.
-pub record Progress (start now : Outside) (c : Cutting) (a : Audit) (n : ℕ) (taken : List ℕ) (done : List (List ℕ)) (made : List Collection) : Type 0 where
-  pub consumed : Consumes start.left now.left taken
+pub record Progress (start now : Outside) (c : CutterState) (a : Audit) (n : ℕ) (taken : List ℕ) (done : List (List ℕ)) (made : List Collection) : Type 0 where
+  pub consumed : Consumes start.source.bytes now.source.bytes taken
   pub split : taken ≡ concat done ++ c.pending
   pub cut : (more : List ℕ) → (IsTrue c.at_end → more ≡ []) → pieces (taken ++ more) ≡ done ++ pieces (c.pending ++ more)
   pub whole : c.at_end ≡ false → AllByRecursion IsWholeLine done
-  pub ran : (items : List Item) → run empty_heap 0 0 (map known (items_from trace_limit 0 done) ++ items) ≡ preceded made (run a.heap a.collections n items)
+  pub ran : LeadsTo pathless first_state (known_from done) made (state_at a n)
+  pub rules : a.rules ≡ pathless
   pub given : c.given ≡ length (concat done)
-  pub within : c.given ≤ trace_limit
+  pub within : c.given ≤ LONGEST_TRACE
   pub lines : n ≡ c.lines
   pub few_lines : n ≤ c.given
-  pub few_collections : a.collections ≤ n
-  pub collections : a.collections ≡ length made
-  pub violations : a.violations ≡ violations_of made
-  pub written : Appends start.held now.held (collections_text made)
-  pub limit : c.limit ≡ trace_limit
+  pub written : Appends start.sink.bytes now.sink.bytes (collections_text made)
+  pub limit : c.limit ≡ LONGEST_TRACE
   pub stopped : c.stopped ≡ None
-  pub end_read : IsTrue c.at_end → IfSome start.left (λ bytes. IsAtEnd now.left)
-  pub reads : start.read_faults ≤ now.read_faults
-  pub writes : start.write_faults ≤ now.write_faults
+  pub end_read : IsTrue c.at_end → IfSome start.source.bytes (λ bytes. IsAtEnd now.source.bytes)
+  pub reads : start.source.faults ≤ now.source.faults
+  pub writes : start.sink.faults ≤ now.sink.faults
 
-pub record InProgress (start now : Outside) (c : Cutting) (a : Audit) (n : ℕ) : Type 0 where
+pub record InProgress (start now : Outside) (c : CutterState) (a : Audit) (n : ℕ) : Type 0 where
   pub taken : List ℕ
   pub done : List (List ℕ)
   pub made : List Collection
   pub so_far : Progress start now c a n taken done made
 
 -- at the beginning
-pub begins : (start : Outside) → InProgress start start (fresh_cutting trace_limit) first_audit 0
+pub begins : (start : Outside) → InProgress start start (fresh_cutter LONGEST_TRACE) (first_audit pathless) 0
 unfolding items_from
 begins start = record {
   taken = [];
   done = [];
   made = [];
   so_far = record {
-    consumed = Consumes-nil start.left;
+    consumed = Consumes-nil start.source.bytes;
     split = refl;
     cut = λ more end. refl;
     whole = λ end. tt;
-    ran = λ items. refl;
+    ran = LeadsTo-nil pathless first_state;
+    rules = refl;
     given = refl;
     within = omega arith;
     lines = refl;
     few_lines = omega arith;
-    few_collections = omega arith;
-    collections = refl;
-    violations = refl;
-    written = Appends-nil start.held;
+    written = Appends-nil start.sink.bytes;
     limit = refl;
     stopped = refl;
     end_read = λ end. absurd (false≢true end);
@@ -82,15 +78,18 @@ begins start = record {
   };
 }
 
-pub begins_at : (start : Outside) (c : Cutting) (a : Audit) → c ≡ fresh_cutting trace_limit → a ≡ first_audit → InProgress start start c a 0
+pub begins_at : (start : Outside) (c : CutterState) (a : Audit) → c ≡ fresh_cutter LONGEST_TRACE → a ≡ first_audit pathless → InProgress start start c a 0
 begins_at start c a e f =
-    subst (λ (x : Audit). InProgress start start c x 0) (sym f) (subst (λ (x : Cutting). InProgress start start x first_audit 0) (sym e) (begins start))
+    subst (λ (x : Audit). InProgress start start c x 0) (sym f) (subst (λ (x : CutterState). InProgress start start x (first_audit pathless) 0) (sym e) (begins start))
+
+-- no more collections were made than lines were read
+pub few_collections : (start now : Outside) (c : CutterState) (a : Audit) (n : ℕ) → InProgress start now c a n → a.collections ≤ n
+few_collections start now c a n progress =
+    let ran = progress.so_far.ran in
+    let made : a.collections ≡ 0 + length progress.made = ap (λ (t : Totals). t.collections) ran.totals in
+    omega (arith, made, ran.few_collections, ran.lines)
 
 -- ---- one line more
-
-preceded-preceded : (xs ys : List Collection) (r : Ran) → preceded xs (preceded ys r) ≡ preceded (xs ++ ys) r
-preceded-preceded xs ys r =
-    ap (λ (cs : List Collection). let ran : Ran = record { collections = cs; fault = r.fault } in ran) (sym (append_assoc xs ys r.collections))
 
 concat-push : (ps : List (List ℕ)) (p : List ℕ) → concat (ps ++ p ∷ []) ≡ concat ps ++ p
 concat-push ps p = concat-append ps (p ∷ []) ∙ ap (λ t. concat ps ++ t) (append-nil p)
@@ -109,7 +108,7 @@ still_at_end true new took P stays e = absurd (true≢false (sym (stays refl).0 
 still_at_end false new took P stays e = refl
 
 -- after a step that gives a line, the pieces of all bytes go on behind it
-cut_on : (old new : Cutting) (taken took piece : List ℕ) (n : ℕ) (done : List (List ℕ)) →
+cut_on : (old new : CutterState) (taken took piece : List ℕ) (n : ℕ) (done : List (List ℕ)) →
     ((more : List ℕ) → (IsTrue old.at_end → more ≡ []) → pieces (taken ++ more) ≡ done ++ pieces (old.pending ++ more)) →
     (IsTrue old.at_end → IsTrue new.at_end × (took ≡ [])) → GivesLine old new (old.pending ++ took) piece n →
     (more : List ℕ) → (IsTrue new.at_end → more ≡ []) → pieces ((taken ++ took) ++ more) ≡ (done ++ piece ∷ []) ++ pieces (new.pending ++ more)
@@ -124,29 +123,25 @@ whole_piece : (line piece bytes rest : List ℕ) (at_end : Bool) → IsNextPiece
 whole_piece line piece bytes rest at_end next e =
     ⊎_elim (λ p. (line, next.one_line, p)) (λ p. absurd (false≢true (sym e ∙ p.3))) next.ended
 
--- the run of the pieces so far goes on with the item of one piece more
-ran_on : (a a' : Audit) (n given : ℕ) (line piece : List ℕ) (done : List (List ℕ)) (made more : List Collection) →
-    ((items : List Item) → run empty_heap 0 0 (map known (items_from trace_limit 0 done) ++ items) ≡ preceded made (run a.heap a.collections n items)) →
-    given ≡ length (concat done) → item_of trace_limit given piece ≡ item_of_line line →
-    ((items : List Item) → run a.heap a.collections n (known (item_of_line line) ∷ items) ≡ preceded more (run a'.heap a'.collections (n + 1) items)) →
-    (items : List Item) → run empty_heap 0 0 (map known (items_from trace_limit 0 (done ++ piece ∷ [])) ++ items) ≡ preceded (made ++ more) (run a'.heap a'.collections (n + 1) items)
+-- the items of one piece more
+known_from-push : (done : List (List ℕ)) (given : ℕ) (line piece : List ℕ) → given ≡ length (concat done) → item_of LONGEST_TRACE given piece ≡ item_of_line line → known_from (done ++ piece ∷ []) ≡ known_from done ++ known (item_of_line line) ∷ []
 unfolding items_from
-ran_on a a' n given line piece done made more ran count item on items =
-    ap (λ is. run empty_heap 0 0 (map known is ++ items)) split
-    ∙ ap (λ is. run empty_heap 0 0 (is ++ items)) (map-append known (items_from trace_limit 0 done) (item_of_line line ∷ []))
-    ∙ ap (run empty_heap 0 0) (append_assoc (map known (items_from trace_limit 0 done)) (known (item_of_line line) ∷ []) items)
-    ∙ ran (known (item_of_line line) ∷ items)
-    ∙ ap (preceded made) (on items)
-    ∙ preceded-preceded made more (run a'.heap a'.collections (n + 1) items)
+known_from-push done given line piece count item =
+    ap (map known) split ∙ map-append known (items_from LONGEST_TRACE 0 done) (item_of_line line ∷ [])
   where
-    split : items_from trace_limit 0 (done ++ piece ∷ []) ≡ items_from trace_limit 0 done ++ item_of_line line ∷ []
+    split : items_from LONGEST_TRACE 0 (done ++ piece ∷ []) ≡ items_from LONGEST_TRACE 0 done ++ item_of_line line ∷ []
     split =
-        items_from-append trace_limit 0 done (piece ∷ [])
-        ∙ ap (λ b. items_from trace_limit 0 done ++ items_from trace_limit b (piece ∷ [])) (omega (arith, count))
-        ∙ ap (λ is. items_from trace_limit 0 done ++ is) (items_from-cons trace_limit given piece [] ∙ ap (λ i. i ∷ items_from trace_limit (given + length piece) []) item)
+        items_from-append LONGEST_TRACE 0 done (piece ∷ [])
+        ∙ ap (λ b. items_from LONGEST_TRACE 0 done ++ items_from LONGEST_TRACE b (piece ∷ [])) (omega (arith, count))
+        ∙ ap (λ is. items_from LONGEST_TRACE 0 done ++ is) (items_from-cons LONGEST_TRACE given piece [] ∙ ap (λ i. i ∷ items_from LONGEST_TRACE (given + length piece) []) item)
+
+-- the run of one item more
+ran_on : (a a' : Audit) (n : ℕ) (items : List Item) (item : Item) (made more : List Collection) (sink sink' : Stream) → LeadsTo pathless first_state items made (state_at a n) → a.rules ≡ pathless → IsTaken (line_of a n item) a' sink sink' more → LeadsTo pathless first_state (items ++ item ∷ []) (made ++ more) (state_at a' (n + 1))
+ran_on a a' n items item made more sink sink' ran rules taken =
+    LeadsTo-push pathless first_state (state_at a n) items made item _ ran (subst (λ r. turn_of_item r (state_at a n) item ≡ Ok (record { collections = more; state = state_at a' (n + 1) })) rules taken.turn)
 
 -- where the end was read, it stays read while nothing is taken
-pub end_stays : (start before after : Option (List ℕ)) (taken took : List ℕ) → Consumes start before taken → IfSome start (λ bytes. IsAtEnd before) → took ≡ [] → Consumes before after took → IfSome start (λ bytes. IsAtEnd after)
+end_stays : (start before after : Option (List ℕ)) (taken took : List ℕ) → Consumes start before taken → IfSome start (λ bytes. IsAtEnd before) → took ≡ [] → Consumes before after took → IfSome start (λ bytes. IsAtEnd after)
 end_stays None before after taken took consumed end nothing more = tt
 end_stays (Some bytes) None after taken took consumed end nothing more = absurd consumed
 end_stays (Some bytes) (Some xs) None taken took consumed end nothing more = absurd more
@@ -157,28 +152,30 @@ end_for None after end = tt
 end_for (Some bytes) after end = end
 
 -- where the end has been read, the source is at its end
-pub end_now : (start now now' : Outside) (c c' : Cutting) (a : Audit) (n : ℕ) (taken took : List ℕ) (done : List (List ℕ)) (made : List Collection) (result : Result (Option ℕ) CutError) →
-    Progress start now c a n taken done made → StepsOn c c' now.left now'.left now.read_faults now'.read_faults result took →
-    IsTrue c'.at_end → IfSome start.left (λ bytes. IsAtEnd now'.left)
+pub end_now : (start now now' : Outside) (c c' : CutterState) (a : Audit) (n : ℕ) (taken took : List ℕ) (done : List (List ℕ)) (made : List Collection) (result : Result (Option ℕ) CutError) →
+    Progress start now c a n taken done made → StepsOn c c' now.source.bytes now'.source.bytes now.source.faults now'.source.faults result took →
+    IsTrue c'.at_end → IfSome start.source.bytes (λ bytes. IsAtEnd now'.source.bytes)
 end_now start now now' c c' a n taken took done made result p steps t =
-    ⊎_elim (λ old. end_stays start.left now.left now'.left taken took p.consumed (p.end_read old) (steps.stays_at_end old).1 steps.consumes)
-    (λ e. end_for start.left now'.left e) (steps.at_end t)
+    ⊎_elim (λ old. end_stays start.source.bytes now.source.bytes now'.source.bytes taken took p.consumed (p.end_read old) (steps.stays_at_end old).1 steps.consumes)
+    (λ e. end_for start.source.bytes now'.source.bytes e) (steps.at_end t)
 
 piece_not_empty : (line piece bytes rest : List ℕ) (at_end : Bool) → IsNextPiece line piece bytes rest at_end → 0 < length piece
 piece_not_empty line piece bytes rest at_end next =
     ⊎_elim (λ e. omega (arith, ap length e, length-append line (10 ∷ []))) (λ e. omega (arith, ap length e.0, e.1)) next.ended
 
-line_taken_by : (start now now' : Outside) (c c' : Cutting) (a a' : Audit) (n number : ℕ) (took piece : List ℕ) (more : List Collection) →
-    InProgress start now c a n → StepsOn c c' now.left now'.left now.read_faults now'.read_faults (Ok (Some number)) took →
+line_taken_by : (start now now' : Outside) (c c' : CutterState) (a a' : Audit) (n number : ℕ) (took piece : List ℕ) (more : List Collection) →
+    InProgress start now c a n → StepsOn c c' now.source.bytes now'.source.bytes now.source.faults now'.source.faults (Ok (Some number)) took →
     GivesLine c c' (c.pending ++ took) piece number →
-    GoesOn a a' (known (item_of_line c'.line)) n now.held now'.held more → now.write_faults ≤ now'.write_faults →
+    IsTaken (line_of a n (known (item_of_line c'.line))) a' now.sink now'.sink more → now.sink.faults ≤ now'.sink.faults →
     InProgress start now' c' a' number
-line_taken_by start now now' c c' a a' n number took piece more progress steps line goes writes =
+line_taken_by start now now' c c' a a' n number took piece more progress steps line is_taken writes =
     let p = progress.so_far in
-    let item : item_of trace_limit c.given piece ≡ item_of_line c'.line = ap (λ l. item_of l c.given piece) (sym p.limit) ∙ item_of-given c c' (c.pending ++ took) piece number line in
+    let item : item_of LONGEST_TRACE c.given piece ≡ item_of_line c'.line = ap (λ l. item_of l c.given piece) (sym p.limit) ∙ item_of-given c c' (c.pending ++ took) piece number line in
     let concat_now = concat-push progress.done piece in
     let next_number : n + 1 ≡ number = omega (arith, line.number, p.lines) in
     let some : 0 < length piece = piece_not_empty _ _ _ _ _ line.next in
+    let items_now = known_from-push progress.done c.given c'.line piece p.given item in
+    let ran_now : LeadsTo pathless first_state (known_from progress.done ++ known (item_of_line c'.line) ∷ []) (progress.made ++ more) (state_at a' (n + 1)) = ran_on a a' n (known_from progress.done) (known (item_of_line c'.line)) progress.made more now.sink now'.sink p.ran p.rules is_taken in
     record {
       taken = progress.taken ++ took;
       done = progress.done ++ piece ∷ [];
@@ -188,15 +185,14 @@ line_taken_by start now now' c c' a a' n number took piece more progress steps l
         split = ap (λ t. t ++ took) p.split ∙ append_assoc (concat progress.done) c.pending took ∙ ap (λ t. concat progress.done ++ t) line.next.split ∙ sym (append_assoc (concat progress.done) piece c'.pending) ∙ ap (λ t. t ++ c'.pending) (sym concat_now);
         cut = cut_on c c' progress.taken took piece number progress.done p.cut steps.stays_at_end line;
         whole = λ e. whole-push progress.done piece (p.whole (still_at_end c.at_end c'.at_end took (Unit {0}) steps.stays_at_end e)) (whole_piece _ _ _ _ _ line.next e);
-        ran = λ items. ran_on a a' n c.given c'.line piece progress.done progress.made more p.ran p.given item goes.on items ∙ ap (λ m. preceded (progress.made ++ more) (run a'.heap a'.collections m items)) next_number;
+        ran = subst (λ (m : ℕ). LeadsTo pathless first_state (known_from (progress.done ++ piece ∷ [])) (progress.made ++ more) (state_at a' m)) next_number
+            (subst (λ (is : List Item). LeadsTo pathless first_state is (progress.made ++ more) (state_at a' (n + 1))) (sym items_now) ran_now);
+        rules = is_taken.rules ∙ p.rules;
         given = omega (arith, line.given, p.given, ap length concat_now, length-append (concat progress.done) piece);
         within = omega (arith, line.within, p.limit);
         lines = omega (arith, line.number, line.lines);
         few_lines = omega (arith, next_number, line.given, p.few_lines, some);
-        few_collections = omega (arith, next_number, goes.collections, goes.one, p.few_collections);
-        collections = omega (arith, goes.collections, p.collections, length-append progress.made more);
-        violations = omega (arith, goes.violations, p.violations, sum_by-append (λ (x : Collection). length x.verdicts) progress.made more);
-        written = subst (λ (t : List ℕ). Appends start.held now'.held t) (sym (flat_map-append collection_text progress.made more)) (Appends-trans _ _ _ _ _ p.written goes.text);
+        written = subst (λ (t : List ℕ). Appends start.sink.bytes now'.sink.bytes t) (sym (collections_text-append progress.made more)) (Appends-trans _ _ _ _ _ p.written is_taken.text);
         limit = steps.limit ∙ p.limit;
         stopped = line.stopped;
         end_read = end_now start now now' c c' a n progress.taken took progress.done progress.made _ p steps;
@@ -206,18 +202,18 @@ line_taken_by start now now' c c' a a' n number took piece more progress steps l
     }
 
 -- a line was given and taken, and the run goes on
-pub line_taken : (start now now' : Outside) (c c' : Cutting) (a a' : Audit) (n number : ℕ) (took text : List ℕ) (more : List Collection) →
-    InProgress start now c a n → StepsOn c c' now.left now'.left now.read_faults now'.read_faults (Ok (Some number)) took → text ≡ c'.line →
-    GoesOn a a' (known (item_of_line text)) n now.held now'.held more → now.write_faults ≤ now'.write_faults →
+pub line_taken : (start now now' : Outside) (c c' : CutterState) (a a' : Audit) (n number : ℕ) (took text : List ℕ) (more : List Collection) →
+    InProgress start now c a n → StepsOn c c' now.source.bytes now'.source.bytes now.source.faults now'.source.faults (Ok (Some number)) took → text ≡ c'.line →
+    IsTaken (line_of a n (known (item_of_line text))) a' now.sink now'.sink more → now.sink.faults ≤ now'.sink.faults →
     InProgress start now' c' a' number
-line_taken start now now' c c' a a' n number took text more progress steps e goes writes =
-    let cut : Cuts c c' (c.pending ++ took) now.read_faults now'.read_faults (Ok (Some number)) = cuts_of c.stopped _ _ progress.so_far.stopped steps.cuts in
-    line_taken_by start now now' c c' a a' n number took cut.0 more progress steps cut.1 (subst (λ (t : List ℕ). GoesOn a a' (known (item_of_line t)) n now.held now'.held more) e goes) writes
+line_taken start now now' c c' a a' n number took text more progress steps e is_taken writes =
+    let cut : Cuts c c' (c.pending ++ took) now.source.faults now'.source.faults (Ok (Some number)) = cuts_of c.stopped _ _ progress.so_far.stopped steps.cuts in
+    line_taken_by start now now' c c' a a' n number took cut.0 more progress steps cut.1 (subst (λ (t : List ℕ). IsTaken (line_of a n (known (item_of_line t))) a' now.sink now'.sink more) e is_taken) writes
 
 -- each line that is given leaves fewer bytes of the limit
-pub line_leaves_fewer : (start now : Outside) (left : Option (List ℕ)) (faults : ℕ) (c c' : Cutting) (a : Audit) (n number : ℕ) (took : List ℕ) →
-    InProgress start now c a n → StepsOn c c' now.left left now.read_faults faults (Ok (Some number)) took → trace_limit - c'.given < trace_limit - c.given
+pub line_leaves_fewer : (start now : Outside) (left : Option (List ℕ)) (faults : ℕ) (c c' : CutterState) (a : Audit) (n number : ℕ) (took : List ℕ) →
+    InProgress start now c a n → StepsOn c c' now.source.bytes left now.source.faults faults (Ok (Some number)) took → LONGEST_TRACE - c'.given < LONGEST_TRACE - c.given
 line_leaves_fewer start now left faults c c' a n number took progress steps =
     let p = progress.so_far in
-    let cut : Cuts c c' (c.pending ++ took) now.read_faults faults (Ok (Some number)) = cuts_of c.stopped _ _ p.stopped steps.cuts in
+    let cut : Cuts c c' (c.pending ++ took) now.source.faults faults (Ok (Some number)) = cuts_of c.stopped _ _ p.stopped steps.cuts in
     omega (arith, cut.1.given, cut.1.within, p.limit, piece_not_empty _ _ _ _ _ cut.1.next)

@@ -1,126 +1,123 @@
 -- What one item does to the run of a trace.
-use Rattle.std.proofs.Common.{◌≡◌, ℕ, ◌+◌, List, [], ◌∷◌, ◌++◌, length, Bool, true, false, IsTrue, Option, Some, Result, Ok, Err, refl, sym, ◌∙◌, ap, subst, arith, add-zero, zero-add}
+use Rattle.std.proofs.Common.{◌≡◌, ℕ, ◌+◌, List, [], ◌∷◌, ◌++◌, Bool, true, false, IsTrue, Option, Some, Result, Ok, Err, refl, sym, ◌∙◌, ap, subst, arith}
 use Rattle.std.specs.Result.{result_err}
 use Rattle.std.specs.Io.KnownBytes.{Appends}
 use Rattle.std.proofs.lemmas.Bool.{false≢true}
 use Rattle.std.proofs.KnownBytes.{Appends-nil}
-use Rattle.std.proofs.lemmas.List.{append-nil, length-append, take-append-le}
+use Rattle.std.proofs.lemmas.List.{length-append, take-append-le}
 use Rattle.heap_base.specs.Sinks.{AppendsPart}
+use Rattle.heap_base.specs.Streams.{Stream}
+use Rattle.heap_base.specs.declared.status.Status.{Status}
 use Rattle.graph_meaning.specs.declared.event.Event.{Event}
-use Rattle.graph_meaning.specs.declared.event.Event.TheVariants.{Alloc, Store, Root, AssertDead, StartRegion, AssertAllDead, AssertInstances, AssertUnshared, AssertOwnedBy, Collect}
+use Rattle.graph_meaning.specs.declared.event.Event.TheVariants.{Alloc, Store, Root, AssertDead, StartRegion, AssertAllDead, AssertInstances, AssertUnshared, AssertOwnedBy, SetWeak, Collect}
 use Rattle.graph_meaning.specs.declared.refusal.Refusal.{Refusal}
-use Rattle.graph_meaning.specs.Heap.{Heap}
+use Rattle.graph_meaning.specs.declared.refusal.Refusal.TheVariants.{UnknownOp}
 use Rattle.graph_meaning.specs.Step.{step}
-use Rattle.graph_meaning.specs.Collecting.{collection_of, after_collection, verdicts_of}
 use Rattle.trace_reader.specs.Meaning.{Item, blank, event, refused}
 use Rattle.report.specs.Text.{collection_text}
-use Rattle.report.specs.Report.{Ran, run, preceded, stopped_at, collections_of, collections_text, violations_of, after_step}
-use Rattle.audit_core.specs.Audit.{Audit, collected, is_applied}
-use Rattle.graph_meaning.specs.declared.refusal.Refusal.TheVariants.{UnknownOp}
-use Rattle.audit_run.specs.declared.turn.Turn.{Turn}
-use Rattle.audit_run.specs.Report.{is_collect, known}
-use Rattle.heap_base.specs.declared.status.Status.{Status}
-use Rattle.audit_run.specs.Turn.{rest_text, EndsRun, GoesOn, TakesLine}
+use Rattle.report.specs.Report.{Totals, Turn, Ending, turn_of_item, run, refused_line, empty_run, report_text}
+use Rattle.report.proofs.Runs.{with_collections-nil, with_collections-one, collections_text-one, report_text-one, report_text-empty_run, run_status-empty_run, run-ends, run-goes_on, turn-applied, turn-refused, turn-collect, turn_of_item-blank}
+use Rattle.audit_core.specs.Audit.{Audit, is_applied, next_collection, after_next}
+use Rattle.audit_run.specs.declared.turn.Flow.{Flow}
+use Rattle.audit_run.specs.Known.{is_collect, known}
+use Rattle.audit_run.specs.Turn.{Due, due, due_at, EndsRun, totals_of, state_at, line_of, IsTaken, TakesLine}
 
-pub preceded-nil : (r : Ran) → preceded [] r ≡ r
-preceded-nil r = refl
+-- ---- an operation that is applied is no collection
 
--- a blank line changes the count of lines alone
-pub run-blank : (h : Heap) (n lines : ℕ) (items : List Item) → run h n lines (blank ∷ items) ≡ preceded [] (run h n (lines + 1) items)
-unfolding run
-run-blank h n lines items = refl
-
-pub run-refused : (h : Heap) (n lines : ℕ) (r : Refusal) (items : List Item) → run h n lines (refused r ∷ items) ≡ stopped_at (lines + 1) r
-unfolding run
-run-refused h n lines r items = refl
-
--- an operation that is applied makes no collection
-pub collections_of-applied : (n : ℕ) (h : Heap) (e : Event) → IsTrue (is_applied e) → collections_of n h e ≡ []
-collections_of-applied n h (Alloc id kind slots thread) t = refl
-collections_of-applied n h (Store at slot to) t = refl
-collections_of-applied n h (Root name to) t = refl
-collections_of-applied n h (AssertDead id) t = refl
-collections_of-applied n h (StartRegion thread) t = refl
-collections_of-applied n h (AssertAllDead thread) t = refl
-collections_of-applied n h (AssertInstances kind limit) t = refl
-collections_of-applied n h (AssertUnshared id) t = refl
-collections_of-applied n h (AssertOwnedBy owner ownee) t = refl
-collections_of-applied n h Collect t = absurd (false≢true t)
-
-run_on : (h next : Heap) (n lines : ℕ) (items : List Item) (e : Event) (made : Result Heap Refusal) (cs : List _) → made ≡ Ok next → cs ≡ [] →
-    after_step made (λ next. preceded cs (run next (n + length cs) (lines + 1) items)) (λ r. stopped_at (lines + 1) r) ≡ preceded [] (run next n (lines + 1) items)
-run_on h next n lines items e made cs p q = rw (p, q, add-zero) refl
-
-pub run-applied : (h next : Heap) (n lines : ℕ) (e : Event) (items : List Item) → IsTrue (is_applied e) → step h e ≡ Ok next → run h n lines (event e ∷ items) ≡ preceded [] (run next n (lines + 1) items)
-unfolding run
-run-applied h next n lines e items t p = run_on h next n lines items e (step h e) (collections_of n h e) p (collections_of-applied n h e t)
-
-pub run-not_applied : (h : Heap) (n lines : ℕ) (e : Event) (r : Refusal) (items : List Item) → step h e ≡ Err r → run h n lines (event e ∷ items) ≡ stopped_at (lines + 1) r
-unfolding run
-run-not_applied h n lines e r items p =
-    ap (λ made. after_step made (λ next. preceded (collections_of n h e) (run next (n + length (collections_of n h e)) (lines + 1) items)) (λ r. stopped_at (lines + 1) r)) p
-
-pub run-collect : (h : Heap) (n lines : ℕ) (items : List Item) → run h n lines (event Collect ∷ items) ≡ preceded (collection_of (n + 1) h ∷ []) (run (after_collection h) (n + 1) (lines + 1) items)
-unfolding run step
-run-collect h n lines items = refl
+pub applied-other : (e : Event) → IsTrue (is_applied e) → e ≡ Collect → ⊥
+applied-other e t is = false≢true (sym (ap is_applied is) ∙ t)
 
 pub from_result_err : {T : Type 0} (made : Result T Refusal) (r : Refusal) → result_err made ≡ Some r → made ≡ Err r
 from_result_err (Ok x) r p = cc
 from_result_err (Err s) r p = cc
 
--- the verdicts of one collection
-pub violations_of-one : (n : ℕ) (h : Heap) → violations_of (collection_of n h ∷ []) ≡ length (verdicts_of h)
-unfolding collection_of
-violations_of-one n h = zero-add (length (verdicts_of h))
+-- ---- the run goes on
 
-pub collections_text-one : (c : _) → collections_text (c ∷ []) ≡ collection_text c
-collections_text-one c = append-nil (collection_text c)
+-- the auditor and the sink are as before, after a line with no operation
+pub IsTaken-blank : (a : Audit) (lines : ℕ) (item : Item) (sink : Stream) → item ≡ blank → IsTaken (line_of a lines (known item)) a sink sink []
+IsTaken-blank a lines item sink p = record {
+  turn = ap (λ i. turn_of_item a.rules (state_at a lines) (known i)) p ∙ turn_of_item-blank a.rules (state_at a lines);
+  rules = refl;
+  text = Appends-nil sink.bytes;
+}
+
+-- after an operation that was applied
+pub IsTaken-applied : (old new : Audit) (e : Event) (lines : ℕ) (sink : Stream) → IsTrue (is_applied e) → step old.heap e ≡ Ok new.heap → new ≡ record old { heap = new.heap } → IsTaken (line_of old lines (event e)) new sink sink []
+IsTaken-applied old new e lines sink t p rest =
+    let totals : Totals → Result Turn Refusal = λ ts. Ok (record { collections = []; state = record { heap = new.heap; totals = ts; lines = lines + 1 } }) in
+    record {
+      turn = turn-applied old.rules (state_at old lines) e new.heap (applied-other e t) p
+          ∙ ap totals (with_collections-nil (totals_of old) ∙ sym (ap totals_of rest));
+      rules = ap (λ (a : Audit). a.rules) rest;
+      text = Appends-nil sink.bytes;
+    }
+
+-- after a collection whose text was written
+pub IsTaken-collect : (old new : Audit) (lines : ℕ) (sink sink' : Stream) → new ≡ after_next old → Appends sink.bytes sink'.bytes (collection_text (next_collection old)) → IsTaken (line_of old lines (event Collect)) new sink sink' (next_collection old ∷ [])
+unfolding after_next
+IsTaken-collect old new lines sink sink' p text =
+    let made = next_collection old in
+    let turned : Audit → Totals → Result Turn Refusal = λ a ts. Ok (record { collections = made ∷ []; state = record { heap = a.heap; totals = ts; lines = lines + 1 } }) in
+    record {
+      turn = turn-collect old.rules (state_at old lines)
+          ∙ ap (turned (after_next old)) (with_collections-one (totals_of old) made)
+          ∙ ap (λ (a : Audit). turned a (totals_of a)) (sym p);
+      rules = ap (λ (a : Audit). a.rules) p;
+      text = subst (λ (t : List ℕ). Appends sink.bytes sink'.bytes t) (sym (collections_text-one made)) text;
+    }
+
+-- ---- the run ends
+
+Due-equal : (d e : Due) → d.text ≡ e.text → d.status ≡ e.status → d ≡ e
+Due-equal d e p q =
+    let of : List ℕ → Status → Due = λ t s. record { text = t; status = s } in ap (λ t. of t d.status) p ∙ ap (of e.text) q
+
+-- a run that ends at once has what its end has
+pub due-empty_run : (before : Totals) (ending : Ending) → due before (empty_run ending) ≡ due_at before ending
+due-empty_run before ending =
+    Due-equal (due before (empty_run ending)) (due_at before ending) (report_text-empty_run before ending) (run_status-empty_run before ending)
+
+-- a run that ends ends so where the same is due
+pub EndsRun-at : (at_end : Bool) (sink sink' : Stream) (d d' : Due) (status : Status) → d' ≡ d → EndsRun at_end sink sink' d status → EndsRun at_end sink sink' d' status
+EndsRun-at at_end sink sink' d d' status p ends = subst (λ (x : Due). EndsRun at_end sink sink' x status) (sym p) ends
+
+-- the item of a line is refused
+pub ends-refused : (a : Audit) (lines : ℕ) (item : Item) (r : Refusal) (sink sink' : Stream) (status : Status) → turn_of_item a.rules (state_at a lines) item ≡ Err r →
+    ((before : Totals) → EndsRun false sink sink' (due_at before (refused_line (lines + 1) r)) status) →
+    (more : List Item) → EndsRun false sink sink' (due (totals_of a) (run a.rules (state_at a lines) (item ∷ more))) status
+ends-refused a lines item r sink sink' status is ends more =
+    EndsRun-at false sink sink' _ _ status
+    (ap (due (totals_of a)) (run-ends a.rules (state_at a lines) item r more is) ∙ due-empty_run (totals_of a) (refused_line (lines + 1) r))
+    (ends (totals_of a))
+
+-- an item that is a refusal
+pub ends-refused_item : (a : Audit) (lines : ℕ) (item : Item) (r : Refusal) (sink sink' : Stream) (status : Status) → item ≡ refused r →
+    ((before : Totals) → EndsRun false sink sink' (due_at before (refused_line (lines + 1) r)) status) →
+    (more : List Item) → EndsRun false sink sink' (due (totals_of a) (run a.rules (state_at a lines) (item ∷ more))) status
+ends-refused_item a lines item r sink sink' status p =
+    ends-refused a lines item r sink sink' status (ap (turn_of_item a.rules (state_at a lines)) p)
+
+-- an operation that is refused
+pub ends-not_applied : (a : Audit) (lines : ℕ) (e : Event) (r : Refusal) (sink sink' : Stream) (status : Status) → IsTrue (is_applied e) → step a.heap e ≡ Err r →
+    ((before : Totals) → EndsRun false sink sink' (due_at before (refused_line (lines + 1) r)) status) →
+    (more : List Item) → EndsRun false sink sink' (due (totals_of a) (run a.rules (state_at a lines) (event e ∷ more))) status
+ends-not_applied a lines e r sink sink' status t p =
+    ends-refused a lines (event e) r sink sink' status (turn-refused a.rules (state_at a lines) e r (applied-other e t) p)
 
 -- a part of a text is a part of a text that goes on
-pub AppendsPart-longer : (old new : Option (List ℕ)) (front rest : List ℕ) → AppendsPart old new front → AppendsPart old new (front ++ rest)
+AppendsPart-longer : (old new : Option (List ℕ)) (front rest : List ℕ) → AppendsPart old new front → AppendsPart old new (front ++ rest)
 AppendsPart-longer old new front rest (n, within, part) =
     (n, omega (arith, length-append front rest), subst (λ (t : List ℕ). Appends old new t) (sym (take-append-le n front rest within)) part)
 
--- a part of the text of a collection is a part of the report that begins with it
-pub AppendsPart-of_collection : (old new : Option (List ℕ)) (n v : ℕ) (c : _) (r : Ran) → AppendsPart old new (collection_text c) → AppendsPart old new (rest_text n v (preceded (c ∷ []) r))
-AppendsPart-of_collection old new n v c r part =
-    AppendsPart-longer old new (collection_text c ++ collections_text r.collections) _ (AppendsPart-longer old new (collection_text c) (collections_text r.collections) part)
-
--- a run that ends ends so over an equal rest
-pub EndsRun-at : (at_end : Bool) (held held' : Option (List ℕ)) (faults faults' n v : ℕ) (rest rest' : Ran) (status : Status) → rest' ≡ rest → EndsRun at_end held held' faults faults' n v rest status → EndsRun at_end held held' faults faults' n v rest' status
-EndsRun-at at_end held held' faults faults' n v rest rest' status p ends =
-    subst (λ (r : Ran). EndsRun at_end held held' faults faults' n v r status) (sym p) ends
-
--- the auditor and the sink are as before, after a blank line
-pub GoesOn-blank : (a : Audit) (lines : ℕ) (held : Option (List ℕ)) → GoesOn a a blank lines held held []
-GoesOn-blank a lines held = record {
-  on = λ items. run-blank a.heap a.collections lines items;
-  collections = omega arith;
-  violations = omega arith;
-  one = omega arith;
-  text = Appends-nil held;
-}
-
-pub GoesOn-applied : (old new : Audit) (e : Event) (lines : ℕ) (held : Option (List ℕ)) → IsTrue (is_applied e) → step old.heap e ≡ Ok new.heap → new.collections ≡ old.collections → new.violations ≡ old.violations → GoesOn old new (event e) lines held held []
-GoesOn-applied old new e lines held t p q r = record {
-  on = λ items. run-applied old.heap new.heap old.collections lines e items t p ∙ ap (λ n. preceded [] (run new.heap n (lines + 1) items)) (sym q);
-  collections = omega arith;
-  violations = omega arith;
-  one = omega arith;
-  text = Appends-nil held;
-}
-
-pub GoesOn-collect : (old new : Audit) (lines : ℕ) (held held' : Option (List ℕ)) → new ≡ collected old → Appends held held' (collection_text (collection_of (old.collections + 1) old.heap)) → GoesOn old new (event Collect) lines held held' (collection_of (old.collections + 1) old.heap ∷ [])
-unfolding collected
-GoesOn-collect old new lines held held' p text =
-    let made = collection_of (old.collections + 1) old.heap in
-    record {
-      on = λ items. run-collect old.heap old.collections lines items ∙ ap (λ (a : Audit). preceded (made ∷ []) (run a.heap a.collections (lines + 1) items)) (sym p);
-      collections = ap (λ (a : Audit). a.collections) p;
-      violations = ap (λ (a : Audit). a.violations) p ∙ ap (λ n. old.violations + n) (sym (violations_of-one (old.collections + 1) old.heap));
-      one = omega arith;
-      text = subst (λ (t : List ℕ). Appends held held' t) (sym (collections_text-one made)) text;
-    }
+-- a part of the text of a collection was written
+pub part-collect : (a : Audit) (lines : ℕ) (sink sink' : Stream) (text : List ℕ) → text ≡ collection_text (next_collection a) → AppendsPart sink.bytes sink'.bytes text →
+    (more : List Item) → AppendsPart sink.bytes sink'.bytes (due (totals_of a) (run a.rules (state_at a lines) (event Collect ∷ more))).text
+part-collect a lines sink sink' text is part more =
+    let c = next_collection a in
+    let goes_on = run-goes_on a.rules (state_at a lines) (event Collect) _ more (turn-collect a.rules (state_at a lines)) in
+    subst (λ (t : List ℕ). AppendsPart sink.bytes sink'.bytes t)
+    (sym (ap (report_text (totals_of a)) goes_on ∙ report_text-one (totals_of a) c _))
+    (AppendsPart-longer sink.bytes sink'.bytes (collection_text c) _ (subst (λ (t : List ℕ). AppendsPart sink.bytes sink'.bytes t) is part))
 
 -- ---- which operations are known
 
@@ -140,29 +137,16 @@ is_collect-other (AssertAllDead thread) n = refl
 is_collect-other (AssertInstances kind limit) n = refl
 is_collect-other (AssertUnshared id) n = refl
 is_collect-other (AssertOwnedBy owner ownee) n = refl
+is_collect-other (SetWeak at slot weak) n = refl
 is_collect-other Collect n = absurd (n refl)
 
 pub known-other : (e : Event) → is_applied e ≡ false → (e ≡ Collect → ⊥) → known (event e) ≡ refused UnknownOp
 known-other e p n = rw (p, is_collect-other e n) refl
 
--- a line is taken as an equal item is
-pub TakesLine-at : (old new : Audit) (item item' : Item) (lines : ℕ) (held held' : Option (List ℕ)) (faults faults' : ℕ) (turn : Turn) → item' ≡ item → TakesLine old new item lines held held' faults faults' turn → TakesLine old new item' lines held held' faults faults' turn
-TakesLine-at old new item item' lines held held' faults faults' turn p takes =
-    subst (λ (i : Item). TakesLine old new i lines held held' faults faults' turn) (sym p) takes
-
--- a run that ends at a refused item
-pub ends-refused : (a : Audit) (item : Item) (r : Refusal) (lines : ℕ) (held held' : Option (List ℕ)) (faults faults' : ℕ) (status : Status) → item ≡ refused r →
-    ((n v : ℕ) → EndsRun false held held' faults faults' n v (stopped_at (lines + 1) r) status) →
-    (items : List Item) → EndsRun false held held' faults faults' a.collections a.violations (run a.heap a.collections lines (item ∷ items)) status
-ends-refused a item r lines held held' faults faults' status p ends items =
-    EndsRun-at false held held' faults faults' a.collections a.violations _ _ status
-    (ap (λ i. run a.heap a.collections lines (i ∷ items)) p ∙ run-refused a.heap a.collections lines r items) (ends a.collections a.violations)
-
-pub AppendsPart-at : (old new : Option (List ℕ)) (text text' : List ℕ) → text' ≡ text → AppendsPart old new text → AppendsPart old new text'
-AppendsPart-at old new text text' p part = subst (λ (t : List ℕ). AppendsPart old new t) (sym p) part
+-- a line is taken as one with an equal item is
+pub TakesLine-at : (a after : Audit) (lines : ℕ) (item item' : Item) (sink sink' : Stream) (flow : Flow) → item' ≡ item → TakesLine (line_of a lines item) after sink sink' flow → TakesLine (line_of a lines item') after sink sink' flow
+TakesLine-at a after lines item item' sink sink' flow p takes =
+    subst (λ (i : Item). TakesLine (line_of a lines i) after sink sink' flow) (sym p) takes
 
 pub Appends-as : (old new : Option (List ℕ)) (text text' : List ℕ) → text ≡ text' → Appends old new text → Appends old new text'
 Appends-as old new text text' p appended = subst (λ (t : List ℕ). Appends old new t) p appended
-
-pub GoesOn-blank_as : (a : Audit) (item : Item) (lines : ℕ) (held : Option (List ℕ)) → item ≡ blank → GoesOn a a (known item) lines held held []
-GoesOn-blank_as a item lines held p = subst (λ (i : Item). GoesOn a a (known i) lines held held []) (sym p) (GoesOn-blank a lines held)

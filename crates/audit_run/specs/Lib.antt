@@ -1,3 +1,4 @@
+pub mod Facts
+pub mod Known
 pub mod Outcome
-pub mod Report
 pub mod Turn

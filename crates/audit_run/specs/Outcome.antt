@@ -1,67 +1,82 @@
 -- What stands when the auditor's top call has returned, by the status that it answers.
-use Rattle.std.specs.Prelude.{◌≡◌, ◌≢◌, ◌⊎◌, ℕ, ◌+◌, ◌≤◌, List, length, Option, None, IfSome}
-use Rattle.std.specs.Io.KnownBytes.{Appends, Consumes, IsAtEnd}
+use Rattle.std.specs.Prelude.{◌≡◌, ℕ, ◌+◌, ◌≤◌, List, length, codes, IfSome}
+use Rattle.std.specs.Io.KnownBytes.{Appends, Consumes, Keeps}
 use Rattle.heap_base.specs.Causes.{Rose}
 use Rattle.heap_base.specs.Sinks.{AppendsPart}
+use Rattle.heap_base.specs.Streams.{Stream}
+use Rattle.heap_base.specs.declared.limits.TheConstants.{LONGEST_LINE, LONGEST_TRACE}
 use Rattle.heap_base.specs.declared.status.Status.{Status}
 use Rattle.heap_base.specs.declared.status.Status.TheVariants.{Clean, Violated, TraceFault, ReadFault, WriteFault, NoMemory, Usage}
-use Rattle.audit_run.specs.Report.{run_of, report_of, status_of, part_of, whole_lines, trace_limit}
+use Rattle.graph_meaning.specs.Collecting.{Rules}
+use Rattle.report.specs.Report.{end_of_trace, report_of, status_of, part_of, ending_of}
+use Rattle.report.specs.Traces.{whole_lines}
+use Rattle.audit_run.specs.Known.{known_items}
 
--- What can be seen of the source and the sink at a moment: the bytes that the source has left and those that the sink
--- holds, where they tell them, and how often each has failed.
+-- What can be seen of the source and of the sink at a moment.
 pub record Outside : Type 0 where
-  pub left : Option (List ℕ)
-  pub held : Option (List ℕ)
-  pub read_faults : ℕ
-  pub write_faults : ℕ
+  pub source : Stream
+  pub sink : Stream
 
--- what holds between what was seen before a call and after it
-abbrev pub Across : {S K : Type 0} → (S → Option (List ℕ)) → (S → ℕ) → (K → Option (List ℕ)) → (K → ℕ) → S → S → K → K → (Outside → Outside → Type 0) → Type 0
-Across left reads held writes s s' k k' P =
-    P (record { left = left s; held = held k; read_faults = reads s; write_faults = writes k })
-    (record { left = left s'; held = held k'; read_faults = reads s'; write_faults = writes k' })
+abbrev pub seen : Stream → Stream → Outside
+seen source sink = record { source = source; sink = sink }
 
--- The source was read to its end, the whole report on its bytes was appended, and the status is theirs.
-pub record ReadsToEnd (old new : Outside) (answer : Status) : Type 0 where
-  pub at_end : IfSome old.left (λ bytes. IsAtEnd new.left)
-  pub report : IfSome old.left (λ bytes. Appends old.held new.held (report_of bytes))
-  pub status : IfSome old.left (λ bytes. answer ≡ status_of bytes)
+-- what is written where the words of the command line are refused
+abbrev pub usage_line : List ℕ
+usage_line = codes "usage: gcaudit [--workers N] [--paths P] [--gen K --size N]\n"
 
--- A line is refused, and the whole report, whose last line says so, was appended.
-pub record RefusesLine (old new : Outside) : Type 0 where
-  pub refused : IfSome old.left (λ bytes. status_of bytes ≡ TraceFault)
-  pub report : IfSome old.left (λ bytes. Appends old.held new.held (report_of bytes))
+-- The bytes are a trace that the source may hold: all that it has left, where it tells them.
+abbrev pub IsTrace : Outside → List ℕ → Type 0
+IsTrace old bytes = IfSome old.source.bytes (λ left. left ≡ bytes)
 
--- A read failed after these bytes: no whole line of them is refused, at most 65,536 bytes stand after the last whole
--- line, they are within the limit of a trace, and the text of their collections was appended.
-pub record IsCutShort (old new : Outside) (bytes : List ℕ) : Type 0 where
-  pub taken : Consumes old.left new.left bytes
-  pub none_refused : (run_of (whole_lines bytes)).fault ≡ None
-  pub tail : length bytes ≤ length (whole_lines bytes) + 65536
-  pub within : length bytes ≤ trace_limit
-  pub part : Appends old.held new.held (part_of bytes)
+-- All bytes of the trace were read, the whole report on them was appended, and the status is theirs.
+pub record ReadsToEnd (rules : Rules) (old new : Outside) (answer : Status) : Type 0 where
+  pub bytes : List ℕ
+  pub trace : IsTrace old bytes
+  pub read : Consumes old.source.bytes new.source.bytes bytes
+  pub report : Appends old.sink.bytes new.sink.bytes (report_of rules (known_items bytes))
+  pub status : answer ≡ status_of rules (known_items bytes)
 
--- a beginning of the report was appended
-abbrev pub AppendsPartOfReport : Outside → Outside → Type 0
-AppendsPartOfReport old new = IfSome old.left (λ bytes. AppendsPart old.held new.held (report_of bytes))
+-- A line of the trace is refused, and the whole report, whose last line says so, was appended.
+pub record RefusesLine (rules : Rules) (old new : Outside) : Type 0 where
+  pub bytes : List ℕ
+  pub trace : IsTrace old bytes
+  pub refused : status_of rules (known_items bytes) ≡ TraceFault
+  pub report : Appends old.sink.bytes new.sink.bytes (report_of rules (known_items bytes))
 
--- Where no line is refused and nothing failed, the run is not cut short but by want of memory.
-abbrev pub IsComplete : Outside → Outside → Status → Type 0
-IsComplete old new status =
-    IfSome old.left (λ bytes. status_of bytes ≢ TraceFault → ¬ Rose old.read_faults new.read_faults → ¬ Rose old.write_faults new.write_faults →
-    (status ≡ Clean) ⊎ (status ≡ Violated) ⊎ (status ≡ NoMemory))
+-- A read failed after these bytes of the trace: no whole line of them is refused, at most as many bytes as a line may
+-- have stand behind the last whole line, they are within the limit of a trace, and the text of their collections was
+-- appended.
+pub record IsCutShort (rules : Rules) (old new : Outside) : Type 0 where
+  pub bytes : List ℕ
+  pub read : Consumes old.source.bytes new.source.bytes bytes
+  pub none_refused : ending_of rules (known_items (whole_lines bytes)) ≡ end_of_trace
+  pub tail : length bytes ≤ length (whole_lines bytes) + LONGEST_LINE
+  pub within : length bytes ≤ LONGEST_TRACE
+  pub part : Appends old.sink.bytes new.sink.bytes (part_of rules (known_items (whole_lines bytes)))
 
--- where a line is refused, the run is not called clean, nor violated
-abbrev pub NeverHidesRefusal : Outside → Status → Type 0
-NeverHidesRefusal old status =
-    IfSome old.left (λ bytes. status_of bytes ≡ TraceFault → (status ≢ Clean) × (status ≢ Violated))
+-- A beginning of the report was appended.
+pub record AppendsPartOfReport (rules : Rules) (old new : Outside) : Type 0 where
+  pub bytes : List ℕ
+  pub trace : IsTrace old bytes
+  pub part : AppendsPart old.sink.bytes new.sink.bytes (report_of rules (known_items bytes))
 
--- what stands after a run, by its status
-abbrev pub Ended : Outside → Outside → Status → Type 0
-Ended old new Clean = ReadsToEnd old new Clean
-Ended old new Violated = ReadsToEnd old new Violated
-Ended old new TraceFault = RefusesLine old new
-Ended old new ReadFault = Rose old.read_faults new.read_faults × ((bytes : List ℕ) × IsCutShort old new bytes)
-Ended old new WriteFault = Rose old.write_faults new.write_faults × AppendsPartOfReport old new
-Ended old new NoMemory = AppendsPartOfReport old new
-Ended old new Usage = ⊥
+-- What stands after a run, by its status. A failure is answered only where the count of faults of the object that it
+-- speaks of rose in the call.
+abbrev pub Ended : Rules → Outside → Outside → Status → Type 0
+Ended rules old new Clean = ReadsToEnd rules old new Clean
+Ended rules old new Violated = ReadsToEnd rules old new Violated
+Ended rules old new TraceFault = RefusesLine rules old new
+Ended rules old new ReadFault = Rose old.source.faults new.source.faults × IsCutShort rules old new
+Ended rules old new WriteFault = Rose old.sink.faults new.sink.faults × AppendsPartOfReport rules old new
+Ended rules old new NoMemory = AppendsPartOfReport rules old new
+Ended rules old new Usage = ⊥
+
+-- What was appended where the words of the command line are refused, by the status.
+abbrev pub RefusesWords : Outside → Outside → Status → Type 0
+RefusesWords old new Usage = Appends old.sink.bytes new.sink.bytes usage_line
+RefusesWords old new WriteFault = Rose old.sink.faults new.sink.faults × AppendsPart old.sink.bytes new.sink.bytes usage_line
+RefusesWords old new NoMemory = Keeps old.sink.bytes new.sink.bytes
+RefusesWords old new Clean = ⊥
+RefusesWords old new Violated = ⊥
+RefusesWords old new TraceFault = ⊥
+RefusesWords old new ReadFault = ⊥

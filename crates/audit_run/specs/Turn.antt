@@ -1,61 +1,70 @@
 -- What one line of a trace does to a run that is under way, for the proof of the whole run.
-use Rattle.std.specs.Prelude.{◌≡◌, ℕ, ◌+◌, ◌≤◌, List, ◌∷◌, ◌++◌, length, Bool, false, IsTrue, Option, None, Some, nat_lt, if◌then◌else◌}
+use Rattle.std.specs.Prelude.{◌≡◌, ℕ, ◌+◌, List, ◌∷◌, Bool, false, IsTrue, Ok}
 use Rattle.std.specs.Io.KnownBytes.{Appends}
 use Rattle.heap_base.specs.Causes.{Rose}
 use Rattle.heap_base.specs.Sinks.{AppendsPart}
+use Rattle.heap_base.specs.Streams.{Stream}
 use Rattle.heap_base.specs.declared.status.Status.{Status}
 use Rattle.heap_base.specs.declared.status.Status.TheVariants.{Clean, Violated, TraceFault, ReadFault, WriteFault, NoMemory, Usage}
 use Rattle.graph_meaning.specs.declared.collection.Collection.{Collection}
-use Rattle.graph_meaning.specs.declared.refusal.Refusal.{Refusal}
 use Rattle.trace_reader.specs.Meaning.{Item}
-use Rattle.report.specs.Text.{fault_text, end_text}
-use Rattle.report.specs.Report.{Ran, run, preceded, violations_of, collections_text}
+use Rattle.report.specs.Report.{Totals, RunState, Ending, Ran, turn_of_item, run, collections_text, last_line, last_status, report_text, run_status}
 use Rattle.audit_core.specs.Audit.{Audit}
-use Rattle.audit_run.specs.declared.turn.Turn.{Turn}
-use Rattle.audit_run.specs.declared.turn.Turn.TheVariants.{Goes, Ends}
+use Rattle.audit_run.specs.declared.turn.Flow.{Flow}
+use Rattle.audit_run.specs.declared.turn.Flow.TheVariants.{GoesOn, Ends}
 
--- the last line of the report, where n collections with v verdicts came before these
-abbrev pub rest_last : ℕ → ℕ → List Collection → Option (ℕ × Refusal) → List ℕ
-rest_last n v collections None = end_text (n + length collections) (v + violations_of collections)
-rest_last n v collections (Some fault) = fault_text fault.0 fault.1
+-- ---- what is due
 
--- the rest of the report, where n collections with v verdicts came before
-abbrev pub rest_text : ℕ → ℕ → Ran → List ℕ
-rest_text n v ran = collections_text ran.collections ++ rest_last n v ran.collections ran.fault
+-- What is still to be written, and the status to be answered then.
+pub record Due : Type 0 where
+  pub text : List ℕ
+  pub status : Status
 
-abbrev pub rest_end : ℕ → List Collection → Option (ℕ × Refusal) → Status
-rest_end v collections None = if nat_lt 0 (v + violations_of collections) then Violated else Clean
-rest_end v collections (Some fault) = TraceFault
+-- on the rest of a run, where collections of these totals came before
+abbrev pub due : Totals → Ran → Due
+due before ran = record { text = report_text before ran; status = run_status before ran }
 
--- how a run ends, where v verdicts came before
-abbrev pub rest_status : ℕ → Ran → Status
-rest_status v ran = rest_end v ran.collections ran.fault
+-- where the run ends so
+abbrev pub due_at : Totals → Ending → Due
+due_at before ending = record { text = last_line before ending; status = last_status before ending }
 
--- The run ends with this status, and appended the rest of its report, or a part of it. It is Clean or Violated only
--- where the trace is at its end.
-abbrev pub EndsRun : Bool → Option (List ℕ) → Option (List ℕ) → ℕ → ℕ → ℕ → ℕ → Ran → Status → Type 0
-EndsRun at_end held held' faults faults' n v rest Clean =
-    IsTrue at_end × (rest_status v rest ≡ Clean) × Appends held held' (rest_text n v rest)
-EndsRun at_end held held' faults faults' n v rest Violated =
-    IsTrue at_end × (rest_status v rest ≡ Violated) × Appends held held' (rest_text n v rest)
-EndsRun at_end held held' faults faults' n v rest TraceFault =
-    (rest_status v rest ≡ TraceFault) × Appends held held' (rest_text n v rest)
-EndsRun at_end held held' faults faults' n v rest WriteFault = Rose faults faults' × AppendsPart held held' (rest_text n v rest)
-EndsRun at_end held held' faults faults' n v rest NoMemory = AppendsPart held held' (rest_text n v rest)
-EndsRun at_end held held' faults faults' n v rest ReadFault = ⊥
-EndsRun at_end held held' faults faults' n v rest Usage = ⊥
+-- The run ends with this status, and appended what is due, or a part of it. It is Clean or Violated only where the trace
+-- is at its end.
+abbrev pub EndsRun : Bool → Stream → Stream → Due → Status → Type 0
+EndsRun at_end sink sink' d Clean = IsTrue at_end × (d.status ≡ Clean) × Appends sink.bytes sink'.bytes d.text
+EndsRun at_end sink sink' d Violated = IsTrue at_end × (d.status ≡ Violated) × Appends sink.bytes sink'.bytes d.text
+EndsRun at_end sink sink' d TraceFault = (d.status ≡ TraceFault) × Appends sink.bytes sink'.bytes d.text
+EndsRun at_end sink sink' d WriteFault = Rose sink.faults sink'.faults × AppendsPart sink.bytes sink'.bytes d.text
+EndsRun at_end sink sink' d NoMemory = AppendsPart sink.bytes sink'.bytes d.text
+EndsRun at_end sink sink' d ReadFault = ⊥
+EndsRun at_end sink sink' d Usage = ⊥
 
--- The run goes on after the item of a line, which made these collections, and their text was appended.
-pub record GoesOn (old new : Audit) (item : Item) (lines : ℕ) (held held' : Option (List ℕ)) (made : List Collection) : Type 0 where
-  pub on : (items : List Item) → run old.heap old.collections lines (item ∷ items) ≡ preceded made (run new.heap new.collections (lines + 1) items)
-  pub collections : new.collections ≡ old.collections + length made
-  pub violations : new.violations ≡ old.violations + violations_of made
-  pub one : length made ≤ 1
-  pub text : Appends held held' (collections_text made)
+-- ---- one line
 
--- what the item of a line does to a run
-abbrev pub TakesLine : Audit → Audit → Item → ℕ → Option (List ℕ) → Option (List ℕ) → ℕ → ℕ → Turn → Type 0
-TakesLine old new item lines held held' faults faults' Goes =
-    (made : List Collection) × GoesOn old new item lines held held' made
-TakesLine old new item lines held held' faults faults' (Ends status) =
-    (items : List Item) → EndsRun false held held' faults faults' old.collections old.violations (run old.heap old.collections lines (item ∷ items)) status
+abbrev pub totals_of : Audit → Totals
+totals_of a = record { collections = a.collections; violations = a.violations }
+
+-- where the run of an auditor stands that read so many lines
+abbrev pub state_at : Audit → ℕ → RunState
+state_at a lines = record { heap = a.heap; totals = totals_of a; lines = lines }
+
+-- A line: the auditor before it, how many lines stand before it, and its item.
+pub record Line : Type 0 where
+  pub auditor : Audit
+  pub lines : ℕ
+  pub item : Item
+
+abbrev pub line_of : Audit → ℕ → Item → Line
+line_of a lines item = record { auditor = a; lines = lines; item = item }
+
+-- The run goes on after the line, which made these collections, and their text was appended.
+pub record IsTaken (l : Line) (after : Audit) (sink sink' : Stream) (made : List Collection) : Type 0 where
+  pub turn : turn_of_item l.auditor.rules (state_at l.auditor l.lines) l.item ≡ Ok (record { collections = made; state = state_at after (l.lines + 1) })
+  pub rules : after.rules ≡ l.auditor.rules
+  pub text : Appends sink.bytes sink'.bytes (collections_text made)
+
+-- what a line does to a run
+abbrev pub TakesLine : Line → Audit → Stream → Stream → Flow → Type 0
+TakesLine l after sink sink' GoesOn = (made : List Collection) × IsTaken l after sink sink' made
+TakesLine l after sink sink' (Ends status) =
+    (more : List Item) → EndsRun false sink sink' (due (totals_of l.auditor) (run l.auditor.rules (state_at l.auditor l.lines) (l.item ∷ more))) status

@@ -1,6 +1,7 @@
 ghost use Rattle.std.specs.Prelude.{◌≤◌, ℕ, true, false};
-ghost use Rattle.report.specs.Report.{nothing_ran, stopped_at};
-ghost use Rattle.audit_run.specs.Turn.{EndsRun};
+ghost use Rattle.heap_base.specs.Streams.{stream_of};
+ghost use Rattle.report.specs.Report.{Totals, end_of_trace, refused_line};
+ghost use Rattle.audit_run.specs.Turn.{EndsRun, due_at, totals_of};
 
 use audit_core::Auditor;
 use graph_meaning::Refusal;
@@ -10,7 +11,7 @@ use std::alloc::Global;
 
 /// Ends the report at a line that is refused.
 pub fn refuse<K: Sink>(alloc: Global, line: u64, refusal: Refusal, sink: &mut K) -> Status
-    ensures ends { (n v : ℕ) → EndsRun false (K.held sink.old) (K.held sink.new) (K.faults sink.old) (K.faults sink.new) n v (stopped_at line refusal) result }
+    ensures ends { (before : Totals) → EndsRun false (stream_of K.held K.faults sink.old) (stream_of K.held K.faults sink.new) (due_at before (refused_line line refusal)) result }
     ensures later { K.faults sink.old ≤ K.faults sink.new }
 {
     let Ok(text) = fault_text(alloc, line, &refusal) else {
@@ -24,7 +25,7 @@ pub fn refuse<K: Sink>(alloc: Global, line: u64, refusal: Refusal, sink: &mut K)
 
 /// Ends the report at the end of the trace.
 pub fn finish<K: Sink>(alloc: Global, auditor: &Auditor, sink: &mut K) -> Status
-    ensures ends { EndsRun true (K.held sink.old) (K.held sink.new) (K.faults sink.old) (K.faults sink.new) auditor.now.collections auditor.now.violations nothing_ran result }
+    ensures ends { EndsRun true (stream_of K.held K.faults sink.old) (stream_of K.held K.faults sink.new) (due_at (totals_of auditor.now) end_of_trace) result }
     ensures later { K.faults sink.old ≤ K.faults sink.new }
 {
     let violations = auditor.violations();

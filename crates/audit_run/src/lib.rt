@@ -2,6 +2,7 @@
 #![tactic(auto)]
 
 mod ending;
+mod laws;
 mod run;
 #[cfg(test)]
 mod tests;
@@ -9,4 +10,5 @@ mod top_call;
 mod turn;
 mod words;
 
+pub use laws::the_facts_of_a_run_follow;
 pub use top_call::audit;

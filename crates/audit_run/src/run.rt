@@ -1,22 +1,24 @@
-ghost use Rattle.audit_run.specs.Outcome.{Across, Ended};
+ghost use Rattle.std.specs.Prelude.{ℕ};
+ghost use Rattle.heap_base.specs.Streams.{stream_of};
+ghost use Rattle.audit_core.specs.Audit.{pathless};
+ghost use Rattle.audit_run.specs.Outcome.{Ended, seen};
 
 use crate::ending::{finish, refuse};
-use crate::turn::{Turn, take_line};
+use crate::turn::{Flow, take_line};
 use audit_core::Auditor;
 use graph_meaning::Refusal;
-use heap_base::{Sink, Source, Status};
+use heap_base::{LONGEST_TRACE, Sink, Source, Status};
 use std::alloc::Global;
 use trace_reader::{CutError, LineCutter, LineReader};
-
-/// A trace has at most so many bytes.
-const TRACE_LIMIT: u64 = 1 << 40;
 
 /// Reads the trace line by line to its end or to the first line that is refused. The text of each collection
 /// is written before the next line is cut.
 pub fn run<S: Source, K: Sink>(alloc: Global, source: &mut S, sink: &mut K) -> Status
-    ensures { Across S.left S.faults K.held K.faults source.old source.new sink.old sink.new (λ old new. Ended old new result) }
+    ensures { let old = seen (stream_of S.left S.faults source.old) (stream_of K.held K.faults sink.old) in
+        let new = seen (stream_of S.left S.faults source.new) (stream_of K.held K.faults sink.new) in
+        Ended pathless old new result }
 {
-    let Ok(mut cutter) = LineCutter::make(alloc, TRACE_LIMIT) else {
+    let Ok(mut cutter) = LineCutter::make(alloc, LONGEST_TRACE) else {
         return Status::NoMemory;
     };
     let Ok(mut auditor) = Auditor::make(alloc) else {
@@ -34,8 +36,8 @@ pub fn run<S: Source, K: Sink>(alloc: Global, source: &mut S, sink: &mut K) -> S
                 lines,
                 sink,
             ) {
-                Turn::Goes => lines = number,
-                Turn::Ends(status) => return status,
+                Flow::GoesOn => lines = number,
+                Flow::Ends(status) => return status,
             },
             Ok(None) => return finish(alloc, &auditor, sink),
             Err(CutError::ReadFault) => return Status::ReadFault,

@@ -1,9 +1,7 @@
-ghost use Rattle.std.specs.Prelude.{◌≡◌, ◌≢◌, ◌⊎◌, ℕ, List, length};
-ghost use Rattle.std.specs.Io.KnownBytes.{Appends, Keeps};
-ghost use Rattle.heap_base.specs.Causes.{Rose};
-ghost use Rattle.heap_base.specs.Sinks.{AppendsPart};
-ghost use Rattle.audit_run.specs.Report.{usage_line};
-ghost use Rattle.audit_run.specs.Outcome.{Across, ReadsToEnd, RefusesLine, IsCutShort, AppendsPartOfReport, IsComplete, NeverHidesRefusal};
+ghost use Rattle.std.specs.Prelude.{◌≡◌, ◌≢◌, length};
+ghost use Rattle.heap_base.specs.Streams.{Stream, stream_of};
+ghost use Rattle.audit_core.specs.Audit.{pathless};
+ghost use Rattle.audit_run.specs.Outcome.{Ended, RefusesWords, seen};
 
 use crate::run::run;
 use crate::words::is_taken;
@@ -16,7 +14,8 @@ const USAGE: &[u8] = b"usage: gcaudit [--workers N] [--paths P] [--gen K --size 
 /// Audits the trace that the source gives, writes the report to the sink, and answers the program's exit status.
 ///
 /// `words` are the words of the command line, the program's name first. They are taken where there is no other.
-/// The clauses on bytes say something where the source or the sink tells its bytes.
+/// Where they are taken, what was read, what was written and the status are those of a trace: the one that the source
+/// has left, where it tells its bytes. Where they aren't, the usage line is written, and the source is left unread.
 pub fn audit<S: Source, K: Sink, G: Gate, R: Threads + Sync>(
     _rt: &R,
     alloc: Global,
@@ -25,41 +24,12 @@ pub fn audit<S: Source, K: Sink, G: Gate, R: Threads + Sync>(
     sink: &mut K,
     _gate: &G,
 ) -> Status
-    // At Clean and Violated the source was read to its end and the whole report was appended.
-    ensures report_words { (result ≡ Status.Clean) ⊎ (result ≡ Status.Violated) → length words.now ≡ 1 }
-    ensures report { (result ≡ Status.Clean) ⊎ (result ≡ Status.Violated) →
-        Across S.left S.faults K.held K.faults source.old source.new sink.old sink.new (λ old new. ReadsToEnd old new result) }
-
-    // At TraceFault a line is refused, and the whole report, whose last line names it, was appended.
-    ensures trace_fault_words { result ≡ Status.TraceFault → length words.now ≡ 1 }
-    ensures trace_fault { result ≡ Status.TraceFault →
-        Across S.left S.faults K.held K.faults source.old source.new sink.old sink.new RefusesLine }
-    ensures hides_no_refusal { Across S.left S.faults K.held K.faults source.old source.new sink.old sink.new (λ old new. NeverHidesRefusal old result) }
-
-    // At ReadFault a read failed, and the collections of the whole lines that were read were appended.
-    ensures read_fault_words { result ≡ Status.ReadFault → length words.now ≡ 1 }
-    ensures read_fault { result ≡ Status.ReadFault → Rose (S.faults source.old) (S.faults source.new) }
-    ensures cut_short { result ≡ Status.ReadFault →
-        Across S.left S.faults K.held K.faults source.old source.new sink.old sink.new (λ old new. (bytes : List ℕ) × IsCutShort old new bytes) }
-
-    // At WriteFault a write failed, and at NoMemory memory was wanting. A beginning of what is due was appended.
-    ensures write_fault { result ≡ Status.WriteFault → Rose (K.faults sink.old) (K.faults sink.new) }
-    ensures write_fault_part { result ≡ Status.WriteFault → length words.now ≡ 1 →
-        Across S.left S.faults K.held K.faults source.old source.new sink.old sink.new AppendsPartOfReport }
-    ensures write_fault_usage { result ≡ Status.WriteFault → length words.now ≢ 1 → AppendsPart (K.held sink.old) (K.held sink.new) usage_line }
-    ensures no_memory_part { result ≡ Status.NoMemory → length words.now ≡ 1 →
-        Across S.left S.faults K.held K.faults source.old source.new sink.old sink.new AppendsPartOfReport }
-    ensures no_memory_words { result ≡ Status.NoMemory → length words.now ≢ 1 → Keeps (K.held sink.old) (K.held sink.new) }
-
-    // Usage comes where the words are refused, and never else. Then the source is left unread.
-    ensures taken { length words.now ≡ 1 → result ≢ Status.Usage }
-    ensures refused { length words.now ≢ 1 → (result ≡ Status.Usage) ⊎ (result ≡ Status.WriteFault) ⊎ (result ≡ Status.NoMemory) }
-    ensures unread { length words.now ≢ 1 → source.new ≡ source.old }
-    ensures usage { result ≡ Status.Usage → Appends (K.held sink.old) (K.held sink.new) usage_line }
-
-    // Where no line is refused and nothing failed, the trace is audited to its end, unless memory is wanting.
-    ensures complete { length words.now ≡ 1 →
-        Across S.left S.faults K.held K.faults source.old source.new sink.old sink.new (λ old new. IsComplete old new result) }
+    ensures taken { let old = seen (stream_of S.left S.faults source.old) (stream_of K.held K.faults sink.old) in
+        let new = seen (stream_of S.left S.faults source.new) (stream_of K.held K.faults sink.new) in
+        length words.now ≡ 1 → Ended pathless old new result }
+    ensures refused { let old = seen (stream_of S.left S.faults source.old) (stream_of K.held K.faults sink.old) in
+        let new = seen (stream_of S.left S.faults source.new) (stream_of K.held K.faults sink.new) in
+        length words.now ≢ 1 → (source.new ≡ source.old) × RefusesWords old new result }
 {
     if !is_taken(words) {
         return refuse_words(sink);
@@ -69,10 +39,8 @@ pub fn audit<S: Source, K: Sink, G: Gate, R: Threads + Sync>(
 
 /// Writes the usage line.
 fn refuse_words<K: Sink>(sink: &mut K) -> Status
-    ensures answers { (result ≡ Status.Usage) ⊎ (result ≡ Status.WriteFault) }
-    ensures usage { result ≡ Status.Usage → Appends (K.held sink.old) (K.held sink.new) usage_line }
-    ensures write_fault { result ≡ Status.WriteFault → Rose (K.faults sink.old) (K.faults sink.new) }
-    ensures part { result ≡ Status.WriteFault → AppendsPart (K.held sink.old) (K.held sink.new) usage_line }
+    ensures { (stream : Stream) →
+        RefusesWords (seen stream (stream_of K.held K.faults sink.old)) (seen stream (stream_of K.held K.faults sink.new)) result }
 {
     match put_all(sink, USAGE) {
         Ok(()) => Status::Usage,

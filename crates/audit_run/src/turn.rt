@@ -1,9 +1,10 @@
 ghost use Rattle.std.specs.Prelude.{◌≡◌, ◌<◌, ◌≤◌, ◌^◌, ℕ, IsTrue};
-ghost use Rattle.trace_reader.specs.Meaning.{item_of_line, event as event_item};
+ghost use Rattle.heap_base.specs.Streams.{stream_of};
 ghost use Rattle.graph_meaning.specs.declared.event.Event.TheVariants.{Collect};
-ghost use Rattle.audit_run.specs.Turn.{TakesLine};
+ghost use Rattle.trace_reader.specs.Meaning.{item_of_line, event as event_item};
 ghost use Rattle.audit_core.specs.Audit.{is_applied};
-ghost use Rattle.audit_run.specs.Report.{known};
+ghost use Rattle.audit_run.specs.Known.{known};
+ghost use Rattle.audit_run.specs.Turn.{TakesLine, line_of};
 
 use crate::ending::refuse;
 use audit_core::Auditor;
@@ -15,8 +16,8 @@ use trace_reader::LineReader;
 
 /// Whether a run goes on after a line, or how it ends.
 #[derive(Drop)]
-pub enum Turn {
-    Goes,
+pub enum Flow {
+    GoesOn,
     Ends(Status),
 }
 
@@ -28,17 +29,17 @@ pub fn take_line<K: Sink>(
     line: &[u8],
     lines: u64,
     sink: &mut K,
-) -> Turn
+) -> Flow
     requires few_lines { lines < 2 ^ 40 }
     requires few_collections { auditor.old.collections ≤ lines }
-    ensures takes { TakesLine auditor.old auditor.new (known (item_of_line line.now)) lines (K.held sink.old) (K.held sink.new) (K.faults sink.old) (K.faults sink.new) result }
+    ensures takes { TakesLine (line_of auditor.old lines (known (item_of_line line.now))) auditor.new (stream_of K.held K.faults sink.old) (stream_of K.held K.faults sink.new) result }
     ensures later { K.faults sink.old ≤ K.faults sink.new }
 {
     match reader.event_of(line) {
-        Ok(None) => Turn::Goes,
+        Ok(None) => Flow::GoesOn,
         Ok(Some(event)) => take_event(alloc, auditor, &event, lines, sink),
-        Err(Stop::Refused(refusal)) => Turn::Ends(refuse(alloc, lines + 1, refusal, sink)),
-        Err(Stop::OutOfMemory) => Turn::Ends(Status::NoMemory),
+        Err(Stop::Refused(refusal)) => Flow::Ends(refuse(alloc, lines + 1, refusal, sink)),
+        Err(Stop::OutOfMemory) => Flow::Ends(Status::NoMemory),
     }
 }
 
@@ -48,10 +49,10 @@ fn take_event<K: Sink>(
     event: &Event,
     lines: u64,
     sink: &mut K,
-) -> Turn
+) -> Flow
     requires few_lines { lines < 2 ^ 40 }
     requires few_collections { auditor.old.collections ≤ lines }
-    ensures takes { TakesLine auditor.old auditor.new (known (event_item event.now)) lines (K.held sink.old) (K.held sink.new) (K.faults sink.old) (K.faults sink.new) result }
+    ensures takes { TakesLine (line_of auditor.old lines (known (event_item event.now))) auditor.new (stream_of K.held K.faults sink.old) (stream_of K.held K.faults sink.new) result }
     ensures later { K.faults sink.old ≤ K.faults sink.new }
 {
     if let Event::Collect = event {
@@ -59,7 +60,7 @@ fn take_event<K: Sink>(
     } else if is_applied(event) {
         apply(alloc, auditor, event, lines, sink)
     } else {
-        Turn::Ends(refuse(alloc, lines + 1, Refusal::UnknownOp, sink))
+        Flow::Ends(refuse(alloc, lines + 1, Refusal::UnknownOp, sink))
     }
 }
 
@@ -69,34 +70,34 @@ fn apply<K: Sink>(
     event: &Event,
     lines: u64,
     sink: &mut K,
-) -> Turn
+) -> Flow
     requires few_lines { lines < 2 ^ 40 }
     requires applied { IsTrue (is_applied event.now) }
-    ensures takes { TakesLine auditor.old auditor.new (event_item event.now) lines (K.held sink.old) (K.held sink.new) (K.faults sink.old) (K.faults sink.new) result }
+    ensures takes { TakesLine (line_of auditor.old lines (event_item event.now)) auditor.new (stream_of K.held K.faults sink.old) (stream_of K.held K.faults sink.new) result }
     ensures later { K.faults sink.old ≤ K.faults sink.new }
 {
     match auditor.apply(event) {
-        Ok(()) => Turn::Goes,
-        Err(Stop::Refused(refusal)) => Turn::Ends(refuse(alloc, lines + 1, refusal, sink)),
-        Err(Stop::OutOfMemory) => Turn::Ends(Status::NoMemory),
+        Ok(()) => Flow::GoesOn,
+        Err(Stop::Refused(refusal)) => Flow::Ends(refuse(alloc, lines + 1, refusal, sink)),
+        Err(Stop::OutOfMemory) => Flow::Ends(Status::NoMemory),
     }
 }
 
 /// Makes a collection, and writes its text at once.
-fn collect<K: Sink>(alloc: Global, auditor: &mut Auditor, sink: &mut K) -> Turn
+fn collect<K: Sink>(alloc: Global, auditor: &mut Auditor, sink: &mut K) -> Flow
     requires { auditor.old.collections < 2 ^ 40 }
-    ensures takes { (lines : ℕ) → TakesLine auditor.old auditor.new (event_item Collect) lines (K.held sink.old) (K.held sink.new) (K.faults sink.old) (K.faults sink.new) result }
+    ensures takes { (lines : ℕ) → TakesLine (line_of auditor.old lines (event_item Collect)) auditor.new (stream_of K.held K.faults sink.old) (stream_of K.held K.faults sink.new) result }
     ensures later { K.faults sink.old ≤ K.faults sink.new }
 {
     let Ok(collection) = auditor.collect() else {
-        return Turn::Ends(Status::NoMemory);
+        return Flow::Ends(Status::NoMemory);
     };
     let Ok(text) = collection_text(alloc, &collection) else {
-        return Turn::Ends(Status::NoMemory);
+        return Flow::Ends(Status::NoMemory);
     };
     match put_all(sink, &text) {
-        Ok(()) => Turn::Goes,
-        Err(_) => Turn::Ends(Status::WriteFault),
+        Ok(()) => Flow::GoesOn,
+        Err(_) => Flow::Ends(Status::WriteFault),
     }
 }
 

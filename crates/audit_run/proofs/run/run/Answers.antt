@@ -1,6 +1,6 @@
 use Rattle.std.proofs.Common.{refl}
 use Rattle.audit_run.proofs.Progress.{begins_at, line_taken, line_leaves_fewer}
-use Rattle.audit_run.proofs.Endings.{finished, line_too_long, trace_too_long, line_ends, cut_short}
+use Rattle.audit_run.proofs.Endings.{finished, line_too_long, trace_too_long, line_ends, cut_short, nothing_written}
 use Rattle.audit_run.proofs.run.run.Goals as goal
 
 pub trace-init : goal.trace-init
@@ -14,7 +14,7 @@ returns-in-Ends g c =
 pub trace-preserved : goal.trace-preserved
 trace-preserved g c =
     let steps = rw c.in-Ok-Some.field-0-is at c.in-Ok-Some.ensures.1 in
-    line_taken _ _ _ _ _ _ _ _ _ _ _ _ c.trace.invariant steps c.line.ensures c.in-Goes.ensures.takes.1 c.take_line.ensures.later
+    line_taken _ _ _ _ _ _ _ _ _ _ _ _ c.trace.invariant steps c.line.ensures c.in-GoesOn.ensures.takes.1 c.take_line.ensures.later
 
 pub trace-smaller : goal.trace-smaller
 trace-smaller g c =
@@ -40,3 +40,9 @@ pub returns-in-Err-TraceTooLong : goal.returns-in-Err-TraceTooLong
 returns-in-Err-TraceTooLong g c =
     let steps = rw c.in-Err-TraceTooLong.field-0-is at c.in-Err-TraceTooLong.ensures.1 in
     trace_too_long _ _ _ _ _ _ _ _ _ c.trace.invariant steps c.refuse-in-Err-TraceTooLong.ensures.ends
+
+pub returns-in_default : goal.returns-in_default
+returns-in_default g c = nothing_written _ _ refl
+
+pub returns-in_default-make : goal.returns-in_default-make
+returns-in_default-make g c = nothing_written _ _ refl

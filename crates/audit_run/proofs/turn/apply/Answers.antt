@@ -1,13 +1,14 @@
 use Rattle.std.proofs.Common.{[]}
+use Rattle.heap_base.specs.Streams.{stream_of}
 use Rattle.graph_meaning.specs.Step.{step}
-use Rattle.audit_run.proofs.Turns.{run-not_applied, from_result_err, EndsRun-at, GoesOn-applied}
+use Rattle.audit_run.proofs.Turns.{from_result_err, IsTaken-applied, ends-not_applied}
 use Rattle.audit_run.proofs.turn.apply.Goals as goal
 
 pub returns-in-Ok-clause-takes : goal.returns-in-Ok-clause-takes
 returns-in-Ok-clause-takes g c =
-    ([], GoesOn-applied _ _ _ _ _ c.requires.applied c.in-Ok.ensures.applied c.in-Ok.ensures.collections c.in-Ok.ensures.violations)
+    ([], IsTaken-applied _ _ _ _ _ c.requires.applied c.in-Ok.ensures.applied c.in-Ok.ensures.rest)
 
 pub returns-in-Err-Refused-clause-takes : goal.returns-in-Err-Refused-clause-takes
 returns-in-Err-Refused-clause-takes g c =
     let refused = from_result_err (step c.args.auditor.now.heap c.args.event.now) c.in-Err-Refused.refusal (rw c.in-Err-Refused.field-0-is at c.in-Err-Refused.ensures.refused) in
-    λ items. EndsRun-at _ _ _ _ _ _ _ _ _ _ (run-not_applied _ _ _ _ _ items refused) (c.refuse.ensures.ends c.args.auditor.now.collections c.args.auditor.now.violations)
+    ends-not_applied _ _ _ _ (stream_of g.K.Sink.held g.K.Sink.faults c.args.sink.now) (stream_of g.K.Sink.held g.K.Sink.faults c.refuse.new.sink) _ c.requires.applied refused c.refuse.ensures.ends

@@ -1,0 +1,131 @@
+-- What follows from the statement on a run, status by status.
+use Rattle.std.proofs.Common.{◌≡◌, ◌⊎◌, ⊎_elim, inl, inr, ℕ, List, [], Option, Some, None, IfSome, refl, sym, ◌∙◌, ap, subst}
+use Rattle.std.proofs.lemmas.List.{append_cancel_left, append-nil}
+use Rattle.std.specs.Io.KnownBytes.{Appends, Consumes, IsAtEnd}
+use Rattle.heap_base.specs.Sinks.{AppendsPart}
+use Rattle.heap_base.specs.declared.status.Status.{Status}
+use Rattle.heap_base.specs.declared.status.Status.TheVariants.{Clean, Violated, TraceFault, ReadFault, WriteFault, NoMemory, Usage}
+use Rattle.graph_meaning.specs.Collecting.{Rules}
+use Rattle.report.specs.Report.{report_of, status_of}
+use Rattle.audit_run.specs.Known.{known_items}
+use Rattle.audit_run.specs.Outcome.{Outside, ReadsToEnd}
+use Rattle.audit_run.specs.Facts.{FactsFollow}
+
+-- the trace is that of the bytes that are told
+told : (left : Option (List ℕ)) (bytes trace : List ℕ) → left ≡ Some bytes → IfSome left (λ x. x ≡ trace) → trace ≡ bytes
+told None bytes trace e is = absurd (cc)
+told (Some x) bytes trace e is = let same : x ≡ bytes = cc in sym is ∙ same
+
+-- where all bytes were read, the source is at its end
+at_end_of : (left after : Option (List ℕ)) (bytes trace : List ℕ) → left ≡ Some bytes → trace ≡ bytes → Consumes left after trace → IsAtEnd after
+at_end_of None after bytes trace e same read = absurd (cc)
+at_end_of (Some x) None bytes trace e same read = absurd read
+at_end_of (Some x) (Some rest) bytes trace e same read =
+    let left : x ≡ bytes = cc in
+    append_cancel_left trace rest [] (sym read ∙ left ∙ sym same ∙ sym (append-nil trace))
+
+-- a run to the end of the trace
+pub record HasEnd (rules : Rules) (old new : Outside) (answer : Status) (bytes : List ℕ) : Type 0 where
+  pub at_end : IsAtEnd new.source.bytes
+  pub report : Appends old.sink.bytes new.sink.bytes (report_of rules (known_items bytes))
+  pub status : answer ≡ status_of rules (known_items bytes)
+
+end_of : (rules : Rules) (old new : Outside) (answer : Status) (bytes : List ℕ) → old.source.bytes ≡ Some bytes → ReadsToEnd rules old new answer → HasEnd rules old new answer bytes
+end_of rules old new answer bytes e r =
+    let same = told old.source.bytes bytes r.bytes e r.trace in
+    record {
+      at_end = at_end_of old.source.bytes new.source.bytes bytes r.bytes e same r.read;
+      report = subst (λ (b : List ℕ). Appends old.sink.bytes new.sink.bytes (report_of rules (known_items b))) same r.report;
+      status = r.status ∙ ap (λ b. status_of rules (known_items b)) same;
+    }
+
+neither : {A B : Type 0} {P : Type 0} → ¬ A → ¬ B → A ⊎ B → P
+neither not_a not_b either = absurd (⊎_elim not_a not_b either)
+
+pub facts_follow : FactsFollow
+facts_follow rules old new Clean bytes e r =
+    let f = end_of rules old new Clean bytes e r in
+    record {
+      at_end = λ _. f.at_end;
+      report = λ _. f.report;
+      status = λ _. f.status;
+      trace_fault = λ is. absurd (cc);
+      fault_report = λ is. absurd (cc);
+      hides_no_refusal = λ hidden. absurd (let status = f.status in cc);
+      read_fault = λ is. absurd (cc);
+      write_fault = λ is. absurd (cc);
+      part = neither (λ is. cc) (λ is. cc);
+      taken = λ is. cc;
+      complete = λ _ _ _. inl refl;
+    }
+facts_follow rules old new Violated bytes e r =
+    let f = end_of rules old new Violated bytes e r in
+    record {
+      at_end = λ _. f.at_end;
+      report = λ _. f.report;
+      status = λ _. f.status;
+      trace_fault = λ is. absurd (cc);
+      fault_report = λ is. absurd (cc);
+      hides_no_refusal = λ hidden. absurd (let status = f.status in cc);
+      read_fault = λ is. absurd (cc);
+      write_fault = λ is. absurd (cc);
+      part = neither (λ is. cc) (λ is. cc);
+      taken = λ is. cc;
+      complete = λ _ _ _. inr (inl refl);
+    }
+facts_follow rules old new TraceFault bytes e r =
+    let same = told old.source.bytes bytes r.bytes e r.trace in
+    let refused : status_of rules (known_items bytes) ≡ TraceFault = ap (λ b. status_of rules (known_items b)) (sym same) ∙ r.refused in
+    record {
+      at_end = neither (λ is. cc) (λ is. cc);
+      report = neither (λ is. cc) (λ is. cc);
+      status = neither (λ is. cc) (λ is. cc);
+      trace_fault = λ _. refused;
+      fault_report = λ _. subst (λ (b : List ℕ). Appends old.sink.bytes new.sink.bytes (report_of rules (known_items b))) same r.report;
+      hides_no_refusal = λ _. ((λ is. cc), (λ is. cc));
+      read_fault = λ is. absurd (cc);
+      write_fault = λ is. absurd (cc);
+      part = neither (λ is. cc) (λ is. cc);
+      taken = λ is. cc;
+      complete = λ none _ _. absurd (none refused);
+    }
+facts_follow rules old new ReadFault bytes e r = record {
+  at_end = neither (λ is. cc) (λ is. cc);
+  report = neither (λ is. cc) (λ is. cc);
+  status = neither (λ is. cc) (λ is. cc);
+  trace_fault = λ is. absurd (cc);
+  fault_report = λ is. absurd (cc);
+  hides_no_refusal = λ _. ((λ is. cc), (λ is. cc));
+  read_fault = λ _. r;
+  write_fault = λ is. absurd (cc);
+  part = neither (λ is. cc) (λ is. cc);
+  taken = λ is. cc;
+  complete = λ _ none _. absurd (none r.0);
+}
+facts_follow rules old new WriteFault bytes e r = record {
+  at_end = neither (λ is. cc) (λ is. cc);
+  report = neither (λ is. cc) (λ is. cc);
+  status = neither (λ is. cc) (λ is. cc);
+  trace_fault = λ is. absurd (cc);
+  fault_report = λ is. absurd (cc);
+  hides_no_refusal = λ _. ((λ is. cc), (λ is. cc));
+  read_fault = λ is. absurd (cc);
+  write_fault = λ _. r.0;
+  part = λ _. subst (λ (b : List ℕ). AppendsPart old.sink.bytes new.sink.bytes (report_of rules (known_items b))) (told old.source.bytes bytes r.1.bytes e r.1.trace) r.1.part;
+  taken = λ is. cc;
+  complete = λ _ _ none. absurd (none r.0);
+}
+facts_follow rules old new NoMemory bytes e r = record {
+  at_end = neither (λ is. cc) (λ is. cc);
+  report = neither (λ is. cc) (λ is. cc);
+  status = neither (λ is. cc) (λ is. cc);
+  trace_fault = λ is. absurd (cc);
+  fault_report = λ is. absurd (cc);
+  hides_no_refusal = λ _. ((λ is. cc), (λ is. cc));
+  read_fault = λ is. absurd (cc);
+  write_fault = λ is. absurd (cc);
+  part = λ _. subst (λ (b : List ℕ). AppendsPart old.sink.bytes new.sink.bytes (report_of rules (known_items b))) (told old.source.bytes bytes r.bytes e r.trace) r.part;
+  taken = λ is. cc;
+  complete = λ _ _ _. inr (inr refl);
+}
+facts_follow rules old new Usage bytes e r = absurd r

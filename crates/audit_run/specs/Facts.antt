@@ -1,0 +1,34 @@
+-- What follows from the statement on a run, for a source that tells its bytes: each fact in a line.
+use Rattle.std.specs.Prelude.{◌≡◌, ◌≢◌, ◌⊎◌, ℕ, List, Some}
+use Rattle.std.specs.Io.KnownBytes.{Appends, IsAtEnd}
+use Rattle.heap_base.specs.Causes.{Rose}
+use Rattle.heap_base.specs.Sinks.{AppendsPart}
+use Rattle.heap_base.specs.declared.status.Status.{Status}
+use Rattle.heap_base.specs.declared.status.Status.TheVariants.{Clean, Violated, TraceFault, ReadFault, WriteFault, NoMemory, Usage}
+use Rattle.graph_meaning.specs.Collecting.{Rules}
+use Rattle.report.specs.Report.{report_of, status_of}
+use Rattle.audit_run.specs.Known.{known_items}
+use Rattle.audit_run.specs.Outcome.{Outside, IsCutShort, Ended}
+
+-- At Clean and Violated the source is at its end, exactly the report on its bytes was appended, and the status is theirs;
+-- at TraceFault a line is refused, and exactly the report was appended; a refused line is never hidden; a failed read or
+-- write has its cause; what was appended is a beginning of the report; and where no line is refused and no count of
+-- faults rose, only a want of memory keeps the run from its end.
+pub record HasFacts (rules : Rules) (old new : Outside) (answer : Status) (bytes : List ℕ) : Type 0 where
+  pub at_end : (answer ≡ Clean) ⊎ (answer ≡ Violated) → IsAtEnd new.source.bytes
+  pub report : (answer ≡ Clean) ⊎ (answer ≡ Violated) → Appends old.sink.bytes new.sink.bytes (report_of rules (known_items bytes))
+  pub status : (answer ≡ Clean) ⊎ (answer ≡ Violated) → answer ≡ status_of rules (known_items bytes)
+  pub trace_fault : answer ≡ TraceFault → status_of rules (known_items bytes) ≡ TraceFault
+  pub fault_report : answer ≡ TraceFault → Appends old.sink.bytes new.sink.bytes (report_of rules (known_items bytes))
+  pub hides_no_refusal : status_of rules (known_items bytes) ≡ TraceFault → (answer ≢ Clean) × (answer ≢ Violated)
+  pub read_fault : answer ≡ ReadFault → Rose old.source.faults new.source.faults × IsCutShort rules old new
+  pub write_fault : answer ≡ WriteFault → Rose old.sink.faults new.sink.faults
+  pub part : (answer ≡ WriteFault) ⊎ (answer ≡ NoMemory) → AppendsPart old.sink.bytes new.sink.bytes (report_of rules (known_items bytes))
+  pub taken : answer ≢ Usage
+  pub complete : status_of rules (known_items bytes) ≢ TraceFault → ¬ Rose old.source.faults new.source.faults → ¬ Rose old.sink.faults new.sink.faults →
+      (answer ≡ Clean) ⊎ (answer ≡ Violated) ⊎ (answer ≡ NoMemory)
+
+-- Each of these follows, whatever the status.
+abbrev pub FactsFollow : Type 0
+FactsFollow =
+    (rules : Rules) (old new : Outside) (answer : Status) (bytes : List ℕ) → old.source.bytes ≡ Some bytes → Ended rules old new answer → HasFacts rules old new answer bytes
