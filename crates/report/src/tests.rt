@@ -12,179 +12,178 @@ fn name(alloc: Global, text: &str) -> Result<Name, Fail> {
     Ok(Name::of(alloc, text)?.ok_or("not a name")?)
 }
 
-/// The text of the second collection of a trace, with this verdict.
-fn check(rt: &impl Abort, alloc: Global, verdict: Verdict, expected: &str) -> Result<(), Fail> {
+/// A path from the root `r`, which names the object 1.
+fn path(alloc: Global, kind: &str, steps: StepList, left_out: u32) -> Result<Shown, Fail> {
+    let from = PathFrom::Root {
+        name: name(alloc, "r")?,
+        id: 1,
+        kind: name(alloc, kind)?,
+    };
+    Ok(Shown::Path(PathView {
+        from,
+        steps,
+        left_out,
+    }))
+}
+
+/// The steps by slot 0 through objects of one type, from this id to before that.
+fn push_links(
+    rt: &impl Abort,
+    alloc: Global,
+    steps: &mut StepList,
+    first: u32,
+    end: u32,
+) -> Result<(), Fail> {
+    for id in first..end {
+        assert!(rt; steps.len() < 64);
+        let kind = name(alloc, "Link")?;
+        steps.push(PathStep { slot: 0, id, kind })?;
+    }
+    Ok(())
+}
+
+/// One verdict of each kind, and a second with an owner that is gone.
+fn one_of_each(rt: &impl Abort, alloc: Global) -> Result<VerdictList, Fail> {
     let mut verdicts = VerdictList::empty(alloc);
-    verdicts.push(verdict)?;
+    verdicts.push(Verdict::Dead {
+        id: 2,
+        kind: name(alloc, "A")?,
+        path: Shown::LeftOut,
+    })?;
+    verdicts.push(Verdict::Instances {
+        kind: name(alloc, "Config")?,
+        limit: 0,
+        found: 2,
+        path: path(alloc, "Config", StepList::empty(alloc), 0)?,
+    })?;
+    verdicts.push(Verdict::Unshared {
+        id: 3,
+        kind: name(alloc, "B")?,
+        refs: 4,
+        first: Shown::LeftOut,
+        second: Shown::LeftOut,
+    })?;
+    let mut steps = StepList::empty(alloc);
+    push_links(rt, alloc, &mut steps, 5, 6)?;
+    verdicts.push(Verdict::OwnedBy {
+        id: 5,
+        kind: name(alloc, "Link")?,
+        owner: 4,
+        gone: false,
+        path: path(alloc, "Cache", steps, 0)?,
+    })?;
+    verdicts.push(Verdict::OwnedBy {
+        id: 6,
+        kind: name(alloc, "C")?,
+        owner: 4_294_967_295,
+        gone: true,
+        path: Shown::LeftOut,
+    })?;
+    Ok(verdicts)
+}
+
+#[test]
+fn a_collection_has_a_line_for_each_verdict(rt: HostRuntime) -> Result<(), Fail> {
     let collection = Collection {
-        number: 2,
-        live: 3,
-        traced: 3,
+        number: 10,
+        live: 9,
+        traced: 7,
+        freed: 2,
+        cleared: 3,
+        verdicts: one_of_each(&rt, rt.alloc())?,
+    };
+    let text = collection_text(rt.alloc(), &collection)?;
+    let want = "gc 10 live 9 traced 7 freed 2\n\
+        gc 10 dead 2 A: path left out\n\
+        gc 10 instances Config limit 0 found 2: root r -> 1 Config\n\
+        gc 10 unshared 3 B refs 4: path left out\n\
+        gc 10 ownedby 5 Link owner 4: root r -> 1 Cache [0] -> 5 Link\n\
+        gc 10 ownedby 6 C owner 4294967295 gone: path left out\n\
+        gc 10 cleared 3\n";
+    assert_eq!(rt; text.as_slice(), want.as_bytes());
+    Ok(())
+}
+
+#[test]
+fn a_long_path_says_how_many_steps_are_left_out(rt: HostRuntime) -> Result<(), Fail> {
+    let alloc = rt.alloc();
+    let mut steps = StepList::empty(alloc);
+    push_links(&rt, alloc, &mut steps, 2, 34)?;
+    push_links(&rt, alloc, &mut steps, 39, 71)?;
+    let mut verdicts = VerdictList::empty(alloc);
+    verdicts.push(Verdict::Dead {
+        id: 70,
+        kind: name(alloc, "Link")?,
+        path: path(alloc, "Link", steps, 5)?,
+    })?;
+    let collection = Collection {
+        number: 1,
+        live: 70,
+        traced: 70,
         freed: 0,
         cleared: 0,
         verdicts,
     };
+    let mut want = String::from_str(
+        alloc,
+        "gc 1 live 70 traced 70 freed 0\ngc 1 dead 70 Link: root r -> 1 Link",
+    )?;
+    for id in 2..34 {
+        want.push_str(format!(in alloc; " [0] -> {id} Link")?.as_str())?;
+    }
+    want.push_str(" ... 5 steps ...")?;
+    for id in 39..71 {
+        want.push_str(format!(in alloc; " [0] -> {id} Link")?.as_str())?;
+    }
+    want.push_str("\n")?;
     let text = collection_text(alloc, &collection)?;
-    assert_eq!(rt; text.as_slice(), expected.as_bytes());
-    Ok(())
-}
-
-fn fault(
-    rt: &impl Abort,
-    alloc: Global,
-    line: u64,
-    refusal: Refusal,
-    expected: &str,
-) -> Result<(), Fail> {
-    let text = fault_text(alloc, line, &refusal)?;
-    assert_eq!(rt; text.as_slice(), expected.as_bytes());
-    Ok(())
-}
-
-/// One step by a slot from a root's object.
-fn one_step(alloc: Global, from: PathFrom, slot: u32, id: u32, kind: Name) -> Result<Shown, Fail> {
-    let mut steps = StepList::empty(alloc);
-    steps.push(PathStep { slot, id, kind })?;
-    Ok(Shown::Path(PathView {
-        from,
-        steps,
-        left_out: 0,
-    }))
-}
-
-#[test]
-fn a_path_that_is_left_out(rt: HostRuntime) -> Result<(), Fail> {
-    let kind = name(rt.alloc(), "A")?;
-    let dead = Verdict::Dead {
-        id: 2,
-        kind,
-        path: Shown::LeftOut,
-    };
-    check(
-        &rt,
-        rt.alloc(),
-        dead,
-        "gc 2 live 3 traced 3 freed 0\ngc 2 dead 2 A: path left out\n",
-    )
-}
-
-#[test]
-fn two_paths_that_are_left_out(rt: HostRuntime) -> Result<(), Fail> {
-    let kind = name(rt.alloc(), "B")?;
-    let unshared = Verdict::Unshared {
-        id: 3,
-        kind,
-        refs: 4,
-        first: Shown::LeftOut,
-        second: Shown::LeftOut,
-    };
-    check(
-        &rt,
-        rt.alloc(),
-        unshared,
-        "gc 2 live 3 traced 3 freed 0\ngc 2 unshared 3 B refs 4: path left out\n",
-    )
-}
-
-#[test]
-fn a_path_from_a_root(rt: HostRuntime) -> Result<(), Fail> {
-    let root = name(rt.alloc(), "c")?;
-    let cache = name(rt.alloc(), "Cache")?;
-    let from = PathFrom::Root {
-        name: root,
-        id: 2,
-        kind: cache,
-    };
-    let step_kind = name(rt.alloc(), "Entry")?;
-    let path = one_step(rt.alloc(), from, 0, 3, step_kind)?;
-    let kind = name(rt.alloc(), "Entry")?;
-    let entry = Verdict::OwnedBy {
-        id: 3,
-        kind,
-        owner: 1,
-        gone: false,
-        path,
-    };
-    check(
-        &rt,
-        rt.alloc(),
-        entry,
-        "gc 2 live 3 traced 3 freed 0\ngc 2 ownedby 3 Entry owner 1: root c -> 2 Cache [0] -> 3 Entry\n",
-    )
-}
-
-#[test]
-fn what_was_cleared_stands_behind_the_verdicts(rt: HostRuntime) -> Result<(), Fail> {
-    let mut verdicts = VerdictList::empty(rt.alloc());
-    verdicts.push(Verdict::Dead {
-        id: 7,
-        kind: name(rt.alloc(), "Order")?,
-        path: Shown::LeftOut,
-    })?;
-    let collection = Collection {
-        number: 1,
-        live: 4,
-        traced: 3,
-        freed: 1,
-        cleared: 2,
-        verdicts,
-    };
-    let text = collection_text(rt.alloc(), &collection)?;
-    assert_eq!(rt;
-        text.as_slice(),
-        b"gc 1 live 4 traced 3 freed 1\ngc 1 dead 7 Order: path left out\ngc 1 cleared 2\n".as_slice()
-    );
+    assert_eq!(rt; text.as_slice(), want.as_bytes());
     Ok(())
 }
 
 #[test]
-fn fault_lines(rt: HostRuntime) -> Result<(), Fail> {
-    fault(
-        &rt,
-        rt.alloc(),
-        1,
-        Refusal::LineTooLong,
-        "fault line 1: LineTooLong\n",
-    )?;
-    fault(
-        &rt,
-        rt.alloc(),
-        1,
-        Refusal::NotJson,
-        "fault line 1: NotJson\n",
-    )?;
-    fault(
-        &rt,
-        rt.alloc(),
-        1,
-        Refusal::MissingField(FieldName::OpField),
-        "fault line 1: MissingField op\n",
-    )?;
-    fault(
-        &rt,
-        rt.alloc(),
-        1,
-        Refusal::BadField(FieldName::ThreadField),
-        "fault line 1: BadField thread\n",
-    )?;
-    fault(
-        &rt,
-        rt.alloc(),
-        5,
-        Refusal::NotLive(7),
-        "fault line 5: NotLive 7\n",
-    )?;
-    fault(
-        &rt,
-        rt.alloc(),
-        11,
-        Refusal::NoRegion(0),
-        "fault line 11: NoRegion 0\n",
-    )
+fn a_fault_line_names_its_refusal(rt: HostRuntime) -> Result<(), Fail> {
+    let cases = [
+        (1, Refusal::LineTooLong, "fault line 1: LineTooLong\n"),
+        (2, Refusal::TraceTooLong, "fault line 2: TraceTooLong\n"),
+        (1, Refusal::NotJson, "fault line 1: NotJson\n"),
+        (1, Refusal::NotObject, "fault line 1: NotObject\n"),
+        (1, Refusal::UnknownOp, "fault line 1: UnknownOp\n"),
+        (
+            1,
+            Refusal::MissingField(FieldName::OpField),
+            "fault line 1: MissingField op\n",
+        ),
+        (
+            1,
+            Refusal::BadField(FieldName::ThreadField),
+            "fault line 1: BadField thread\n",
+        ),
+        (
+            1,
+            Refusal::BadField(FieldName::WeakField),
+            "fault line 1: BadField weak\n",
+        ),
+        (2, Refusal::IdNotRising(4), "fault line 2: IdNotRising 4\n"),
+        (9, Refusal::TooManyObjects, "fault line 9: TooManyObjects\n"),
+        (9, Refusal::TooManySlots, "fault line 9: TooManySlots\n"),
+        (5, Refusal::NotLive(7), "fault line 5: NotLive 7\n"),
+        (2, Refusal::BadSlot(1), "fault line 2: BadSlot 1\n"),
+        (9, Refusal::TooManyRoots, "fault line 9: TooManyRoots\n"),
+        (9, Refusal::TooManyTypes, "fault line 9: TooManyTypes\n"),
+        (65, Refusal::TooDeep(3), "fault line 65: TooDeep 3\n"),
+        (11, Refusal::NoRegion(0), "fault line 11: NoRegion 0\n"),
+        (2, Refusal::SelfOwned(1), "fault line 2: SelfOwned 1\n"),
+    ];
+    for (line, refusal, want) in cases {
+        let text = fault_text(rt.alloc(), line, &refusal)?;
+        assert_eq!(rt; text.as_slice(), want.as_bytes(), "{want}");
+    }
+    Ok(())
 }
 
 #[test]
-fn end_line(rt: HostRuntime) -> Result<(), Fail> {
+fn the_end_line_has_both_totals(rt: HostRuntime) -> Result<(), Fail> {
     let text = end_text(rt.alloc(), 4, 2)?;
     assert_eq!(rt; text.as_slice(), b"end gcs 4 violations 2\n".as_slice());
     Ok(())
