@@ -1,6 +1,9 @@
+ghost use Rattle.std.specs.Prelude.{ℕ, ◌<◌, Some};
+
 use crate::audit;
-use heap_base::{MemSink, MemSource, OpenGate, OutOfMemory, Status};
+use heap_base::{Failed, MemSink, MemSource, OpenGate, OutOfMemory, Sink, Source, Status};
 use std::alloc::Global;
+use std::cell::Cell;
 use std::process::Abort;
 use std::test::Fail;
 use std::thread::Threads;
@@ -183,12 +186,20 @@ fn part(bytes: &[u8]) -> (&'static str, &'static str) {
     }
 }
 
+/// The whole report on `TWO_GCS`: texts of 62, 62 and 23 bytes.
+fn two_gcs_report(alloc: Global) -> Result<Vec<u8>, Fail> {
+    let mut report = Vec::from_slice(alloc, FIRST_GC.as_bytes())?;
+    report.extend_from_slice(SECOND_GC.as_bytes())?;
+    report.extend_from_slice(b"end gcs 2 violations 2\n")?;
+    Ok(report)
+}
+
+/// A read that fails ends the run, and no other read is made. `TWO_GCS` has 131 bytes, and one read more meets its end.
 #[test]
 fn each_read_fails_in_turn(rt: HostRuntime) -> Result<(), Fail> {
     let trace = TWO_GCS.as_bytes();
-    for piece in [1u32, 7, 40] {
-        let mut ended = false;
-        for k in 1..400u64 {
+    for (piece, reads) in [(1u32, 132u64), (7, 20), (40, 5)] {
+        for k in 1..=reads {
             let (status, sink) = audited(
                 &rt,
                 rt.alloc(),
@@ -196,11 +207,7 @@ fn each_read_fails_in_turn(rt: HostRuntime) -> Result<(), Fail> {
                 (piece, &[k]),
                 (65_536, 4096, &[]),
             )?;
-            if status != Status::ReadFault {
-                assert_eq!(rt; status, Status::Violated, "read {k} in pieces of {piece}");
-                ended = true;
-                break;
-            }
+            assert_eq!(rt; status, Status::ReadFault, "read {k} in pieces of {piece}");
             let taken = ((k - 1) as usize)
                 .saturating_mul(piece as usize)
                 .min(trace.len());
@@ -213,57 +220,188 @@ fn each_read_fails_in_turn(rt: HostRuntime) -> Result<(), Fail> {
                 "read {k} in pieces of {piece}"
             );
         }
-        assert!(rt; ended);
+        let past = [reads.saturating_add(1)];
+        let (status, sink) = audited(&rt, rt.alloc(), trace, (piece, &past), (65_536, 4096, &[]))?;
+        assert_eq!(rt;
+            status,
+            Status::Violated,
+            "no read fails in pieces of {piece}"
+        );
+        assert_eq!(rt; sink.bytes(), two_gcs_report(rt.alloc())?.as_slice());
     }
+    Ok(())
+}
+
+/// Write number k of pieces of this size fails, for each k: as many bytes of the report stand as `held` says. No write
+/// after these is made.
+fn expect_write_faults<R: Threads + Abort + Sync>(
+    rt: &R,
+    alloc: Global,
+    piece: u32,
+    held: &[u8],
+) -> Result<(), Fail>
+    requires { 0 < piece }
+{
+    let report = two_gcs_report(alloc)?;
+    for (k, bytes) in (1u64..).zip(held) {
+        let (status, sink) = audited(
+            rt,
+            alloc,
+            TWO_GCS.as_bytes(),
+            (4096, &[]),
+            (65_536, piece, &[k]),
+        )?;
+        assert_eq!(rt;
+            status,
+            Status::WriteFault,
+            "write {k} in pieces of {piece}"
+        );
+        assert_eq!(rt;
+            sink.bytes().len(),
+            *bytes as usize,
+            "write {k} in pieces of {piece}"
+        );
+        assert!(rt; report.starts_with(sink.bytes()));
+    }
+    let past = [(held.len() as u64).saturating_add(1)];
+    let (status, sink) = audited(
+        rt,
+        alloc,
+        TWO_GCS.as_bytes(),
+        (4096, &[]),
+        (65_536, piece, &past),
+    )?;
+    assert_eq!(rt; status, Status::Violated);
+    assert_eq!(rt; sink.bytes(), report.as_slice());
     Ok(())
 }
 
 #[test]
 fn each_write_fails_in_turn(rt: HostRuntime) -> Result<(), Fail> {
-    let trace = TWO_GCS.as_bytes();
-    let mut report = Vec::from_slice(rt.alloc(), FIRST_GC.as_bytes())?;
-    report.extend_from_slice(SECOND_GC.as_bytes())?;
-    report.extend_from_slice(b"end gcs 2 violations 2\n")?;
-    for piece in [1u32, 7, 40] {
-        let mut ended = false;
-        for k in 1..400u64 {
-            let (status, sink) = audited(
-                &rt,
-                rt.alloc(),
-                trace,
-                (4096, &[]),
-                (65_536, piece, &[k]),
-            )?;
-            assert!(rt;
-                report.starts_with(sink.bytes()),
-                "write {k} in pieces of {piece}"
-            );
-            if status != Status::WriteFault {
-                assert_eq!(rt; status, Status::Violated, "write {k} in pieces of {piece}");
-                assert_eq!(rt; sink.bytes(), report.as_slice());
-                ended = true;
-                break;
-            }
-        }
-        assert!(rt; ended);
-    }
-    for room in 0..=report.len() {
-        assert!(rt; room <= 1000);
+    expect_write_faults(&rt, rt.alloc(), 40, &[0, 40, 62, 102, 124])?;
+    expect_write_faults(
+        &rt,
+        rt.alloc(),
+        7,
+        &[
+            0, 7, 14, 21, 28, 35, 42, 49, 56, 62, 69, 76, 83, 90, 97, 104, 111, 118, 124, 131, 138,
+            145,
+        ],
+    )
+}
+
+#[test]
+fn a_sink_that_is_full_fails(rt: HostRuntime) -> Result<(), Fail> {
+    let report = two_gcs_report(rt.alloc())?;
+    for room in 0..147 {
         let (status, sink) = audited(
             &rt,
             rt.alloc(),
-            trace,
+            TWO_GCS.as_bytes(),
             (4096, &[]),
-            (room as u32, 4096, &[]),
+            (room, 4096, &[]),
         )?;
-        assert_eq!(rt; sink.bytes(), &report[..room], "room for {room} bytes");
-        let wanted = if room < report.len() {
-            Status::WriteFault
-        } else {
-            Status::Violated
-        };
-        assert_eq!(rt; status, wanted, "room for {room} bytes");
+        assert_eq!(rt; status, Status::WriteFault, "room for {room} bytes");
+        assert_eq!(rt; sink.bytes().len(), room as usize);
+        assert!(rt; report.starts_with(sink.bytes()));
     }
+    let (status, sink) = audited(
+        &rt,
+        rt.alloc(),
+        TWO_GCS.as_bytes(),
+        (4096, &[]),
+        (147, 4096, &[]),
+    )?;
+    assert_eq!(rt; status, Status::Violated);
+    assert_eq!(rt; sink.bytes(), report.as_slice());
+    Ok(())
+}
+
+/// What a run asks of its source and its sink, call by call: `r` for a read, `w` for a write.
+#[derive(Drop)]
+struct Calls {
+    made: Cell<[u8; 8]>,
+    count: Cell<usize>,
+}
+
+impl Calls {
+    fn note(&self, call: u8) {
+        let mut made = self.made.get();
+        if let Some(place) = made.get_mut(self.count.get()) {
+            *place = call;
+        }
+        self.made.set(made);
+        self.count.set(self.count.get().saturating_add(1));
+    }
+}
+
+/// A source that notes each read.
+#[derive(Drop)]
+struct NotedSource<'a> {
+    source: MemSource,
+    calls: &'a Calls,
+}
+
+impl<'a> Source for NotedSource<'a> {
+    ghost left = { λ s. Some s.source.left };
+
+    ghost faults = { λ s. s.source.faults };
+
+    fn read(&mut self, into: &mut [u8]) -> Result<usize, Failed> {
+        self.calls.note(b'r');
+        self.source.read(into)
+    }
+}
+
+/// A sink that notes each write.
+#[derive(Drop)]
+struct NotedSink<'a> {
+    sink: MemSink,
+    calls: &'a Calls,
+}
+
+impl<'a> Sink for NotedSink<'a> {
+    ghost held = { λ s. Some s.sink.held };
+
+    ghost faults = { λ s. s.sink.faults };
+
+    fn write(&mut self, piece: &[u8]) -> Result<usize, Failed> {
+        self.calls.note(b'w');
+        self.sink.write(piece)
+    }
+}
+
+/// Each line comes by a read of its own: the text of its collection is written, by one write, before the next read.
+#[test]
+fn a_collection_is_written_before_the_next_read(rt: HostRuntime) -> Result<(), Fail> {
+    let calls = Calls {
+        made: Cell::new([b' '; 8]),
+        count: Cell::new(0),
+    };
+    let mut source = NotedSource {
+        source: MemSource::make(
+            rt.alloc(),
+            b"{\"op\":\"collect\"}\n{\"op\":\"collect\"}\n",
+            17,
+            &[],
+        )?,
+        calls: &calls,
+    };
+    let mut sink = NotedSink {
+        sink: MemSink::make(rt.alloc(), 4096, 4096, &[])?,
+        calls: &calls,
+    };
+    let status = audit(
+        &rt,
+        rt.alloc(),
+        &["gcaudit"],
+        &mut source,
+        &mut sink,
+        &OpenGate,
+    );
+    assert_eq!(rt; status, Status::Clean);
+    assert_eq!(rt; calls.made.get(), *b"rwrwrw  ");
+    assert_eq!(rt; calls.count.get(), 6);
     Ok(())
 }
 
