@@ -8,8 +8,8 @@ use Rattle.heap_base.specs.declared.status.Status.TheVariants.{Clean, Violated, 
 use Rattle.graph_meaning.specs.Collecting.{Rules}
 use Rattle.report.specs.Report.{report_of, status_of}
 use Rattle.audit_run.specs.Known.{known_items}
-use Rattle.audit_run.specs.Outcome.{Outside, ReadsToEnd}
-use Rattle.audit_run.specs.Facts.{FactsFollow}
+use Rattle.audit_run.specs.Outcome.{Outside, ReadsToEnd, AppendsPartOfReport}
+use Rattle.audit_run.specs.Facts.{IsWhole, HasFacts, FactsFollow}
 
 -- the trace is that of the bytes that are told
 told : (left : Option (List ℕ)) (bytes trace : List ℕ) → left ≡ Some bytes → IfSome left (λ x. x ≡ trace) → trace ≡ bytes
@@ -24,14 +24,8 @@ at_end_of (Some x) (Some rest) bytes trace e same read =
     let left : x ≡ bytes = cc in
     append_cancel_left trace rest [] (sym read ∙ left ∙ sym same ∙ sym (append-nil trace))
 
--- a run to the end of the trace
-pub record HasEnd (rules : Rules) (old new : Outside) (answer : Status) (bytes : List ℕ) : Type 0 where
-  pub at_end : IsAtEnd new.source.bytes
-  pub report : Appends old.sink.bytes new.sink.bytes (report_of rules (known_items bytes))
-  pub status : answer ≡ status_of rules (known_items bytes)
-
-end_of : (rules : Rules) (old new : Outside) (answer : Status) (bytes : List ℕ) → old.source.bytes ≡ Some bytes → ReadsToEnd rules old new answer → HasEnd rules old new answer bytes
-end_of rules old new answer bytes e r =
+whole_of : (rules : Rules) (old new : Outside) (answer : Status) (bytes : List ℕ) → old.source.bytes ≡ Some bytes → ReadsToEnd rules old new answer → IsWhole rules old new answer bytes
+whole_of rules old new answer bytes e r =
     let same = told old.source.bytes bytes r.bytes e r.trace in
     record {
       at_end = at_end_of old.source.bytes new.source.bytes bytes r.bytes e same r.read;
@@ -39,47 +33,42 @@ end_of rules old new answer bytes e r =
       status = r.status ∙ ap (λ b. status_of rules (known_items b)) same;
     }
 
+part_of : (rules : Rules) (old new : Outside) (bytes : List ℕ) → old.source.bytes ≡ Some bytes → AppendsPartOfReport rules old new → AppendsPart old.sink.bytes new.sink.bytes (report_of rules (known_items bytes))
+part_of rules old new bytes e r =
+    subst (λ (b : List ℕ). AppendsPart old.sink.bytes new.sink.bytes (report_of rules (known_items b))) (told old.source.bytes bytes r.bytes e r.trace) r.part
+
+-- ---- a status is none but itself
+
 neither : {A B : Type 0} {P : Type 0} → ¬ A → ¬ B → A ⊎ B → P
 neither not_a not_b either = absurd (⊎_elim not_a not_b either)
 
+-- a run that came to its end, whichever of the two it answers
+module _ (rules : Rules) (old new : Outside) (answer : Status) (bytes : List ℕ) (ends : (answer ≡ Clean) ⊎ (answer ≡ Violated)) where
+  no_other : (s : Status) → ¬ (s ≡ Clean) → ¬ (s ≡ Violated) → ¬ (answer ≡ s)
+  no_other s not_clean not_violated is =
+      ⊎_elim (λ clean. not_clean (sym is ∙ clean)) (λ violated. not_violated (sym is ∙ violated)) ends
+
+  facts_at_end : IsWhole rules old new answer bytes → HasFacts rules old new answer bytes
+  facts_at_end w = record {
+    whole = λ _. w;
+    trace_fault = λ is. absurd (no_other TraceFault (λ x. cc) (λ x. cc) is);
+    fault_report = λ is. absurd (no_other TraceFault (λ x. cc) (λ x. cc) is);
+    hides_no_refusal = λ refused. absurd (no_other TraceFault (λ x. cc) (λ x. cc) (w.status ∙ refused));
+    read_fault = λ is. absurd (no_other ReadFault (λ x. cc) (λ x. cc) is);
+    write_fault = λ is. absurd (no_other WriteFault (λ x. cc) (λ x. cc) is);
+    part = neither (no_other WriteFault (λ x. cc) (λ x. cc)) (no_other NoMemory (λ x. cc) (λ x. cc));
+    taken = no_other Usage (λ x. cc) (λ x. cc);
+    complete = λ _ _ _. ⊎_elim inl (λ violated. inr (inl violated)) ends;
+  }
+
 pub facts_follow : FactsFollow
-facts_follow rules old new Clean bytes e r =
-    let f = end_of rules old new Clean bytes e r in
-    record {
-      at_end = λ _. f.at_end;
-      report = λ _. f.report;
-      status = λ _. f.status;
-      trace_fault = λ is. absurd (cc);
-      fault_report = λ is. absurd (cc);
-      hides_no_refusal = λ hidden. absurd (let status = f.status in cc);
-      read_fault = λ is. absurd (cc);
-      write_fault = λ is. absurd (cc);
-      part = neither (λ is. cc) (λ is. cc);
-      taken = λ is. cc;
-      complete = λ _ _ _. inl refl;
-    }
-facts_follow rules old new Violated bytes e r =
-    let f = end_of rules old new Violated bytes e r in
-    record {
-      at_end = λ _. f.at_end;
-      report = λ _. f.report;
-      status = λ _. f.status;
-      trace_fault = λ is. absurd (cc);
-      fault_report = λ is. absurd (cc);
-      hides_no_refusal = λ hidden. absurd (let status = f.status in cc);
-      read_fault = λ is. absurd (cc);
-      write_fault = λ is. absurd (cc);
-      part = neither (λ is. cc) (λ is. cc);
-      taken = λ is. cc;
-      complete = λ _ _ _. inr (inl refl);
-    }
+facts_follow rules old new Clean bytes e r = facts_at_end rules old new Clean bytes (inl refl) (whole_of rules old new Clean bytes e r)
+facts_follow rules old new Violated bytes e r = facts_at_end rules old new Violated bytes (inr refl) (whole_of rules old new Violated bytes e r)
 facts_follow rules old new TraceFault bytes e r =
     let same = told old.source.bytes bytes r.bytes e r.trace in
     let refused : status_of rules (known_items bytes) ≡ TraceFault = ap (λ b. status_of rules (known_items b)) (sym same) ∙ r.refused in
     record {
-      at_end = neither (λ is. cc) (λ is. cc);
-      report = neither (λ is. cc) (λ is. cc);
-      status = neither (λ is. cc) (λ is. cc);
+      whole = neither (λ is. cc) (λ is. cc);
       trace_fault = λ _. refused;
       fault_report = λ _. subst (λ (b : List ℕ). Appends old.sink.bytes new.sink.bytes (report_of rules (known_items b))) same r.report;
       hides_no_refusal = λ _. ((λ is. cc), (λ is. cc));
@@ -90,9 +79,7 @@ facts_follow rules old new TraceFault bytes e r =
       complete = λ none _ _. absurd (none refused);
     }
 facts_follow rules old new ReadFault bytes e r = record {
-  at_end = neither (λ is. cc) (λ is. cc);
-  report = neither (λ is. cc) (λ is. cc);
-  status = neither (λ is. cc) (λ is. cc);
+  whole = neither (λ is. cc) (λ is. cc);
   trace_fault = λ is. absurd (cc);
   fault_report = λ is. absurd (cc);
   hides_no_refusal = λ _. ((λ is. cc), (λ is. cc));
@@ -103,28 +90,24 @@ facts_follow rules old new ReadFault bytes e r = record {
   complete = λ _ none _. absurd (none r.0);
 }
 facts_follow rules old new WriteFault bytes e r = record {
-  at_end = neither (λ is. cc) (λ is. cc);
-  report = neither (λ is. cc) (λ is. cc);
-  status = neither (λ is. cc) (λ is. cc);
+  whole = neither (λ is. cc) (λ is. cc);
   trace_fault = λ is. absurd (cc);
   fault_report = λ is. absurd (cc);
   hides_no_refusal = λ _. ((λ is. cc), (λ is. cc));
   read_fault = λ is. absurd (cc);
   write_fault = λ _. r.0;
-  part = λ _. subst (λ (b : List ℕ). AppendsPart old.sink.bytes new.sink.bytes (report_of rules (known_items b))) (told old.source.bytes bytes r.1.bytes e r.1.trace) r.1.part;
+  part = λ _. part_of rules old new bytes e r.1;
   taken = λ is. cc;
   complete = λ _ _ none. absurd (none r.0);
 }
 facts_follow rules old new NoMemory bytes e r = record {
-  at_end = neither (λ is. cc) (λ is. cc);
-  report = neither (λ is. cc) (λ is. cc);
-  status = neither (λ is. cc) (λ is. cc);
+  whole = neither (λ is. cc) (λ is. cc);
   trace_fault = λ is. absurd (cc);
   fault_report = λ is. absurd (cc);
   hides_no_refusal = λ _. ((λ is. cc), (λ is. cc));
   read_fault = λ is. absurd (cc);
   write_fault = λ is. absurd (cc);
-  part = λ _. subst (λ (b : List ℕ). AppendsPart old.sink.bytes new.sink.bytes (report_of rules (known_items b))) (told old.source.bytes bytes r.bytes e r.trace) r.part;
+  part = λ _. part_of rules old new bytes e r;
   taken = λ is. cc;
   complete = λ _ _ _. inr (inr refl);
 }

@@ -24,7 +24,7 @@ use Rattle.report.specs.Report.{Totals, first_state, end_of_trace, refused_line,
 use Rattle.report.specs.Traces.{whole_lines}
 use Rattle.audit_core.specs.Audit.{Audit, pathless}
 use Rattle.audit_run.specs.Known.{known, known_items}
-use Rattle.audit_run.specs.Outcome.{Outside, IsTrace, Ended, AppendsPartOfReport}
+use Rattle.audit_run.specs.Outcome.{Outside, IsTrace, ReadsToEnd, Ended, AppendsPartOfReport}
 use Rattle.audit_run.specs.Turn.{Due, due, due_at, EndsRun, totals_of, state_at}
 use Rattle.trace_reader.proofs.Pieces.{items_from-append, items_from-given, items_from-line_too_long, items_from-trace_too_long}
 use Rattle.report.proofs.Runs.{LeadsTo, report_text-leads_to, run_status-leads_to, run-nil, run-refused, ending_of-leads_to, part_of-leads_to}
@@ -85,22 +85,19 @@ module _ (start now now' : Outside) (a : Audit) (n : ℕ) (done : List (List ℕ
     part = AppendsPart-behind start.sink.bytes now.sink.bytes now'.sink.bytes (collections_text made) _ _ whole_text before part;
   }
 
+  read_to_end : (status : Status) → Consumes start.source.bytes now'.source.bytes bytes → rest.status ≡ status → Appends now.sink.bytes now'.sink.bytes rest.text → ReadsToEnd pathless start now' status
+  read_to_end status read is text = record {
+    bytes = bytes;
+    trace = all.trace;
+    read = read;
+    report = appends_whole text;
+    status = sym (whole_status ∙ is);
+  }
+
   pub ended : (at_end : Bool) (status : Status) → start.sink.faults ≤ now.sink.faults → (IsTrue at_end → Consumes start.source.bytes now'.source.bytes bytes) →
       EndsRun at_end now.sink now'.sink rest status → Ended pathless start now' status
-  ended at_end Clean later end ends = record {
-    bytes = bytes;
-    trace = all.trace;
-    read = end ends.0;
-    report = appends_whole ends.2;
-    status = sym (whole_status ∙ ends.1);
-  }
-  ended at_end Violated later end ends = record {
-    bytes = bytes;
-    trace = all.trace;
-    read = end ends.0;
-    report = appends_whole ends.2;
-    status = sym (whole_status ∙ ends.1);
-  }
+  ended at_end Clean later end ends = read_to_end Clean (end ends.0) ends.1 ends.2
+  ended at_end Violated later end ends = read_to_end Violated (end ends.0) ends.1 ends.2
   ended at_end TraceFault later end ends = record {
     bytes = bytes;
     trace = all.trace;

@@ -10,14 +10,18 @@ use Rattle.report.specs.Report.{report_of, status_of}
 use Rattle.audit_run.specs.Known.{known_items}
 use Rattle.audit_run.specs.Outcome.{Outside, IsCutShort, Ended}
 
--- At Clean and Violated the source is at its end, exactly the report on its bytes was appended, and the status is theirs;
--- at TraceFault a line is refused, and exactly the report was appended; a refused line is never hidden; a failed read or
--- write has its cause; what was appended is a beginning of the report; and where no line is refused and no count of
--- faults rose, only a want of memory keeps the run from its end.
+-- The source is at its end, exactly the report on the bytes was appended, and the status is theirs.
+pub record IsWhole (rules : Rules) (old new : Outside) (answer : Status) (bytes : List ℕ) : Type 0 where
+  pub at_end : IsAtEnd new.source.bytes
+  pub report : Appends old.sink.bytes new.sink.bytes (report_of rules (known_items bytes))
+  pub status : answer ≡ status_of rules (known_items bytes)
+
+-- What the status says: the trace was read to its end and the report is whole; a line is refused, and exactly the report
+-- was appended; a refused line is never hidden; a failed read or write has its cause; what was appended is a beginning of
+-- the report; the words were taken; and where no line is refused and no count of faults rose, only a want of memory keeps
+-- the run from its end.
 pub record HasFacts (rules : Rules) (old new : Outside) (answer : Status) (bytes : List ℕ) : Type 0 where
-  pub at_end : (answer ≡ Clean) ⊎ (answer ≡ Violated) → IsAtEnd new.source.bytes
-  pub report : (answer ≡ Clean) ⊎ (answer ≡ Violated) → Appends old.sink.bytes new.sink.bytes (report_of rules (known_items bytes))
-  pub status : (answer ≡ Clean) ⊎ (answer ≡ Violated) → answer ≡ status_of rules (known_items bytes)
+  pub whole : (answer ≡ Clean) ⊎ (answer ≡ Violated) → IsWhole rules old new answer bytes
   pub trace_fault : answer ≡ TraceFault → status_of rules (known_items bytes) ≡ TraceFault
   pub fault_report : answer ≡ TraceFault → Appends old.sink.bytes new.sink.bytes (report_of rules (known_items bytes))
   pub hides_no_refusal : status_of rules (known_items bytes) ≡ TraceFault → (answer ≢ Clean) × (answer ≢ Violated)
