@@ -1,4 +1,5 @@
-//! The texts of a report: a collection, a fault line, the end line.
+//! What the run of a trace reports: the definitions of a run and of its report (in `specs/`), and the texts of a
+//! collection, a fault line and the end line.
 #![tactic(auto)]
 
 mod examples;
