@@ -1,0 +1,6 @@
+pub mod Bits
+pub mod Moves
+pub mod Adding
+pub mod Marking
+pub mod Sharing
+pub mod Whole

@@ -1,0 +1,22 @@
+ghost use Rattle.std.specs.Prelude.{◌≡◌, ◌+◌, ◌<◌, ◌≤◌};
+
+use crate::view::{HeaderRule, View};
+use atomic_table::Table;
+use std::alloc::Global;
+
+/// The words and the rule that they keep.
+pub(crate) type HeaderTable = Table<(), View, u32, HeaderRule, Global>;
+
+/// A header word for each cell. Several threads may share it, each with a pass of its own. The words lie behind
+/// the opening word, so the word of the cell x is number x + 1. Contracts see how many cells there are.
+#[derive(Drop)]
+pub struct Headers {
+    pub(crate) table: HeaderTable,
+    pub(crate) cells: u32,
+    // how many passes were made with it
+    pub(crate) workers: u32,
+    ghost keyed: { table.shared.key ≡ cells },
+    ghost sized: { table.shared.table_id.words ≡ cells + 1 },
+    ghost slotless: { table.shared.table_id.slots ≡ 0 },
+    ghost shared: { (0 < workers) × (workers ≤ 16) },
+}
