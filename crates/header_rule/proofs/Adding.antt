@@ -1,15 +1,14 @@
 -- An add keeps the rule.
-use Rattle.std.proofs.Common.{◌≡◌, ◌≢◌, ℕ, zero, suc, ◌+◌, ◌-◌, ◌*◌, ◌%◌, ◌^◌, ◌<◌, ◌≤◌, eqb, Bool, true, false, cond, List, [], ◌∷◌, ◌++◌, length, get_or, set, sym, refl, ap, ◌∙◌, subst, arith, length-set, length-append, get_or-set_same, get_or-set_other, eq-eqb, ne_eqb}
+use Rattle.std.proofs.Common.{◌≡◌, ◌≢◌, ℕ, zero, suc, ◌+◌, ◌*◌, ◌%◌, ◌^◌, ◌<◌, ◌≤◌, eqb, Bool, true, false, cond, List, [], ◌∷◌, ◌++◌, length, get_or, set, sym, refl, ap, ◌∙◌, subst, arith, length-set, length-append, get_or-set_same, get_or-set_other, eq-eqb, ne_eqb}
 use mathlib.Core.Logic.{dite}
 use native.Mathlib.Decide.{ℕ_discrete}
-use mathlib.Core.Option.{none, some}
-use lib.ListN.{get_elem?}
-use Rattle.atomic_table.specs.Table.{State, Me, step, keeps, Allows}
-use Rattle.heap_base.specs.Counting.{bit, is_positive, total, times}
+use mathlib.Core.Option.{none}
+use Rattle.atomic_table.specs.Table.{step, keeps, Allows}
+use Rattle.heap_base.specs.Counting.{bit, is_positive, times}
 use Rattle.heap_base.proofs.Counting.{is_positive-from, bit-le, total-set, le_total, total-set_same, times-append, times-le}
 use Rattle.header_rule.specs.declared.mark.Mark.{Mark}
 use Rattle.header_rule.specs.declared.view.View.{View}
-use Rattle.header_rule.specs.Layout.{count_of, bits_of}
+use Rattle.header_rule.specs.Layout.{bits_of}
 use Rattle.header_rule.specs.Views.{times_marked, rights_in, adds_in, wins_in, marks_in, has_mark, word_of}
 use Rattle.header_rule.specs.Rule.{FitsRights, KeepsRule}
 use Rattle.header_rule.specs.Steps.{AddsCell, with_add}

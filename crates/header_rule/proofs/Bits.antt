@@ -1,5 +1,5 @@
 -- The parts of a header word, and the bits and lists of marks.
-use Rattle.std.proofs.Common.{◌≡◌, ℕ, ◌+◌, ◌*◌, ◌/◌, ◌%◌, ◌^◌, ◌<◌, ◌≤◌, ◌||◌, ◌&&◌, eqb, Bool, true, false, cond, List, [], ◌∷◌, filter, map, sym, refl, ap, ◌∙◌, arith}
+use Rattle.std.proofs.Common.{◌≡◌, ℕ, ◌+◌, ◌*◌, ◌/◌, ◌%◌, ◌^◌, ◌<◌, ◌||◌, ◌&&◌, eqb, Bool, true, false, cond, List, [], ◌∷◌, filter, sym, refl, ap, ◌∙◌, arith}
 use Rattle.std.specs.Prelude.{bit_or}
 use Rattle.std.proofs.lemmas.Nat.{or_block}
 use Rattle.std.specs.Int.Bits.{or_zero_r}
@@ -7,7 +7,7 @@ use Rattle.heap_base.specs.Counting.{bit, total}
 use Rattle.heap_base.proofs.Counting.{bit-le, total-map, total-filter}
 use Rattle.header_rule.specs.declared.mark.Mark.{Mark}
 use Rattle.header_rule.specs.declared.mark.Mark.TheVariants.{Found, Disputed, MetByRoots}
-use Rattle.header_rule.specs.Layout.{count_of, mark_bit, has_bit, bits_of, marks_passing}
+use Rattle.header_rule.specs.Layout.{count_of, has_bit, bits_of, marks_passing}
 use Rattle.header_rule.specs.Views.{is_mark, times_marked}
 
 -- three bits, the lowest first

@@ -1,5 +1,5 @@
 -- All passes of the same headers have 16 rights together.
-use Rattle.std.proofs.Common.{◌≡◌, ℕ, zero, suc, ◌+◌, ◌-◌, ◌<◌, ◌≤◌, List, [], ◌∷◌, ◌++◌, length, get_or, drop, map, sym, refl, ap, ◌∙◌, subst, arith}
+use Rattle.std.proofs.Common.{◌≡◌, ℕ, zero, suc, ◌+◌, ◌-◌, ◌<◌, ◌≤◌, List, [], ◌∷◌, ◌++◌, length, get_or, drop, sym, refl, ap, ◌∙◌, subst, arith}
 use Rattle.std.specs.List.{All, range_with_len}
 use Rattle.std.proofs.lemmas.List.{length-map}
 use Rattle.std.proofs.lemmas.List.FromFn.{length-range_with_len}
@@ -57,3 +57,10 @@ length-numbers ps a n e = sym (length-map ps (λ (p : Pass). p.number)) ∙ (ap 
 pub range-first : (n : ℕ) → 0 < n → 0 ∷ range_with_len 1 (n - 1) ≡ range_with_len 0 n
 range-first zero some = absurd (omega arith)
 range-first (suc n) some = ap (λ k. 0 ∷ range_with_len 1 k) (omega arith)
+
+-- passes that are still of the headers, with the numbers that they had
+pub numbers-same : (ps qs : List Pass) → length qs ≡ length ps → ((i : ℕ) (d : Pass) → i < length ps → (get_or qs i d).number ≡ (get_or ps i d).number) → numbers qs ≡ numbers ps
+numbers-same [] [] l e = refl
+numbers-same [] (q ∷ qs) l e = absurd (omega arith)
+numbers-same (p ∷ ps) [] l e = absurd (omega arith)
+numbers-same (p ∷ ps) (q ∷ qs) l e = λ i. e 0 p (omega arith) i ∷ numbers-same ps qs (omega arith) (λ k d low. e (suc k) d (omega arith)) i

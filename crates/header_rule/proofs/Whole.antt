@@ -1,15 +1,15 @@
 -- The seat that has all the rights knows all that was met.
-use Rattle.std.proofs.Common.{◌≡◌, ℕ, ◌+◌, ◌*◌, ◌^◌, ◌<◌, ◌≤◌, List, length, get_or, sym, refl, ap, ◌∙◌, arith}
+use Rattle.std.proofs.Common.{◌≡◌, ℕ, ◌+◌, ◌^◌, ◌<◌, List, get_or, sym, refl, ap, ◌∙◌, arith}
 use lib.ListN.{get_elem?}
 use mathlib.Core.Option.{some}
-use Rattle.atomic_table.specs.Table.{State, Seen, Final}
+use Rattle.atomic_table.specs.Table.{Seen, Final}
 use Rattle.heap_base.specs.Counting.{bit, is_positive, total, times}
 use Rattle.heap_base.proofs.Counting.{le_total, only_one}
 use Rattle.header_rule.specs.declared.mark.Mark.{Mark}
 use Rattle.header_rule.specs.declared.view.View.{View}
-use Rattle.header_rule.specs.Layout.{count_of, has_bit, bits_of}
+use Rattle.header_rule.specs.Layout.{count_of, has_bit}
 use Rattle.header_rule.specs.Views.{times_marked, rights_in, adds_in, wins_in, marks_in, has_mark, word_of}
-use Rattle.header_rule.specs.Rule.{new_view, FitsRights, KeepsRule}
+use Rattle.header_rule.specs.Rule.{new_view, KeepsRule}
 use Rattle.header_rule.proofs.Bits.{count_of-word, has_bit-word}
 use Rattle.header_rule.proofs.Moves.{AllFit}
 use Rattle.header_rule.proofs.Adding.{adds_bound}

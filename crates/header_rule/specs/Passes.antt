@@ -36,6 +36,10 @@ pub record IsFresh (p : Pass) : Type 0 where
 abbrev pub IsPassOf : Headers → Pass → Type 0
 IsPassOf h p = (p.seat.table_id ≡ h.table.shared.table_id) × (p.workers ≡ h.workers)
 
+-- the second is the first after some meets
+abbrev pub IsSamePass : Headers → Pass → Pass → Type 0
+IsSamePass h p q = IsPassOf h q × (q.number ≡ p.number)
+
 abbrev pub numbers : List Pass → List ℕ
 numbers ps = map (λ p. p.number) ps
 

@@ -13,6 +13,8 @@ mod meeting;
 mod pass;
 mod reading;
 mod steps;
+#[cfg(test)]
+mod tests;
 mod view;
 mod words;
 

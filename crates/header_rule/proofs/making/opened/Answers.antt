@@ -1,4 +1,4 @@
-use Rattle.std.proofs.Common.{arith, ◌≡◌, ℕ, [], sym, subst}
+use Rattle.std.proofs.Common.{arith, ℕ, sym, subst}
 use mathlib.Core.Option.{none}
 use Rattle.atomic_table.specs.Table.{Me, step, Allows}
 use Rattle.header_rule.specs.declared.view.View.{View}

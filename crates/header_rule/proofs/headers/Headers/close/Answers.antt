@@ -1,6 +1,6 @@
-use Rattle.std.proofs.Common.{arith, ◌≡◌, ℕ, ◌<◌, ◌+◌, sym, ap, ◌∙◌, subst}
+use Rattle.std.proofs.Common.{arith, sym, ap, ◌∙◌}
 use Rattle.heap_base.specs.Counting.{bit, is_positive}
-use Rattle.header_rule.proofs.Whole.{TellsAll, tells_all}
+use Rattle.header_rule.proofs.Whole.{tells_all}
 use Rattle.header_rule.proofs.headers.Headers.close.Goals as goal
 
 pub invariant_of-result : goal.invariant_of-result
