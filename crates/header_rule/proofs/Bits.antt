@@ -1,5 +1,5 @@
 -- The parts of a header word, and the bits and lists of marks.
-use Rattle.std.proofs.Common.{◌≡◌, ℕ, ◌+◌, ◌*◌, ◌/◌, ◌%◌, ◌^◌, ◌<◌, ◌||◌, ◌&&◌, eqb, Bool, true, false, cond, List, [], ◌∷◌, filter, sym, refl, ap, ◌∙◌, arith}
+use Rattle.std.proofs.Common.{◌≡◌, ℕ, ◌+◌, ◌*◌, ◌/◌, ◌%◌, ◌^◌, ◌<◌, ◌≤◌, ◌||◌, ◌&&◌, eqb, Bool, true, false, cond, List, [], ◌∷◌, filter, sym, refl, ap, ◌∙◌, arith}
 use Rattle.std.specs.Prelude.{bit_or}
 use Rattle.std.proofs.lemmas.Nat.{or_block}
 use Rattle.std.specs.Int.Bits.{or_zero_r}
@@ -15,14 +15,14 @@ abbrev three : Bool → Bool → Bool → ℕ
 three a b c = (bit c * 2 + bit b) * 2 + bit a
 
 -- the marks as a number of three bits
-abbrev pub marks_number : (Mark → Bool) → ℕ
+abbrev marks_number : (Mark → Bool) → ℕ
 marks_number p = three (p Found) (p Disputed) (p MetByRoots)
 
-pub bits_of-number : (p : Mark → Bool) → bits_of p ≡ marks_number p * 2 ^ 56
+bits_of-number : (p : Mark → Bool) → bits_of p ≡ marks_number p * 2 ^ 56
 bits_of-number p = omega arith
 
-pub marks_number-lt : (p : Mark → Bool) → marks_number p < 8
-marks_number-lt p = let a = bit-le (p Found) in let b = bit-le (p Disputed) in let c = bit-le (p MetByRoots) in omega arith
+pub bits_of-le : (p : Mark → Bool) → bits_of p ≤ 7 * 2 ^ 56
+bits_of-le p = let a = bit-le (p Found) in let b = bit-le (p Disputed) in let c = bit-le (p MetByRoots) in omega arith
 
 pub count_of-word : (p : Mark → Bool) (n : ℕ) → n < 2 ^ 56 → count_of (bits_of p + n) ≡ n
 count_of-word p n small = let e = bits_of-number p in omega arith

@@ -1,5 +1,6 @@
 pub mod Bits
 pub mod Moves
+pub mod WordSteps
 pub mod Adding
 pub mod Marking
 pub mod Sharing

@@ -12,7 +12,7 @@ use Rattle.header_rule.specs.Views.{times_marked, rights_in, adds_in, wins_in, m
 use Rattle.header_rule.specs.Rule.{new_view, KeepsRule}
 use Rattle.header_rule.proofs.Bits.{count_of-word, has_bit-word}
 use Rattle.header_rule.proofs.Moves.{AllFit}
-use Rattle.header_rule.proofs.Adding.{adds_bound}
+use Rattle.header_rule.proofs.WordSteps.{adds_in-lt}
 
 -- what f adds up over all views, the view with all the rights has alone
 has_all : (f : View → ℕ) → f (new_view 0) ≡ 0 → (views : List View) → AllFit views → (id : ℕ) (v : View) → get_elem? views id ≡ some v → rights_in views ≡ v.rights → total f views ≡ f v
@@ -37,7 +37,7 @@ tells_all cells id v ws xs whole final =
     let adds : (x : ℕ) → adds_in x s.views ≡ times x v.adds = λ x. has_all (λ u. times x u.adds) refl s.views k.fits id v at all in
     let wins : (x : ℕ) → wins_in x s.views ≡ times x v.wins = λ x. has_all (λ u. times x u.wins) refl s.views k.fits id v at all in
     let marks : (m : Mark) (x : ℕ) → marks_in m x s.views ≡ times_marked m x v.marks = λ m x. has_all (λ u. times_marked m x u.marks) refl s.views k.fits id v at all in
-    let few : (x : ℕ) → adds_in x s.views < 2 ^ 56 = λ x. (let b = adds_bound x s.views k.fits in omega arith) in
+    let few : (x : ℕ) → adds_in x s.views < 2 ^ 56 = λ x. (let b = adds_in-lt cells s k x in omega arith) in
     let word : (x : ℕ) → x < cells → get_or ws (x + 1) 0 ≡ word_of x s.views = λ x h. ap (λ (us : List ℕ). get_or us (x + 1) 0) (sym words) ∙ k.words x h in
     record {
       counts = λ x h. ap count_of (word x h) ∙ (count_of-word (has_mark s.views x) (adds_in x s.views) (few x) ∙ adds x);
