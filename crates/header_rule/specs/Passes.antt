@@ -36,7 +36,7 @@ pub record IsFresh (p : Pass) : Type 0 where
 abbrev pub IsPassOf : Headers → Pass → Type 0
 IsPassOf h p = (p.seat.table_id ≡ h.table.shared.table_id) × (p.workers ≡ h.workers)
 
--- the second is the first after some meets
+-- the pass q is of the headers, and has the number of p
 abbrev pub IsSamePass : Headers → Pass → Pass → Type 0
 IsSamePass h p q = IsPassOf h q × (q.number ≡ p.number)
 

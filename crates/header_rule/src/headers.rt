@@ -7,13 +7,14 @@ use std::alloc::Global;
 /// The words and the rule that they keep.
 pub(crate) type HeaderTable = Table<(), View, u32, HeaderRule, Global>;
 
-/// A header word for each cell. Several threads may share it, each with a pass of its own. The words lie behind
-/// the opening word, so the word of the cell x is number x + 1. Contracts see how many cells there are.
+/// A header word for each cell, which several threads share, each with a pass of its own. Contracts see how many
+/// cells there are.
 #[derive(Drop)]
 pub struct Headers {
+    // The opening word, and then the word of each cell.
     pub(crate) table: HeaderTable,
     pub(crate) cells: u32,
-    // how many passes were made with it
+    // How many passes were made with it.
     pub(crate) workers: u32,
     ghost keyed: { table.shared.key ≡ cells },
     ghost sized: { table.shared.table_id.words ≡ cells + 1 },

@@ -12,7 +12,7 @@ use atomic_table::Seat;
 use heap_base::OutOfMemory;
 use std::alloc::Global;
 
-/// How often one pass may meet a cell. 16 passes together stay below the limit of a count.
+/// How many meets a pass has. Those of 16 passes together stay below the limit of a count.
 const MEETS: u64 = 1 << 51;
 
 // A table of zeroes, and the seat that has all the rights.
@@ -25,7 +25,8 @@ fn opened(alloc: Global, cells: u32) -> Result<(HeaderTable, Seat<(), View>), Ou
 {
     let words = Vec::from_elem(alloc, 0u64, cells as usize + 1)?;
     let (table, mut seat) = HeaderTable::of_words(alloc, words.as_slice(), &cells)?;
-    // No run finds 1 here: the table was made on the line above. The rule alone doesn't exclude it.
+    // No run finds 1 here, since the table was just made with 0. The rule alone doesn't exclude it, and an error
+    // of its own would have no cause.
     if table.shared.swap::<FirstSeat>(&mut seat, 0, 1) != 0 {
         return Err(OutOfMemory);
     }
@@ -61,7 +62,7 @@ fn others(
 
 impl Headers {
     /// Words of zero for so many cells, and a pass for each of 1 to 16 workers, numbered from 0. A cell costs 8
-    /// bytes.
+    /// bytes, and 8 more while `make` runs. Answers `OutOfMemory` where memory is wanting.
     pub fn make(
         alloc: Global,
         cells: u32,

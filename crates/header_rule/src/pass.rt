@@ -10,7 +10,7 @@ use atomic_table::Seat;
 pub struct Pass {
     pub(crate) seat: Seat<(), View>,
     pub(crate) number: u32,
-    // how many passes there are of the same headers
+    // How many passes were made with its headers.
     pub(crate) workers: u32,
     pub(crate) left: u64,
     ghost room: { left + length seat.me.0.adds ≡ 2 ^ 51 },
