@@ -1,0 +1,7 @@
+pub mod Bits
+pub mod Moves
+pub mod WordSteps
+pub mod Adding
+pub mod Marking
+pub mod Sharing
+pub mod Whole

@@ -1,0 +1,7 @@
+pub mod ClosedWords
+pub mod Layout
+pub mod Passes
+pub mod Rule
+pub mod Shares
+pub mod Steps
+pub mod Views

@@ -1,0 +1,60 @@
+//! The close: all passes become one seat, which knows all that was met.
+ghost use Rattle.std.specs.Prelude.{◌≡◌, ℕ, ◌<◌};
+ghost use Rattle.heap_base.specs.Counting.{bit, is_positive, times};
+ghost use Rattle.header_rule.specs.declared.mark.Mark.{Mark};
+ghost use Rattle.header_rule.specs.Views.{times_marked};
+ghost use Rattle.header_rule.specs.Passes.{ArePassesOf, all_adds, all_wins, all_marks};
+ghost use Rattle.header_rule.specs.ClosedWords.{count_in, has_mark_in};
+
+use crate::headers::Headers;
+use crate::pass::Pass;
+use crate::steps::Together;
+use crate::view::View;
+use crate::words::Words;
+use atomic_table::Seat;
+
+// One seat with all the rights and all that the passes met.
+fn joined(headers: &Headers, mut passes: Vec<Pass>) -> Seat<(), View>
+    requires { ArePassesOf headers.now passes.items }
+    ensures table { result.table_id ≡ headers.now.table.shared.table_id }
+    ensures rights { result.me.0.rights ≡ 16 }
+    ensures adds { (x : ℕ) → times x result.me.0.adds ≡ all_adds x passes.items }
+    ensures wins { (x : ℕ) → times x result.me.0.wins ≡ all_wins x passes.items }
+    ensures marks { (m : Mark) (x : ℕ) → times_marked m x result.me.0.marks ≡ all_marks m x passes.items }
+{
+    let Some(last) = passes.pop() else {
+        unreachable!()
+    };
+    let Pass {
+        seat: mut whole,
+        ..
+    } = last;
+    while let Some(pass) = passes.pop() {
+        let Pass { seat, .. } = pass;
+        headers.table.shared.join_seat::<Together>(&mut whole, seat);
+    }
+    whole
+}
+
+impl Headers {
+    /// The words, once nobody meets any more. It asks for all the passes that `make` gave, in order. The count
+    /// of each cell is how often it stands in the adds of all passes; a mark is set exactly where some pass set
+    /// it; and each cell that was met stands in all wins together exactly once.
+    pub fn close(self, passes: Vec<Pass>) -> Words
+        requires passes { ArePassesOf self passes.items }
+        ensures cells { result.cells ≡ self.cells }
+        ensures counts { (x : ℕ) → x < self.cells → count_in result x ≡ all_adds x passes.items }
+        ensures marks { (m : Mark) (x : ℕ) → x < self.cells
+            → has_mark_in m result x ≡ is_positive (all_marks m x passes.items) }
+        ensures wins { (x : ℕ) → all_wins x passes.items ≡ bit (is_positive (all_adds x passes.items)) }
+    {
+        let seat = joined(&self, passes);
+        let Headers {
+            table,
+            cells,
+            workers: _,
+        } = self;
+        let closed = table.close_with(seat);
+        Words { closed, cells }
+    }
+}
