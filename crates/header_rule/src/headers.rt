@@ -1,4 +1,5 @@
 ghost use Rattle.std.specs.Prelude.{◌≡◌, ◌+◌, ◌<◌, ◌≤◌};
+ghost use Rattle.heap_base.specs.declared.limits.TheConstants.{MOST_WORKERS};
 
 use crate::view::{HeaderRule, View};
 use atomic_table::Table;
@@ -19,5 +20,5 @@ pub struct Headers {
     ghost keyed: { table.shared.key ≡ cells },
     ghost sized: { table.shared.table_id.words ≡ cells + 1 },
     ghost slotless: { table.shared.table_id.slots ≡ 0 },
-    ghost shared: { (0 < workers) × (workers ≤ 16) },
+    ghost shared: { (0 < workers) × (workers ≤ MOST_WORKERS) },
 }

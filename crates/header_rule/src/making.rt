@@ -1,6 +1,7 @@
 //! How headers and their passes are made.
 ghost use Rattle.std.specs.Prelude.{◌≡◌, ◌+◌, ◌-◌, ◌<◌, ◌≤◌, [], length, map, IfOk, OnOk};
 ghost use Rattle.std.specs.List.{All, range_with_len};
+ghost use Rattle.heap_base.specs.declared.limits.TheConstants.{MOST_WORKERS};
 ghost use Rattle.header_rule.specs.Rule.{new_view};
 ghost use Rattle.header_rule.specs.Passes.{IsPassOf, IsFresh, ArePassesOf, numbers};
 
@@ -68,7 +69,7 @@ impl Headers {
         cells: u32,
         workers: u32,
     ) -> Result<(Headers, Vec<Pass>), OutOfMemory>
-        requires workers { (0 < workers) × (workers ≤ 16) }
+        requires workers { (0 < workers) × (workers ≤ MOST_WORKERS) }
         ensures cells { IfOk result (λ r. r.0.cells ≡ cells) }
         ensures count { IfOk result (λ r. length r.1.items ≡ workers) }
         ensures passes { IfOk result (λ r. ArePassesOf r.0 r.1.items) }

@@ -1,5 +1,6 @@
 ghost use Rattle.std.specs.Prelude.{◌≡◌, ℕ, ◌<◌, ◌≤◌, length, slice_index_or};
 ghost use Rattle.std.specs.List.{All};
+ghost use Rattle.heap_base.specs.declared.limits.TheConstants.{MOST_WORKERS};
 ghost use Rattle.header_rule.specs.Passes.{IsPassOf, IsSamePass, ArePassesOf};
 
 use crate::{Headers, Marks, Pass, Words};
@@ -181,7 +182,7 @@ fn is_fair<R: Threads + Sync>(
     workers: u32,
     count: u64,
 ) -> Result<bool, Fail>
-    requires { (0 < workers) × (workers ≤ 16) }
+    requires { (0 < workers) × (workers ≤ MOST_WORKERS) }
 {
     let won = counters(alloc, cells)?;
     let (headers, mut passes) = Headers::make(alloc, cells, workers)?;
