@@ -1,7 +1,7 @@
 -- One more name in a list whose places a map finds.
 use Rattle.std.proofs.Common.{◌≡◌, ℕ, ◌<◌, List, [], ◌∷◌, ◌++◌, length, Some, None, refl, arith}
 use Rattle.std.specs.declared.string.String.{String}
-use Rattle.std.specs.HashMap.{HashMap, get_by_text}
+use Rattle.std.specs.BTreeMap.{BTreeMap, get_by_text}
 use Rattle.std.specs.Map.{update}
 use Rattle.std.specs.List.{position}
 use Rattle.std.specs.Str.{bytes_eq}
@@ -12,7 +12,7 @@ use Rattle.object_table.specs.Indexed.{IsIndexed}
 use Rattle.object_table.proofs.Positions.{position_push, position_push_new}
 
 -- a map with one more text, at the place of the name that is put last
-pub IsIndexed-add : {Y S : Type 0} (names : List (List ℕ)) (numbers later : HashMap (String Y) ℕ S) (name key : List ℕ) (place : ℕ) → IsIndexed names numbers → position (bytes_eq name) names ≡ None → length names < MOST_KINDS → key ≡ name → place ≡ length names → ((bytes : List ℕ) → get_by_text later bytes ≡ update bytes_eq (get_by_text numbers) key (Some place) bytes) → IsIndexed (names ++ name ∷ []) later
+pub IsIndexed-add : {Y : Type 0} (names : List (List ℕ)) (numbers later : BTreeMap (String Y) ℕ) (name key : List ℕ) (place : ℕ) → IsIndexed names numbers → position (bytes_eq name) names ≡ None → length names < MOST_KINDS → key ≡ name → place ≡ length names → ((bytes : List ℕ) → get_by_text later bytes ≡ update bytes_eq (get_by_text numbers) key (Some place) bytes) → IsIndexed (names ++ name ∷ []) later
 IsIndexed-add names numbers later name key place is new room same last updates = record {
   few = grind (arith, length_push names name);
   finds = λ bytes. grind (arith, updates bytes, is.finds bytes, position_push (bytes_eq bytes) names name, bytes_eq-Decides name bytes, bytes_eq-Decides bytes name);

@@ -1,11 +1,11 @@
 -- What each refusal comes to, where the tests before it are decided.
-use Rattle.std.proofs.Common.{◌≡◌, ℕ, ◌+◌, ◌<◌, ◌≤◌, List, length, true, false, Option, Some, None, refl, arith}
+use Rattle.std.proofs.Common.{◌≡◌, ℕ, ◌+◌, ◌<◌, ◌≤◌, List, length, true, false, Option, Some, None, refl, ◌∙◌, ap, arith}
 use Rattle.std.proofs.lemmas.Bool.Decides.{nat_tests}
 use Rattle.heap_base.specs.declared.limits.TheConstants.{MOST_OBJECTS, MOST_SLOTS, MOST_ROOTS, MOST_KINDS}
 use Rattle.graph_meaning.specs.declared.refusal.Refusal.{Refusal}
 use Rattle.graph_meaning.specs.declared.refusal.Refusal.TheVariants.{IdNotRising, TooManyObjects, TooManySlots, NotLive, BadSlot, TooManyRoots, TooManyTypes}
 use Rattle.graph_meaning.specs.Heap.{Table, is_live, is_seen, slot_count}
-use Rattle.graph_meaning.specs.Step.{alloc_refusal, store_refusal, root_refusal, kind_refusal, target_refusal, not_live, slots_of, is_root}
+use Rattle.graph_meaning.specs.Step.{first_refusal, alloc_refusal, slot_refusal, store_refusal, root_refusal, kind_refusal, target_refusal, not_live, slots_of, is_root}
 
 -- ---- types
 
@@ -56,33 +56,34 @@ alloc_fits t id kind slots allowed = record {
   allowed_kind = grind (arith, nat_tests);
 }
 
--- ---- a store
+-- ---- a slot
 
-pub store_dead : (t : Table) (at slot : ℕ) (to : Option ℕ) → is_live t at ≡ false → store_refusal t at slot to ≡ Some (NotLive at)
+pub slot_dead : (t : Table) (at slot : ℕ) → is_live t at ≡ false → slot_refusal t at slot ≡ Some (NotLive at)
+slot_dead t at slot dead = rw dead refl
+
+pub slot_bad : (t : Table) (at slot : ℕ) → is_live t at ≡ true → slots_of t at ≤ slot → slot_refusal t at slot ≡ Some (BadSlot slot)
+slot_bad t at slot live h = grind (arith, nat_tests)
+
+pub slot_there : (t : Table) (at slot : ℕ) → is_live t at ≡ true → slot < slots_of t at → slot_refusal t at slot ≡ None
+slot_there t at slot live h = grind (arith, nat_tests)
+
+-- a slot that is not refused is one that the object has
+pub slot_fits : (t : Table) (at slot : ℕ) → slot_refusal t at slot ≡ None → slot < slots_of t at
+slot_fits t at slot allowed = grind (arith, nat_tests)
+
+-- a store is refused for its slot, and else for what the slot is to hold
+pub store_is : (t : Table) (at slot : ℕ) (to : Option ℕ) → store_refusal t at slot to ≡ first_refusal (slot_refusal t at slot) (target_refusal t to)
 unfolding store_refusal
-store_dead t at slot to dead = rw dead refl
+store_is t at slot to = refl
 
-pub store_bad : (t : Table) (at slot : ℕ) (to : Option ℕ) → is_live t at ≡ true → slots_of t at ≤ slot → store_refusal t at slot to ≡ Some (BadSlot slot)
-unfolding store_refusal
-store_bad t at slot to live h = grind (arith, nat_tests)
+pub store_by_slot : (t : Table) (at slot : ℕ) (to : Option ℕ) (r : Refusal) → slot_refusal t at slot ≡ Some r → store_refusal t at slot to ≡ Some r
+store_by_slot t at slot to r refused = store_is t at slot to ∙ ap (λ o. first_refusal o (target_refusal t to)) refused
 
-pub store_target : (t : Table) (at slot : ℕ) (to : Option ℕ) → is_live t at ≡ true → slot < slots_of t at → store_refusal t at slot to ≡ target_refusal t to
-unfolding store_refusal
-store_target t at slot to live h = grind (arith, nat_tests)
+pub store_by_target : (t : Table) (at slot : ℕ) (to : Option ℕ) (r : Refusal) → slot_refusal t at slot ≡ None → target_refusal t to ≡ Some r → store_refusal t at slot to ≡ Some r
+store_by_target t at slot to r there refused = store_is t at slot to ∙ ap (λ o. first_refusal o (target_refusal t to)) there ∙ refused
 
--- what holds where a store is not refused
-pub record Stores (t : Table) (at slot : ℕ) (to : Option ℕ) : Type 0 where
-  pub live : is_live t at ≡ true
-  pub a_slot : slot < slots_of t at
-  pub target : target_refusal t to ≡ None
-
-pub store_fits : (t : Table) (at slot : ℕ) (to : Option ℕ) → store_refusal t at slot to ≡ None → Stores t at slot to
-unfolding store_refusal
-store_fits t at slot to allowed = record {
-  live = grind (arith, nat_tests);
-  a_slot = grind (arith, nat_tests);
-  target = grind (arith, nat_tests);
-}
+pub store_allowed : (t : Table) (at slot : ℕ) (to : Option ℕ) → slot_refusal t at slot ≡ None → target_refusal t to ≡ None → store_refusal t at slot to ≡ None
+store_allowed t at slot to there target = store_is t at slot to ∙ ap (λ o. first_refusal o (target_refusal t to)) there ∙ target
 
 -- ---- a root
 

@@ -14,13 +14,13 @@ use Rattle.std.proofs.lemmas.Map.Keys.{IsDistinct-push}
 use Rattle.std.proofs.lemmas.Slice.Eq.{bytes_eq-Decides}
 use Rattle.heap_base.specs.declared.limits.TheConstants.{MOST_THREADS}
 use Rattle.graph_meaning.specs.declared.event.Event.{Event}
-use Rattle.graph_meaning.specs.declared.event.Event.TheVariants.{Alloc, Store, Root, AssertInstances}
+use Rattle.graph_meaning.specs.declared.event.Event.TheVariants.{Alloc, Store, SetWeak, Root, AssertInstances}
 use Rattle.graph_meaning.specs.declared.refusal.Refusal.{Refusal}
 use Rattle.graph_meaning.specs.Heap.{Slot, Object, Table, Heap, empty_slot, empty_table, empty_heap, ids, is_live, is_seen}
 use Rattle.graph_meaning.specs.Reach.{has_id}
 use Rattle.graph_meaning.specs.Assertions.{root_ids}
 use Rattle.graph_meaning.specs.Collecting.{slot_without, object_without, with_only}
-use Rattle.graph_meaning.specs.Step.{alloc_refusal, store_refusal, root_refusal, kind_refusal, with_object, with_kind, with_slot, with_changed_slot, slot_holding, with_root, heap_unless, step}
+use Rattle.graph_meaning.specs.Step.{slot_made_weak, alloc_refusal, slot_refusal, store_refusal, root_refusal, kind_refusal, with_object, with_kind, with_slot, with_changed_slot, slot_holding, with_root, heap_unless, step}
 use Rattle.graph_meaning.specs.Laws.{AllLive, HoldsLive, RefersToLive, IdsRise, IsOrdered, IsWithinLimits}
 use Rattle.graph_meaning.proofs.Membership.{length-filter_le}
 use Rattle.graph_meaning.proofs.HeapLemmas.{is_live-with_only}
@@ -147,6 +147,15 @@ unfolding step
 sound_with_store t at slot to sound none =
     let event : Event = Store at slot to in
     sound_with_change t at slot (slot_holding to) sound
+    (allowed (λ h. IdsRise h.table) _ _ none (ids_always_rise.1 (heap_with t) event sound.ids))
+    (allowed RefersToLive _ _ none (heaps_refer_to_live.1 (heap_with t) event (refers t sound)))
+    (allowed (λ h. IsOrdered h × IsWithinLimits h.table) _ _ none (limits_are_kept.1 (heap_with t) event (limited t sound))).1
+
+pub sound_with_weak : (t : Table) (at slot : ℕ) (weak : Bool) → IsSound t → slot_refusal t at slot ≡ None → IsSound (with_changed_slot t at slot (slot_made_weak weak))
+unfolding step
+sound_with_weak t at slot weak sound none =
+    let event : Event = SetWeak at slot weak in
+    sound_with_change t at slot (slot_made_weak weak) sound
     (allowed (λ h. IdsRise h.table) _ _ none (ids_always_rise.1 (heap_with t) event sound.ids))
     (allowed RefersToLive _ _ none (heaps_refer_to_live.1 (heap_with t) event (refers t sound)))
     (allowed (λ h. IsOrdered h × IsWithinLimits h.table) _ _ none (limits_are_kept.1 (heap_with t) event (limited t sound))).1

@@ -1,5 +1,9 @@
 pub mod Blocks
+pub mod Chains
 pub mod Indexed
+pub mod Located
 pub mod Ordered
+pub mod Paged
+pub mod Parts
 pub mod Placed
-pub mod Rows
+pub mod Residents

@@ -74,3 +74,8 @@ kept_ids (c ∷ cells) (false ∷ kept) = kept_ids cells kept
 pub record LeadsToKept (t : Table) (kept : List ℕ) : Type 0 where
   pub by_roots : All (λ r. IsTrue (has_id kept r.1)) t.roots
   pub by_edges : (x y : ℕ) → IsTrue (has_id kept x) → IsTrue (has_id (targets t x) y) → IsTrue (has_id kept y)
+
+-- Each kept object keeps its cell, and there are as many cells as before.
+pub record KeepsCells (before after : Placed) (kept : List ℕ) : Type 0 where
+  pub others : (cell id : ℕ) → id_in before cell ≡ Some id → IsTrue (has_id kept id) → id_in after cell ≡ Some id
+  pub count : length after.cells ≡ length before.cells

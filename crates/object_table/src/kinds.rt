@@ -6,7 +6,7 @@ ghost use Rattle.heap_base.specs.declared.limits.TheConstants.{MOST_KINDS};
 
 use heap_base::{Name, OutOfMemory};
 use std::alloc::Global;
-use std::collections::HashMap;
+use std::collections::BTreeMap;
 use std::marker::Model;
 
 /// The type names that were seen, no more than there may be, in the order in which they first came. Contracts see their
@@ -15,7 +15,7 @@ use std::marker::Model;
 pub struct Kinds {
     names: Vec<Name>,
     // the place of each name, by its text
-    numbers: HashMap<String, u32>,
+    numbers: BTreeMap<String, u32>,
     alloc: Global,
 }
 
@@ -38,7 +38,7 @@ impl Kinds {
     {
         Kinds {
             names: Vec::new(alloc),
-            numbers: HashMap::new(alloc),
+            numbers: BTreeMap::new(alloc),
             alloc,
         }
     }

@@ -3,11 +3,16 @@
 
 mod block;
 mod blocks;
+mod cell;
+mod cells;
 mod entry;
+mod ids;
 mod kinds;
 mod object;
-mod objects;
+mod page;
+mod pages;
 mod roots;
+mod slot;
 mod table;
 #[cfg(test)]
 mod tests;

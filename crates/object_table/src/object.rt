@@ -1,25 +1,26 @@
-ghost use Rattle.std.specs.Prelude.{◌≡◌, ◌<◌, ◌≤◌, length, replicate, slice_set, slice_index_or, None, IfOk};
-ghost use Rattle.object_table.specs.Rows.{Row};
+ghost use Rattle.std.specs.Prelude.{◌≡◌, ◌<◌, ◌≤◌, length, map, replicate, slice_get, slice_set, Some, IfOk};
 ghost use Rattle.heap_base.specs.declared.limits.TheConstants.{MOST_SLOTS};
+ghost use Rattle.object_table.specs.Residents.{Resident, no_edge, slot_after};
 
+use crate::slot::Slot;
 use heap_base::{ObjId, OutOfMemory};
 use std::alloc::Global;
 use std::marker::Model;
 
-/// A live object: its id, the number of its type, and what its slots hold.
+/// An object as it stands in a cell: its id, the number of its type, and its slots.
 #[derive(Drop)]
 pub struct Object {
     id: ObjId,
     kind: u32,
-    slots: Vec<Option<ObjId>>,
+    slots: Vec<Slot>,
 }
 
 impl Model for Object {
     ghost use Rattle.std.specs.Prelude.{length, ◌≤◌};
-    ghost use Rattle.object_table.specs.Rows.{Row};
     ghost use Rattle.heap_base.specs.declared.limits.TheConstants.{MOST_SLOTS};
+    ghost use Rattle.object_table.specs.Residents.{Resident};
 
-    ghost Value = { Row };
+    ghost Value = { Resident };
 
     ghost view = { λ o. record { id = o.id; kind = o.kind; slots = o.slots.items } };
 
@@ -27,12 +28,16 @@ impl Model for Object {
 }
 
 impl Object {
-    /// An object with empty slots.
+    /// An object with empty slots, none weak.
     pub fn make(alloc: Global, id: ObjId, kind: u32, slots: u32) -> Result<Object, OutOfMemory>
         requires { slots ≤ MOST_SLOTS }
-        ensures { IfOk result (λ o. o ≡ record { id = id; kind = kind; slots = replicate slots None }) }
+        ensures { IfOk result (λ o. o ≡ record { id = id; kind = kind; slots = replicate slots no_edge }) }
     {
-        let slots = vec![in alloc; None; slots as usize]?;
+        let empty = Slot {
+            held: None,
+            weak: false,
+        };
+        let slots = vec![in alloc; empty; slots as usize]?;
         Ok(Object { id, kind, slots })
     }
 
@@ -58,19 +63,28 @@ impl Object {
         self.slots.len() as u32
     }
 
-    /// What a slot holds.
-    pub fn slot(&self, slot: u32) -> Option<ObjId>
+    /// One of its slots.
+    pub fn slot(&self, slot: u32) -> Slot
         requires { slot < length self.now.slots }
-        ensures { result ≡ slice_index_or self.now.slots slot None }
+        ensures { slice_get self.now.slots slot ≡ Some result }
     {
         self.slots[slot as usize]
     }
 
-    /// Lets a slot hold an object, or nothing.
-    pub fn set_slot(&mut self, slot: u32, to: Option<ObjId>)
+    /// Puts one of its slots.
+    pub fn set_slot(&mut self, slot: u32, value: Slot)
         requires { slot < length self.old.slots }
-        ensures { self.new ≡ record self.old { slots = slice_set self.old.slots slot to } }
+        ensures { self.new ≡ record self.old { slots = slice_set self.old.slots slot value } }
     {
-        self.slots[slot as usize] = to;
+        self.slots[slot as usize] = value;
+    }
+
+    /// Empties the slots that hold what stood in a cell that is not kept.
+    pub fn keep(&mut self, kept: &[bool])
+        ensures { self.new ≡ record self.old { slots = map (slot_after kept.now) self.old.slots } }
+    {
+        for slot in 0..self.slots.len() {
+            self.slots[slot] = self.slots[slot].after(kept);
+        }
     }
 }

@@ -1,15 +1,21 @@
-ghost use Rattle.std.specs.Prelude.{◌≡◌, ◌<◌, ◌≤◌, ℕ, IsTrue, None, Some, true, false, length, position, option_and_then, is_some, slice_get, IsSome, IfSome, IfOk, OnOk, OnErr};
+ghost use Rattle.std.specs.Prelude.{◌≡◌, ◌<◌, ◌≤◌, ℕ, All, IsTrue, None, Some, true, false, length, sum_by, position, option_and_then, is_some, slice_get, IsSome, IfSome, IfOk, OnOk, OnErr};
 ghost use Rattle.std.specs.Result.{result_err};
 ghost use Rattle.std.specs.Str.{bytes_eq};
+ghost use Rattle.heap_base.specs.declared.limits.TheConstants.{MOST_SLOTS};
 ghost use Rattle.graph_meaning.specs.Answers.{RefusesBy};
 ghost use Rattle.graph_meaning.specs.Heap.{edge_of, is_live};
 ghost use Rattle.graph_meaning.specs.Collecting.{with_only};
-ghost use Rattle.graph_meaning.specs.Step.{alloc_refusal, with_object, not_live, target_refusal, store_refusal, with_changed_slot, slot_holding, root_refusal, with_root, is_root, kind_refusal, with_kind};
-ghost use Rattle.object_table.specs.Placed.{nothing_placed, id_in, object_in, slots_in, slot_in, IsPlaced, IsSound, TakesCell, kept_ids, LeadsToKept};
+ghost use Rattle.graph_meaning.specs.Step.{alloc_refusal, with_object, not_live, slot_refusal, target_refusal, store_refusal, with_changed_slot, slot_holding, slot_made_weak, root_refusal, with_root, is_root, kind_refusal, with_kind};
+ghost use Rattle.object_table.specs.Placed.{nothing_placed, id_in, object_in, slots_in, slot_in, IsPlaced, IsSound, TakesCell, KeepsCells, kept_ids, LeadsToKept};
+ghost use Rattle.object_table.specs.Residents.{is_taken};
+ghost use Rattle.object_table.specs.Parts.{slots_at_cell};
 
+use crate::cells::Cells;
+use crate::ids::Ids;
 use crate::kinds::Kinds;
-use crate::objects::Objects;
+use crate::object::Object;
 use crate::roots::Roots;
+use crate::slot::Slot;
 use graph_meaning::{Refusal, Stop};
 use heap_base::{MOST_KINDS, MOST_OBJECTS, MOST_ROOTS, MOST_SLOTS, Name, ObjId, OutOfMemory};
 use std::alloc::Global;
@@ -19,22 +25,26 @@ use std::marker::Model;
 /// it stands for, by ids, and which object each cell holds.
 #[derive(Drop)]
 pub struct ObjectTable {
-    objects: Objects,
+    cells: Cells,
+    ids: Ids,
     roots: Roots,
     kinds: Kinds,
     // the greatest id that was allocated, 0 before the first
     greatest: u32,
+    // how many slots the objects have together
+    slots: u32,
+    alloc: Global,
 }
 
 impl Model for ObjectTable {
     ghost use Rattle.object_table.specs.Placed.{Placed};
-    ghost use Rattle.object_table.specs.Rows.{placed_of, IsJoined};
+    ghost use Rattle.object_table.specs.Parts.{placed_of, IsTable};
 
     ghost Value = { Placed };
 
-    ghost view = { λ t. placed_of t.objects t.roots t.kinds t.greatest };
+    ghost view = { λ t. placed_of (record { cells = t.cells.cells; ids = t.ids; roots = t.roots; kinds = t.kinds; greatest = t.greatest; slots = t.slots }) };
 
-    ghost invariant = { λ t. IsJoined t.objects t.roots t.kinds t.greatest };
+    ghost invariant = { λ t. IsTable (record { cells = t.cells.cells; ids = t.ids; roots = t.roots; kinds = t.kinds; greatest = t.greatest; slots = t.slots }) };
 }
 
 impl ObjectTable {
@@ -43,10 +53,13 @@ impl ObjectTable {
         ensures empty { IfOk result (λ t. t ≡ nothing_placed) }
     {
         Ok(ObjectTable {
-            objects: Objects::make(alloc),
+            cells: Cells::make(alloc),
+            ids: Ids::make(alloc),
             roots: Roots::make(alloc),
             kinds: Kinds::make(alloc),
             greatest: 0,
+            slots: 0,
+            alloc,
         })
     }
 
@@ -56,9 +69,9 @@ impl ObjectTable {
     {
         if id.number() <= self.greatest {
             Some(Refusal::IdNotRising(id.number()))
-        } else if self.objects.len() >= MOST_OBJECTS {
+        } else if self.live() >= MOST_OBJECTS {
             Some(Refusal::TooManyObjects)
-        } else if slots > MOST_SLOTS - self.objects.slots() {
+        } else if slots > MOST_SLOTS - self.slots {
             Some(Refusal::TooManySlots)
         } else {
             self.kind_refusal(kind)
@@ -89,8 +102,24 @@ impl ObjectTable {
         ensures cells { self.new.cells ≡ self.old.cells }
         ensures err { OnErr result (self.new ≡ self.old) }
     {
-        let place = self.store_place(at, slot, &to)?;
-        self.objects.store(place, slot, to);
+        let cell = self.cell_with_slot(at, slot)?;
+        let held = self.target_cell(to)?;
+        let weak = self.cells.at(cell).slot(slot).weak;
+        self.cells.set_slot(cell, slot, Slot { held, weak });
+        Ok(())
+    }
+
+    /// Makes a slot weak, or no longer weak; it holds what it held. It refuses, in this order, an `at` that is
+    /// not live (`NotLive`), and a slot that `at` does not have (`BadSlot`).
+    pub fn set_weak(&mut self, at: ObjId, slot: u32, weak: bool) -> Result<(), Refusal>
+        ensures refused { result_err result ≡ slot_refusal self.old.table at slot }
+        ensures changed { OnOk result (self.new.table ≡ with_changed_slot self.old.table at slot (slot_made_weak weak)) }
+        ensures cells { self.new.cells ≡ self.old.cells }
+        ensures err { OnErr result (self.new ≡ self.old) }
+    {
+        let cell = self.cell_with_slot(at, slot)?;
+        let held = self.cells.at(cell).slot(slot).held;
+        self.cells.set_slot(cell, slot, Slot { held, weak });
         Ok(())
     }
 
@@ -156,14 +185,14 @@ impl ObjectTable {
         ensures placed { IsPlaced self.now }
         ensures sound { IsSound self.now.table }
     {
-        self.objects.len()
+        self.cells.len()
     }
 
     /// How many objects are live.
     pub fn live(&self) -> u32
         ensures count { result ≡ length self.now.table.objects }
     {
-        self.objects.len()
+        self.ids.len() as u32
     }
 
     /// The cell that holds the object, and `None` where it is not live.
@@ -171,7 +200,7 @@ impl ObjectTable {
         ensures cell { IfSome result (λ cell. id_in self.now cell ≡ Some id) }
         ensures live { is_some result ≡ is_live self.now.table id }
     {
-        self.objects.place(id)
+        self.ids.find(id)
     }
 
     /// The object that a cell holds, and `None` where it is empty.
@@ -179,7 +208,7 @@ impl ObjectTable {
         requires in_range { cell < length self.now.cells }
         ensures id { result ≡ id_in self.now cell }
     {
-        Some(self.objects.at(cell).id())
+        self.cells.id_at(cell)
     }
 
     /// The number of the type of the object in a cell.
@@ -187,7 +216,7 @@ impl ObjectTable {
         requires taken { IsSome (id_in self.now cell) }
         ensures number { IfSome (object_in self.now cell) (λ o. position (bytes_eq o.kind) self.now.table.kinds ≡ Some result) }
     {
-        self.objects.at(cell).kind()
+        self.cells.at(cell).kind()
     }
 
     /// How many slots the object in a cell has.
@@ -195,7 +224,7 @@ impl ObjectTable {
         requires taken { IsSome (id_in self.now cell) }
         ensures count { result ≡ length (slots_in self.now cell) }
     {
-        self.objects.at(cell).slots()
+        self.cells.at(cell).slots()
     }
 
     /// The cell of the object that an edge leads to from a slot of the object in a cell, and `None` where the
@@ -205,10 +234,28 @@ impl ObjectTable {
         ensures leads { option_and_then (id_in self.now) result ≡ edge_of (slot_in self.now cell slot) }
         ensures in_a_cell { is_some result ≡ is_some (edge_of (slot_in self.now cell slot)) }
     {
-        match self.objects.at(cell).slot(slot) {
-            Some(id) => self.objects.place(id),
-            None => None,
-        }
+        let slot = self.cells.at(cell).slot(slot);
+        if slot.weak { None } else { slot.held }
+    }
+
+    /// The cell of the object that a slot of the object in a cell holds, weak or not, and `None` where the slot is
+    /// empty.
+    pub fn held_at(&self, cell: u32, slot: u32) -> Option<u32>
+        requires a_slot { slot < length (slots_in self.now cell) }
+        ensures holds { option_and_then (id_in self.now) result ≡ (slot_in self.now cell slot).held }
+        ensures in_a_cell { is_some result ≡ is_some (slot_in self.now cell slot).held }
+    {
+        let value = self.cells.at(cell).slot(slot);
+        value.held
+    }
+
+    /// Whether a slot of the object in a cell is weak.
+    pub fn weak_at(&self, cell: u32, slot: u32) -> bool
+        requires a_slot { slot < length (slots_in self.now cell) }
+        ensures weak { result ≡ (slot_in self.now cell slot).weak }
+    {
+        let slot = self.cells.at(cell).slot(slot);
+        slot.weak
     }
 
     /// How many roots there are. They are numbered from 0 by the bytes of their names.
@@ -231,19 +278,23 @@ impl ObjectTable {
         requires in_range { root < length self.now.table.roots }
         ensures cell { IfSome (slice_get self.now.table.roots root) (λ r. id_in self.now result ≡ Some r.1) }
     {
-        match self.objects.place(self.roots.id(root)) {
+        match self.ids.find(self.roots.id(root)) {
             Some(cell) => cell,
             None => unreachable!(),
         }
     }
 
-    /// Frees every object whose cell is not kept. A slot that held one is empty then.
+    /// Frees every object whose cell is not kept. Each kept object keeps its cell; a slot that held a freed one is
+    /// empty then, and stays weak where it is.
     pub fn keep(&mut self, kept: &[bool])
         requires each { length kept.now ≡ length self.old.cells }
         requires closed { LeadsToKept self.old.table (kept_ids self.old.cells kept.now) }
         ensures kept { self.new.table ≡ with_only (kept_ids self.old.cells kept.now) self.old.table }
+        ensures cells { KeepsCells self.old self.new (kept_ids self.old.cells kept.now) }
     {
-        self.objects.keep(kept);
+        self.cells.keep(kept);
+        self.ids.keep(kept);
+        self.slots = slots_of(&self.ids, &self.cells);
     }
 
     // Why a new object may not have this type.
@@ -257,21 +308,11 @@ impl ObjectTable {
         }
     }
 
-    // Why a slot or a root may not hold this.
-    fn target_refusal(&self, to: &Option<ObjId>) -> Option<Refusal>
-        ensures { result ≡ target_refusal self.now.table to.now }
-    {
-        match to {
-            Some(id) => self.not_live(*id),
-            None => None,
-        }
-    }
-
     // Why nothing may lead to this id.
     fn not_live(&self, id: ObjId) -> Option<Refusal>
         ensures { result ≡ not_live self.now.table id }
     {
-        match self.objects.place(id) {
+        match self.ids.find(id) {
             Some(_) => None,
             None => Some(Refusal::NotLive(id.number())),
         }
@@ -305,24 +346,37 @@ impl ObjectTable {
         Ok(self.roots.set(name, id)?)
     }
 
-    // The cell of the object that is stored into, or why the store is refused.
-    fn store_place(&self, at: ObjId, slot: u32, to: &Option<ObjId>) -> Result<u32, Refusal>
-        ensures refused { result_err result ≡ store_refusal self.now.table at slot to.now }
-        ensures place { IfOk result (λ place. id_in self.now place ≡ Some at) }
+    // The cell of an object that has the slot, or why there is none.
+    fn cell_with_slot(&self, at: ObjId, slot: u32) -> Result<u32, Refusal>
+        ensures refused { result_err result ≡ slot_refusal self.now.table at slot }
+        ensures cell { IfOk result (λ cell. id_in self.now cell ≡ Some at) }
     {
-        let Some(place) = self.objects.place(at) else {
+        let Some(cell) = self.ids.find(at) else {
             return Err(Refusal::NotLive(at.number()));
         };
-        if slot >= self.objects.at(place).slots() {
+        if slot >= self.cells.at(cell).slots() {
             return Err(Refusal::BadSlot(slot));
         }
-        match self.target_refusal(to) {
-            Some(refusal) => Err(refusal),
-            None => Ok(place),
+        Ok(cell)
+    }
+
+    // The cell of what a slot is to hold, or why it may not hold it.
+    fn target_cell(&self, to: Option<ObjId>) -> Result<Option<u32>, Refusal>
+        ensures refused { result_err result ≡ target_refusal self.now.table to }
+        ensures holds { IfOk result (λ cell. option_and_then (id_in self.now) cell ≡ to) }
+        ensures taken { IfOk result (λ o. IfSome o (λ cell. IsSome (id_in self.now cell))) }
+    {
+        let Some(id) = to else {
+            return Ok(None);
+        };
+        match self.ids.find(id) {
+            Some(cell) => Ok(Some(cell)),
+            None => Err(Refusal::NotLive(id.number())),
         }
     }
 
-    // Puts the object last. Where memory is wanting, nothing has changed.
+    // Puts the object into the cell that comes next. All memory is taken before anything is changed that would
+    // have to be changed back, but for the last id.
     fn add_object(&mut self, id: ObjId, kind: &Name, slots: u32) -> Result<(), OutOfMemory>
         requires { alloc_refusal self.old.table id kind.now slots ≡ None }
         ensures added { OnOk result (self.new.table ≡ with_object self.old.table id kind.now slots) }
@@ -330,12 +384,29 @@ impl ObjectTable {
         ensures err { OnErr result (self.new ≡ self.old) }
     {
         let number = self.kinds.find(kind).unwrap_or(self.kinds.len());
-        self.objects.push(id, number, slots)?;
+        let object = Object::make(self.alloc, id, number, slots)?;
+        self.cells.reserve()?;
+        self.ids.push(id, self.cells.next())?;
         let Ok(_) = self.kinds.number(kind) else {
-            self.objects.pop();
+            self.ids.pop();
             return Err(OutOfMemory);
         };
+        self.cells.put(object);
         self.greatest = id.number();
+        self.slots += slots;
         Ok(())
     }
+}
+
+// How many slots the objects have together.
+fn slots_of(ids: &Ids, cells: &Cells) -> u32
+    requires taken { All (λ e. IsTrue (is_taken cells.now.cells e.1)) ids.now }
+    requires few { sum_by (λ e. slots_at_cell cells.now.cells e.1) ids.now ≤ MOST_SLOTS }
+    ensures { result ≡ sum_by (λ e. slots_at_cell cells.now.cells e.1) ids.now }
+{
+    let mut slots = 0;
+    for place in 0..ids.len() {
+        slots += cells.at(ids.cell(place)).slots();
+    }
+    slots
 }

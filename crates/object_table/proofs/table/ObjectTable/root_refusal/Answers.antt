@@ -1,7 +1,8 @@
 use Rattle.std.proofs.Common.{sym, ◌∙◌, arith}
 use Rattle.graph_meaning.specs.Heap.{Table}
-use Rattle.object_table.specs.Rows.{placed_of}
+use Rattle.object_table.specs.Parts.{placed_of}
 use Rattle.object_table.proofs.Refusals.{root_dead, root_full, root_there, root_room}
+use Rattle.object_table.proofs.Tables.{parts_in}
 use Rattle.object_table.proofs.table.ObjectTable.root_refusal.Goals as goal
 
 pub returns-in-Some : goal.returns-in-Some
@@ -9,12 +10,12 @@ returns-in-Some c = sym (root_dead c.args.self.now.table c.args.name.now c.args.
 
 pub returns-then-not-has : goal.returns-then-not-has
 returns-then-not-has c =
-    let t : Table = (placed_of c.self.inside.objects c.self.inside.roots c.self.inside.kinds c.self.inside.greatest).table in
+    let t : Table = (placed_of (parts_in c.self.inside)).table in
     rw (← c.self.view_is) (sym (root_full t c.args.name.now c.args.id (rw (← c.self.view_is) at (sym c.not_live.ensures ∙ c.in_default.is)) (sym c.if-not-has.ensures) (omega arith)))
 
 pub returns-else-len-ge-MOST_ROOTS : goal.returns-else-len-ge-MOST_ROOTS
 returns-else-len-ge-MOST_ROOTS c =
-    let t : Table = (placed_of c.self.inside.objects c.self.inside.roots c.self.inside.kinds c.self.inside.greatest).table in
+    let t : Table = (placed_of (parts_in c.self.inside)).table in
     let live = rw (← c.self.view_is) at (sym c.not_live.ensures ∙ c.in_default.is) in
     rw (← c.self.view_is) (sym (elim c.else-len-ge-MOST_ROOTS.branch [
       | goal.else-len-ge-MOST_ROOTS-via-then-len-ge-MOST_ROOTS+else-not-has w ↦ root_there t c.args.name.now c.args.id live (sym w.if-not-has.ensures)

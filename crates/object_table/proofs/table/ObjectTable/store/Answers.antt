@@ -1,39 +1,34 @@
-use Rattle.std.proofs.Common.{sym, refl, subst}
-use Rattle.graph_meaning.specs.Heap.{Table}
-use Rattle.object_table.specs.Placed.{IsSound}
-use Rattle.object_table.specs.Rows.{placed_of}
-use Rattle.object_table.proofs.Refusals.{store_fits}
-use Rattle.object_table.proofs.Sound.{sound_with_store}
-use Rattle.object_table.proofs.Tables.{row-id_in, slots_of-row, target_live, joined_stored, stored_is, cells-stored}
+use Rattle.std.proofs.Common.{sym}
+use Rattle.std.proofs.lemmas.Result.{err_from_is_err_and}
+use Rattle.object_table.specs.Parts.{placed_of}
+use Rattle.object_table.proofs.Refusals.{store_by_slot, store_by_target, store_allowed}
+use Rattle.object_table.proofs.Tables.{parts_in, slot_of_cell, stored}
 use Rattle.object_table.proofs.table.ObjectTable.store.Goals as goal
 
--- the row at the place has the id, and so the slot
-pub store-requires-clause-a_slot : goal.store-requires-clause-a_slot
-store-requires-clause-a_slot c =
-    let t : Table = (placed_of c.self.inside.objects c.self.inside.roots c.self.inside.kinds c.self.inside.greatest).table in
-    let row = row-id_in c.self.inside.objects c.self.inside.roots c.self.inside.kinds c.self.inside.greatest c.in_ok-place.place c.args.at (rw (← c.self.view_is) at c.in_ok-place.ensures.place) in
-    let fits = store_fits t c.args.at c.args.slot c.args.to (rw (← c.self.view_is) at (sym c.in_ok-place.ensures.refused)) in
-    rw row.1 (rw (sym row.2, slots_of-row c.self.inside.kinds c.self.inside.objects c.in_ok-place.place row.0 c.self.invariant.rising row.1) at fits.a_slot)
+pub returns-in_err-cell-clause-refused : goal.returns-in_err-cell-clause-refused
+returns-in_err-cell-clause-refused c =
+    let p = err_from_is_err_and c.from_residual.result c.from_residual.ensures.1 in
+    rw (p.1, p.2) (sym (store_by_slot c.args.self.now.table c.args.at c.args.slot c.args.to _ (sym c.in_err-cell.ensures.refused)))
 
-pub store-requires-clause-live : goal.store-requires-clause-live
-store-requires-clause-live c =
-    let t : Table = (placed_of c.self.inside.objects c.self.inside.roots c.self.inside.kinds c.self.inside.greatest).table in
-    target_live c.self.inside.objects c.self.inside.roots c.self.inside.kinds c.self.inside.greatest c.args.to (store_fits t c.args.at c.args.slot c.args.to (rw (← c.self.view_is) at (sym c.in_ok-place.ensures.refused))).target
+pub returns-in_err-held-clause-refused : goal.returns-in_err-held-clause-refused
+returns-in_err-held-clause-refused c =
+    let p = err_from_is_err_and c.from_residual-in_err-held.result c.from_residual-in_err-held.ensures.1 in
+    rw (p.1, p.2) (sym (store_by_target c.args.self.now.table c.args.at c.args.slot c.args.to _ (sym c.in_ok-cell.ensures.refused) (sym c.in_err-held.ensures.refused)))
+
+pub slot-weak-requires : goal.slot-weak-requires
+slot-weak-requires c = slot_of_cell (parts_in c.self.inside) c.self.invariant c.args.at c.args.slot c.in_ok-cell.cell c.at.result.now (rw (← c.self.view_is) at c.in_ok-cell.ensures.cell) c.at.ensures (rw (← c.self.view_is) at (sym c.in_ok-cell.ensures.refused))
+
+pub set_slot-requires-clause-a_slot : goal.set_slot-requires-clause-a_slot
+set_slot-requires-clause-a_slot c = rw c.at.ensures (slot_of_cell (parts_in c.self.inside) c.self.invariant c.args.at c.args.slot c.in_ok-cell.cell c.at.result.now (rw (← c.self.view_is) at c.in_ok-cell.ensures.cell) c.at.ensures (rw (← c.self.view_is) at (sym c.in_ok-cell.ensures.refused)))
 
 pub invariant_of-self : goal.invariant_of-self
-invariant_of-self c =
-    let row = row-id_in c.self.inside.objects c.self.inside.roots c.self.inside.kinds c.self.inside.greatest c.in_ok-place.place c.args.at (rw (← c.self.view_is) at c.in_ok-place.ensures.place) in
-    let t : Table = (placed_of c.self.inside.objects c.self.inside.roots c.self.inside.kinds c.self.inside.greatest).table in
-    let is = stored_is c.self.inside.objects c.self.inside.roots c.self.inside.kinds c.self.inside.greatest c.in_ok-place.place c.args.at c.args.slot c.args.to row.0 c.self.invariant.rising row.1 row.2 in
-    let sound = sound_with_store t c.args.at c.args.slot c.args.to c.self.invariant.sound (rw (← c.self.view_is) at (sym c.in_ok-place.ensures.refused)) in
-    rw (rw row.1 at c.store.ensures) (joined_stored c.self.inside.objects c.self.inside.roots c.self.inside.kinds c.self.inside.greatest c.in_ok-place.place c.args.slot c.args.to row.0 c.self.invariant row.1 (subst IsSound (sym is) sound))
+invariant_of-self c = (stored (parts_in c.self.inside) c.self.invariant c.args.at c.args.slot c.in_ok-cell.cell c.args.to c.in_ok-held.held c.at.result.now c.slot-weak.result c.set_slot.new.self.cells (rw (← c.self.view_is) at c.in_ok-cell.ensures.cell) c.at.ensures c.slot-weak.ensures (rw (← c.self.view_is) at c.in_ok-held.ensures.holds) (rw (← c.self.view_is) at c.in_ok-held.ensures.taken) (store_allowed (placed_of (parts_in c.self.inside)).table c.args.at c.args.slot c.args.to (rw (← c.self.view_is) at (sym c.in_ok-cell.ensures.refused)) (rw (← c.self.view_is) at (sym c.in_ok-held.ensures.refused))) (rw c.at.ensures at c.set_slot.ensures)).table
+
+pub returns-clause-refused : goal.returns-clause-refused
+returns-clause-refused c = sym (store_allowed c.args.self.now.table c.args.at c.args.slot c.args.to (sym c.in_ok-cell.ensures.refused) (sym c.in_ok-held.ensures.refused))
 
 pub returns-clause-stored : goal.returns-clause-stored
-returns-clause-stored c =
-    let row = row-id_in c.self.inside.objects c.self.inside.roots c.self.inside.kinds c.self.inside.greatest c.in_ok-place.place c.args.at (rw (← c.self.view_is) at c.in_ok-place.ensures.place) in
-    rw (← c.self.view_is, rw row.1 at c.store.ensures) (stored_is c.self.inside.objects c.self.inside.roots c.self.inside.kinds c.self.inside.greatest c.in_ok-place.place c.args.at c.args.slot c.args.to row.0 c.self.invariant.rising row.1 row.2)
+returns-clause-stored c = rw (← c.self.view_is) (stored (parts_in c.self.inside) c.self.invariant c.args.at c.args.slot c.in_ok-cell.cell c.args.to c.in_ok-held.held c.at.result.now c.slot-weak.result c.set_slot.new.self.cells (rw (← c.self.view_is) at c.in_ok-cell.ensures.cell) c.at.ensures c.slot-weak.ensures (rw (← c.self.view_is) at c.in_ok-held.ensures.holds) (rw (← c.self.view_is) at c.in_ok-held.ensures.taken) (store_allowed (placed_of (parts_in c.self.inside)).table c.args.at c.args.slot c.args.to (rw (← c.self.view_is) at (sym c.in_ok-cell.ensures.refused)) (rw (← c.self.view_is) at (sym c.in_ok-held.ensures.refused))) (rw c.at.ensures at c.set_slot.ensures)).same
 
 pub returns-clause-cells : goal.returns-clause-cells
-returns-clause-cells c =
-    let row = row-id_in c.self.inside.objects c.self.inside.roots c.self.inside.kinds c.self.inside.greatest c.in_ok-place.place c.args.at (rw (← c.self.view_is) at c.in_ok-place.ensures.place) in
-    rw (← c.self.view_is, rw row.1 at c.store.ensures) (cells-stored c.self.inside.objects c.in_ok-place.place row.0 _ row.1 refl)
+returns-clause-cells c = rw (← c.self.view_is) (stored (parts_in c.self.inside) c.self.invariant c.args.at c.args.slot c.in_ok-cell.cell c.args.to c.in_ok-held.held c.at.result.now c.slot-weak.result c.set_slot.new.self.cells (rw (← c.self.view_is) at c.in_ok-cell.ensures.cell) c.at.ensures c.slot-weak.ensures (rw (← c.self.view_is) at c.in_ok-held.ensures.holds) (rw (← c.self.view_is) at c.in_ok-held.ensures.taken) (store_allowed (placed_of (parts_in c.self.inside)).table c.args.at c.args.slot c.args.to (rw (← c.self.view_is) at (sym c.in_ok-cell.ensures.refused)) (rw (← c.self.view_is) at (sym c.in_ok-held.ensures.refused))) (rw c.at.ensures at c.set_slot.ensures)).cells

@@ -1,0 +1,23 @@
+ghost use Rattle.std.specs.Prelude.{◌≡◌};
+ghost use Rattle.object_table.specs.Chains.{next_in};
+
+use crate::object::Object;
+
+/// A cell of a table: it holds an object, or it is empty and leads to the next empty cell, if there is one.
+#[derive(Drop)]
+pub enum Cell {
+    Taken(Object),
+    Empty(Option<u32>),
+}
+
+impl Cell {
+    /// The empty cell that it leads to.
+    pub fn next(&self) -> Option<u32>
+        ensures { result ≡ next_in self.now }
+    {
+        match self {
+            Cell::Taken(_) => None,
+            Cell::Empty(next) => *next,
+        }
+    }
+}

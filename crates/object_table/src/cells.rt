@@ -1,0 +1,156 @@
+ghost use Rattle.std.specs.Prelude.{◌≡◌, ℕ, ◌<◌, ◌≤◌, [], length, IsTrue, Some, IsSome, IfSome, OnOk, slice_get, slice_set};
+ghost use Rattle.std.specs.Option.{option_map};
+ghost use Rattle.heap_base.specs.declared.limits.TheConstants.{MOST_OBJECTS};
+ghost use Rattle.object_table.specs.Residents.{held_at, held_after, id_held, is_kept, next_cell, with_resident};
+ghost use Rattle.object_table.specs.Chains.{first_empty, IsLinked, cells_after, cell_after, empty_from};
+
+use crate::cell::Cell;
+use crate::object::Object;
+use crate::pages::Pages;
+use crate::slot::{Slot, is_kept};
+use heap_base::{ObjId, OutOfMemory};
+use std::alloc::Global;
+use std::marker::Model;
+
+/// The cells of a table, of which the empty ones form a list through themselves. Contracts see what each cell
+/// holds, and for how many more cells there is memory.
+#[derive(Drop)]
+pub struct Cells {
+    pages: Pages,
+    first_empty: Option<u32>,
+}
+
+impl Model for Cells {
+    ghost use Rattle.std.specs.Prelude.{Option, map};
+    ghost use Rattle.object_table.specs.Residents.{Resident};
+    ghost use Rattle.object_table.specs.Paged.{Roomy};
+
+    ghost Value = { Roomy (Option Resident) };
+
+    ghost use Rattle.object_table.specs.Chains.{resident_in, IsHoused};
+
+    ghost view = { λ c. record { cells = map resident_in c.pages.cells; room = c.pages.room } };
+
+    ghost invariant = { λ c. IsHoused c.pages.cells c.first_empty };
+}
+
+impl Cells {
+    /// No cell.
+    pub fn make(alloc: Global) -> Cells
+        ensures { result ≡ record { cells = []; room = 0 } }
+    {
+        Cells {
+            pages: Pages::make(alloc),
+            first_empty: None,
+        }
+    }
+
+    /// How many cells there are.
+    pub fn len(&self) -> u32
+        ensures count { result ≡ length self.now.cells }
+        ensures few { length self.now.cells ≤ MOST_OBJECTS }
+    {
+        self.pages.len()
+    }
+
+    /// The cell that the next object takes.
+    pub fn next(&self) -> u32
+        ensures { result ≡ next_cell self.now.cells }
+    {
+        match self.first_empty {
+            Some(cell) => cell,
+            None => self.pages.len(),
+        }
+    }
+
+    /// The object in a cell.
+    pub fn at(&self, cell: u32) -> &Object
+        requires { IsSome (held_at self.now.cells cell) }
+        ensures { held_at self.now.cells cell ≡ Some result.now }
+    {
+        match self.pages.at(cell) {
+            Cell::Taken(object) => object,
+            Cell::Empty(_) => unreachable!(),
+        }
+    }
+
+    /// The id of the object in a cell, and `None` where the cell is empty.
+    pub fn id_at(&self, cell: u32) -> Option<ObjId>
+        requires { cell < length self.now.cells }
+        ensures { result ≡ id_held self.now.cells cell }
+    {
+        match self.pages.at(cell) {
+            Cell::Taken(object) => Some(object.id()),
+            Cell::Empty(_) => None,
+        }
+    }
+
+    /// Takes memory for one more object.
+    pub fn reserve(&mut self) -> Result<(), OutOfMemory>
+        ensures cells { self.new.cells ≡ self.old.cells }
+        ensures room { OnOk result (0 < self.new.room) }
+    {
+        self.pages.reserve()
+    }
+
+    /// Puts an object into the cell that comes next.
+    pub fn put(&mut self, object: Object)
+        requires few { next_cell self.old.cells < MOST_OBJECTS }
+        requires room { 0 < self.old.room }
+        ensures { self.new.cells ≡ with_resident self.old.cells object }
+    {
+        match self.first_empty {
+            Some(cell) => {
+                self.first_empty = self.pages.at(cell).next();
+                self.pages.put(cell, Cell::Taken(object));
+            }
+            None => self.pages.push(Cell::Taken(object)),
+        }
+    }
+
+    /// Puts a slot of the object in a cell.
+    pub fn set_slot(&mut self, cell: u32, slot: u32, value: Slot)
+        requires taken { IsSome (held_at self.old.cells cell) }
+        requires a_slot { IfSome (held_at self.old.cells cell) (λ o. slot < length o.slots) }
+        ensures { IfSome (held_at self.old.cells cell) (λ o. self.new.cells ≡ slice_set self.old.cells cell (Some (record o { slots = slice_set o.slots slot value }))) }
+    {
+        self.pages.set_slot(cell, slot, value);
+    }
+
+    /// Empties the cells that are not kept, and each slot that holds what stood in one.
+    pub fn keep(&mut self, kept: &[bool])
+        ensures count { length self.new.cells ≡ length self.old.cells }
+        ensures after { (cell : ℕ) → held_at self.new.cells cell ≡ held_after kept.now self.old.cells cell }
+    {
+        self.first_empty = sweep(&mut self.pages, kept);
+    }
+}
+
+// Empties the cells that are not kept, and each slot that holds what stood in one. It answers the first empty cell.
+fn sweep(pages: &mut Pages, kept: &[bool]) -> Option<u32>
+    ensures cells { pages.new.cells ≡ cells_after kept.now 0 pages.old.cells }
+    ensures room { pages.new.room ≡ pages.old.room }
+    ensures first { result ≡ first_empty 0 pages.new.cells }
+{
+    let mut first = None;
+    for cell in (0..pages.len()).rev() {
+        first = sweep_cell(pages, cell, first, kept);
+    }
+    first
+}
+
+// Empties the cell where it is not kept, and else the slots of the object in it that hold what stood in a cell that is not
+// kept. It answers the first empty cell from this one on, where `later` is the first after it.
+fn sweep_cell(pages: &mut Pages, cell: u32, later: Option<u32>, kept: &[bool]) -> Option<u32>
+    requires { cell < length pages.old.cells }
+    ensures put { IfSome (slice_get pages.old.cells cell) (λ c. pages.new ≡ record pages.old { cells = slice_set pages.old.cells cell (cell_after (is_kept kept.now cell) kept.now later c) }) }
+    ensures first { IfSome (slice_get pages.old.cells cell) (λ c. result ≡ empty_from cell (cell_after (is_kept kept.now cell) kept.now later c) later) }
+{
+    if is_kept(kept, cell) && matches!(pages.at(cell), Cell::Taken(_)) {
+        pages.keep(cell, kept);
+        later
+    } else {
+        pages.put(cell, Cell::Empty(later));
+        Some(cell)
+    }
+}
