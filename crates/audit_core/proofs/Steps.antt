@@ -1,5 +1,5 @@
 -- How the operations of a trace change what an auditor holds.
-use Rattle.std.proofs.Common.{◌≡◌, ℕ, true, false, List, [], ◌∷◌, IsTrue, Option, None, Some, Result, Ok, Err, sym, ap, refl, subst, ◌∙◌}
+use Rattle.std.proofs.Common.{◌≡◌, ℕ, Bool, true, false, List, [], ◌∷◌, IsTrue, Option, None, Some, Result, Ok, Err, sym, ap, refl, subst, ◌∙◌}
 use Rattle.std.specs.List.{All}
 use Rattle.std.specs.Option.{is_some}
 use Rattle.std.specs.Result.{OnOk, OnErr, IsErr, IsErrAnd, result_err}
@@ -11,14 +11,14 @@ use Rattle.std.proofs.lemmas.Bool.{or_left}
 use Rattle.std.proofs.lemmas.List.Elements.{All-weaker, All-cons, All-head, All-tail}
 use Rattle.std.proofs.lemmas.Result.{on_ok_weaker, on_err_weaker}
 use Rattle.graph_meaning.specs.declared.event.Event.{Event}
-use Rattle.graph_meaning.specs.declared.event.Event.TheVariants.{Alloc, Store, Root, AssertDead}
+use Rattle.graph_meaning.specs.declared.event.Event.TheVariants.{Alloc, Store, SetWeak, Root, AssertDead}
 use Rattle.graph_meaning.specs.declared.refusal.Refusal.{Refusal}
 use Rattle.graph_meaning.specs.declared.refusal.Refusal.TheVariants.{NotLive}
 use Rattle.graph_meaning.specs.declared.refusal.Stop.{Stop}
 use Rattle.graph_meaning.specs.declared.refusal.Stop.TheVariants.{Refused, OutOfMemory}
 use Rattle.graph_meaning.specs.Answers.{RefusesBy}
-use Rattle.graph_meaning.specs.Heap.{Table, Heap, is_live, object_at, no_regions}
-use Rattle.graph_meaning.specs.Step.{alloc_refusal, with_object, store_refusal, with_changed_slot, slot_holding, root_refusal, with_root, not_live, with_member, heap_unless, step}
+use Rattle.graph_meaning.specs.Heap.{Slot, Table, Heap, is_live, object_at, no_regions}
+use Rattle.graph_meaning.specs.Step.{alloc_refusal, with_object, slot_refusal, store_refusal, with_changed_slot, slot_holding, slot_made_weak, root_refusal, with_root, not_live, with_member, heap_unless, step}
 use Rattle.graph_meaning.proofs.HeapLemmas.{is_live-with_object, is_live-with_change, objects-with_root}
 use Rattle.audit_core.proofs.Reached.{with_member-no_regions}
 use Rattle.audit_core.specs.Audit.{Audit, Follows, pathless}
@@ -30,9 +30,9 @@ pub live-with_object : (t : Table) (id : ℕ) (kind : List ℕ) (slots : ℕ) (d
 live-with_object t id kind slots dead live =
     All-weaker (λ x. IsTrue (is_live t x)) (λ x. IsTrue (is_live (with_object t id kind slots) x)) (λ x at. is_live-with_object t id kind slots x ∙ or_left _ _ at) dead live
 
-pub live-with_change : (t : Table) (at slot : ℕ) (to : Option ℕ) (dead : List ℕ) → All (λ x. IsTrue (is_live t x)) dead → All (λ x. IsTrue (is_live (with_changed_slot t at slot (slot_holding to)) x)) dead
-live-with_change t at slot to dead live =
-    All-weaker (λ x. IsTrue (is_live t x)) (λ x. IsTrue (is_live (with_changed_slot t at slot (slot_holding to)) x)) (λ x before. is_live-with_change t at slot (slot_holding to) x ∙ before) dead live
+pub live-with_change : (t : Table) (at slot : ℕ) (change : Slot → Slot) (dead : List ℕ) → All (λ x. IsTrue (is_live t x)) dead → All (λ x. IsTrue (is_live (with_changed_slot t at slot change) x)) dead
+live-with_change t at slot change dead live =
+    All-weaker (λ x. IsTrue (is_live t x)) (λ x. IsTrue (is_live (with_changed_slot t at slot change) x)) (λ x before. is_live-with_change t at slot change x ∙ before) dead live
 
 pub live-with_root : (t : Table) (name : List ℕ) (to : Option ℕ) (dead : List ℕ) → All (λ x. IsTrue (is_live t x)) dead → All (λ x. IsTrue (is_live (with_root t name to) x)) dead
 live-with_root t name to dead live =
@@ -99,6 +99,13 @@ module _ {T : Type 0} (t after : Table) (dead : List ℕ) (collections violation
   unfolding step
   Follows-store at_id slot to refused done err =
       Follows-by (at t) (at after) (Store at_id slot to) result (store_refusal t at_id slot to) (heap_of (with_changed_slot t at_id slot (slot_holding to)) dead) refl refused
+      (on_ok_weaker result (λ e. ap (λ table. heap_of table dead) e) done)
+      refl (same_after err)
+
+  pub Follows-weak : (at_id slot : ℕ) (weak : Bool) → RefusesBy result (slot_refusal t at_id slot) → OnOk result (after ≡ with_changed_slot t at_id slot (slot_made_weak weak)) → OnErr result (after ≡ t) → Follows (at t) (SetWeak at_id slot weak) result (at after)
+  unfolding step
+  Follows-weak at_id slot weak refused done err =
+      Follows-by (at t) (at after) (SetWeak at_id slot weak) result (slot_refusal t at_id slot) (heap_of (with_changed_slot t at_id slot (slot_made_weak weak)) dead) refl refused
       (on_ok_weaker result (λ e. ap (λ table. heap_of table dead) e) done)
       refl (same_after err)
 

@@ -48,7 +48,7 @@ is_applied (AssertAllDead thread) = false
 is_applied (AssertInstances kind limit) = false
 is_applied (AssertUnshared id) = false
 is_applied (AssertOwnedBy owner ownee) = false
-is_applied (SetWeak at slot weak) = false
+is_applied (SetWeak at slot weak) = true
 is_applied Collect = false
 
 -- One operation: what `step` refuses is refused, else the heap is what `step` leaves, and after an error nothing has

@@ -67,6 +67,7 @@ impl Auditor {
                 thread: _,
             } => self.alloc_object(*id, kind, *slots),
             Event::Store { at, slot, to } => self.store(*at, *slot, *to),
+            Event::SetWeak { at, slot, weak } => self.set_weak(*at, *slot, *weak),
             Event::Root { name, to } => self.set_root(name, *to),
             Event::AssertDead { id } => self.assert_dead(*id),
             _ => unreachable!(),
@@ -131,6 +132,13 @@ impl Auditor {
         ensures { Follows self.old (Event.Store at slot to) result self.new }
     {
         self.table.store(at, slot, to)?;
+        Ok(())
+    }
+
+    fn set_weak(&mut self, at: ObjId, slot: u32, weak: bool) -> Result<(), Stop>
+        ensures { Follows self.old (Event.SetWeak at slot weak) result self.new }
+    {
+        self.table.set_weak(at, slot, weak)?;
         Ok(())
     }
 

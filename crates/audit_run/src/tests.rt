@@ -155,6 +155,102 @@ fn single_lines(rt: HostRuntime) -> Result<(), Fail> {
 }
 
 #[test]
+fn weak_slots_and_cells_used_again(rt: HostRuntime) -> Result<(), Fail> {
+    for (trace, report, status) in [
+        // a cell that was used again; the object with the greater id may stand in the smaller cell
+        (
+            "{\"op\":\"alloc\",\"id\":1,\"type\":\"X\",\"slots\":0}\n{\"op\":\"alloc\",\"id\":2,\"type\":\"Top\",\"slots\":2}\n{\"op\":\"alloc\",\"id\":3,\"type\":\"Mid\",\"slots\":1}\n{\"op\":\"root\",\"name\":\"r\",\"to\":2}\n{\"op\":\"store\",\"at\":2,\"slot\":0,\"to\":3}\n{\"op\":\"collect\"}\n{\"op\":\"alloc\",\"id\":4,\"type\":\"Mid\",\"slots\":1}\n{\"op\":\"alloc\",\"id\":5,\"type\":\"End\",\"slots\":0}\n{\"op\":\"store\",\"at\":2,\"slot\":1,\"to\":4}\n{\"op\":\"store\",\"at\":4,\"slot\":0,\"to\":5}\n{\"op\":\"store\",\"at\":3,\"slot\":0,\"to\":5}\n{\"op\":\"assert-dead\",\"id\":5}\n{\"op\":\"collect\"}\n",
+            "gc 1 live 3 traced 2 freed 1\ngc 2 live 4 traced 4 freed 0\ngc 2 dead 5 End: path left out\nend gcs 2 violations 1\n",
+            Status::Violated,
+        ),
+        // what only a weak slot holds is freed, and the slot is empty then
+        (
+            "{\"op\":\"alloc\",\"id\":1,\"type\":\"Cache\",\"slots\":1}\n{\"op\":\"alloc\",\"id\":2,\"type\":\"Val\",\"slots\":0}\n{\"op\":\"root\",\"name\":\"c\",\"to\":1}\n{\"op\":\"store\",\"at\":1,\"slot\":0,\"to\":2}\n{\"op\":\"set-weak\",\"at\":1,\"slot\":0,\"weak\":true}\n{\"op\":\"assert-dead\",\"id\":2}\n{\"op\":\"collect\"}\n{\"op\":\"alloc\",\"id\":3,\"type\":\"Val\",\"slots\":0}\n{\"op\":\"set-weak\",\"at\":1,\"slot\":0,\"weak\":false}\n{\"op\":\"assert-dead\",\"id\":3}\n{\"op\":\"collect\"}\n",
+            "gc 1 live 2 traced 1 freed 1\ngc 2 live 2 traced 1 freed 1\nend gcs 2 violations 0\n",
+            Status::Clean,
+        ),
+        // a slot that was emptied stays weak, until it is made strong and stored again
+        (
+            "{\"op\":\"alloc\",\"id\":1,\"type\":\"Cache\",\"slots\":1}\n{\"op\":\"alloc\",\"id\":2,\"type\":\"Val\",\"slots\":0}\n{\"op\":\"root\",\"name\":\"c\",\"to\":1}\n{\"op\":\"set-weak\",\"at\":1,\"slot\":0,\"weak\":true}\n{\"op\":\"store\",\"at\":1,\"slot\":0,\"to\":2}\n{\"op\":\"collect\"}\n{\"op\":\"alloc\",\"id\":3,\"type\":\"Val\",\"slots\":0}\n{\"op\":\"store\",\"at\":1,\"slot\":0,\"to\":3}\n{\"op\":\"collect\"}\n{\"op\":\"alloc\",\"id\":4,\"type\":\"Val\",\"slots\":0}\n{\"op\":\"set-weak\",\"at\":1,\"slot\":0,\"weak\":false}\n{\"op\":\"store\",\"at\":1,\"slot\":0,\"to\":4}\n{\"op\":\"collect\"}\n",
+            "gc 1 live 2 traced 1 freed 1\ngc 2 live 2 traced 1 freed 1\ngc 3 live 2 traced 2 freed 0\nend gcs 3 violations 0\n",
+            Status::Clean,
+        ),
+        // a slot that is weak and holds what lives on by another way keeps it
+        (
+            "{\"op\":\"alloc\",\"id\":1,\"type\":\"Cache\",\"slots\":1}\n{\"op\":\"alloc\",\"id\":2,\"type\":\"Val\",\"slots\":0}\n{\"op\":\"root\",\"name\":\"c\",\"to\":1}\n{\"op\":\"root\",\"name\":\"v\",\"to\":2}\n{\"op\":\"store\",\"at\":1,\"slot\":0,\"to\":2}\n{\"op\":\"set-weak\",\"at\":1,\"slot\":0,\"weak\":true}\n{\"op\":\"collect\"}\n{\"op\":\"set-weak\",\"at\":1,\"slot\":0,\"weak\":false}\n{\"op\":\"root\",\"name\":\"v\",\"to\":null}\n{\"op\":\"collect\"}\n",
+            "gc 1 live 2 traced 2 freed 0\ngc 2 live 2 traced 2 freed 0\nend gcs 2 violations 0\n",
+            Status::Clean,
+        ),
+        // an object in a cell that was used again has strong slots
+        (
+            "{\"op\":\"alloc\",\"id\":1,\"type\":\"Cache\",\"slots\":1}\n{\"op\":\"set-weak\",\"at\":1,\"slot\":0,\"weak\":true}\n{\"op\":\"collect\"}\n{\"op\":\"alloc\",\"id\":2,\"type\":\"Cache\",\"slots\":1}\n{\"op\":\"alloc\",\"id\":3,\"type\":\"Val\",\"slots\":0}\n{\"op\":\"root\",\"name\":\"c\",\"to\":2}\n{\"op\":\"store\",\"at\":2,\"slot\":0,\"to\":3}\n{\"op\":\"collect\"}\n",
+            "gc 1 live 1 traced 0 freed 1\ngc 2 live 2 traced 2 freed 0\nend gcs 2 violations 0\n",
+            Status::Clean,
+        ),
+        // a freed object has no slot to be made weak
+        (
+            "{\"op\":\"alloc\",\"id\":1,\"type\":\"Cache\",\"slots\":1}\n{\"op\":\"collect\"}\n{\"op\":\"set-weak\",\"at\":1,\"slot\":0,\"weak\":true}\n",
+            "gc 1 live 1 traced 0 freed 1\nfault line 3: NotLive 1\n",
+            Status::TraceFault,
+        ),
+        // nor has a live one a slot past its last
+        (
+            "{\"op\":\"alloc\",\"id\":1,\"type\":\"Cache\",\"slots\":1}\n{\"op\":\"set-weak\",\"at\":1,\"slot\":1,\"weak\":true}\n",
+            "fault line 2: BadSlot 1\n",
+            Status::TraceFault,
+        ),
+    ] {
+        expect(&rt, rt.alloc(), trace.as_bytes(), report, status)?;
+    }
+    Ok(())
+}
+
+#[test]
+fn fields_of_set_weak(rt: HostRuntime) -> Result<(), Fail> {
+    for (line, report) in [
+        (
+            "{\"op\":\"set-weak\",\"slot\":0,\"weak\":true}",
+            "fault line 1: MissingField at\n",
+        ),
+        (
+            "{\"op\":\"set-weak\",\"at\":0,\"slot\":0,\"weak\":true}",
+            "fault line 1: BadField at\n",
+        ),
+        (
+            "{\"op\":\"set-weak\",\"at\":1,\"weak\":true}",
+            "fault line 1: MissingField slot\n",
+        ),
+        (
+            "{\"op\":\"set-weak\",\"at\":1,\"slot\":-1,\"weak\":true}",
+            "fault line 1: BadField slot\n",
+        ),
+        (
+            "{\"op\":\"set-weak\",\"at\":1,\"slot\":4294967296,\"weak\":true}",
+            "fault line 1: BadField slot\n",
+        ),
+        (
+            "{\"op\":\"set-weak\",\"at\":1,\"slot\":0}",
+            "fault line 1: MissingField weak\n",
+        ),
+        (
+            "{\"op\":\"set-weak\",\"at\":1,\"slot\":0,\"weak\":1}",
+            "fault line 1: BadField weak\n",
+        ),
+        (
+            "{\"op\":\"set-weak\",\"at\":1,\"slot\":0,\"weak\":null}",
+            "fault line 1: BadField weak\n",
+        ),
+        (
+            "{\"op\":\"set-weak\",\"at\":1,\"slot\":0,\"weak\":true}",
+            "fault line 1: NotLive 1\n",
+        ),
+    ] {
+        expect(&rt, rt.alloc(), line.as_bytes(), report, Status::TraceFault)?;
+    }
+    Ok(())
+}
+
+#[test]
 fn long_lines(rt: HostRuntime) -> Result<(), Fail> {
     let collected = "gc 1 live 0 traced 0 freed 0\nend gcs 1 violations 0\n";
     let refused = "fault line 1: LineTooLong\n";

@@ -107,6 +107,10 @@ fn is_applied(event: &Event) -> bool
 {
     matches!(
         event,
-        Event::Alloc { .. } | Event::Store { .. } | Event::Root { .. } | Event::AssertDead { .. }
+        Event::Alloc { .. }
+            | Event::Store { .. }
+            | Event::SetWeak { .. }
+            | Event::Root { .. }
+            | Event::AssertDead { .. }
     )
 }

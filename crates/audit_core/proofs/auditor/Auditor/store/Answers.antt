@@ -19,7 +19,7 @@ invariant_of-self-2 c =
     let before = c.self.inside.table.table in
     let dead = c.self.inside.dead.keys in
     record {
-      live = holds_after (λ t. All (λ id. IsTrue (is_live t id)) dead) c.store.result before (with_changed_slot before c.args.at c.args.slot (slot_holding c.args.to)) c.store.new.self.table c.store.ensures.stored (on_err_weaker c.store.result (λ e. ap (λ (p : Placed). p.table) e) c.store.ensures.err) c.self.invariant.live (live-with_change before c.args.at c.args.slot c.args.to dead c.self.invariant.live);
+      live = holds_after (λ t. All (λ id. IsTrue (is_live t id)) dead) c.store.result before (with_changed_slot before c.args.at c.args.slot (slot_holding c.args.to)) c.store.new.self.table c.store.ensures.stored (on_err_weaker c.store.result (λ e. ap (λ (p : Placed). p.table) e) c.store.ensures.err) c.self.invariant.live (live-with_change before c.args.at c.args.slot (slot_holding c.args.to) dead c.self.invariant.live);
       few = c.self.invariant.few;
     }
 
