@@ -8,3 +8,4 @@ pub mod TurnChains
 pub mod LoanLemmas
 pub mod ReturnLemmas
 pub mod WholeRun
+pub mod CellTaskLemmas

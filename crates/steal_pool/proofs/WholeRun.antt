@@ -635,7 +635,7 @@ module _ {J S : Type 0} (M : Meaning J S) (s : S) (F : List Task) (n : ℕ) wher
       let q : Place J = padded_value r in
       let stock = a.0.stock in
       let none : length q.others.items ≡ 0 = sym (length_map q.others.items) ∙ ap length b.0 in
-            let room : lane_room z ≡ q.lane.room = ap (λ (u : Place J). u.lane.room) l.0.1 in
+      let room : lane_room z ≡ q.lane.room = ap (λ (u : Place J). u.lane.room) l.0.1 in
       let low = m.0 in
       let is : IsAtRest n left (record q { job = None }) = ((refl, q.others.ok.0 ∙ none, a.0.others_space, omega arith, a.0.space, rec_all (IsThiefOf (worker_deque q.lane.owner)) q.spare.items a.0.kin, a.0.rights), e.0, (omega arith, ap length a.0.start.can.room.empty, a.0.outbox)) in
       (subst (IsAtRest n left) (sym l.0.1) is, rest_all left rs ks zs a.1 c b.1 e.1 l.1 m.1)

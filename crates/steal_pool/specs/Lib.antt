@@ -2,6 +2,7 @@ pub mod Rests
 pub mod Runs
 pub mod FirstLists
 pub mod Outboxes
+pub mod CellTasks
 pub mod Seats
 pub mod Loans
 pub mod Jobs

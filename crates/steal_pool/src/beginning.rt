@@ -6,11 +6,11 @@ ghost use Rattle.heap_base.specs.Counting.{total};
 ghost use Rattle.steal_pool.specs.Hands.{blank};
 ghost use Rattle.steal_pool.specs.Steps.{begun_hand, with_took};
 
-use crate::lane::Lane;
-use crate::job::Job;
 use crate::deque::{BLANK, Owner, take};
-use crate::worker::is_blank;
+use crate::job::Job;
+use crate::lane::Lane;
 use crate::outcomes::{Begin, Terms};
+use crate::worker::is_blank;
 use std::marker::Brand;
 
 fn begin_under<B: Terms, S: Sync, J: Job<S>>(owner: &mut Owner, _job: &J, _shared: &S, _bound: u64)

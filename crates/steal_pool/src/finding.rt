@@ -3,8 +3,8 @@ ghost use Rattle.std.specs.Prelude.{◌≡◌, MatchOption};
 ghost use Rattle.steal_pool.specs.Loops.{FindsTask, FindsNone};
 
 use crate::lane::Lane;
-use crate::victim::Victim;
 use crate::stealing::try_others;
+use crate::victim::Victim;
 use heap_base::Task;
 
 pub fn find_task(lane: &mut Lane, others: &mut [Victim], from: usize) -> Option<Task>

@@ -7,8 +7,8 @@ ghost use Rattle.heap_base.specs.Counting.{total};
 ghost use Rattle.steal_pool.specs.Hands.{real};
 ghost use Rattle.steal_pool.specs.Steps.{Takes, IsEmptied, with_put, less, lent_hand, joined_hand};
 
-use crate::lane::Lane;
 use crate::deque::{HandPass, join, push, split, take};
+use crate::lane::Lane;
 use heap_base::Task;
 
 impl Lane {

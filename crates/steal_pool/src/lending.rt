@@ -9,8 +9,8 @@ ghost use Rattle.steal_pool.specs.Workers.{own};
 ghost use Rattle.steal_pool.specs.Lists.{Each};
 ghost use Rattle.steal_pool.specs.Loans.{HandKey, hand_key, keys_of, keys_in, key_in, keys_of_others, CanLend, CanReceive, OnlyLends, ReceivesHands, ExchangesHands};
 
-use crate::victim::Victim;
 use crate::place::Place;
+use crate::victim::Victim;
 use crossbeam_utils::CachePadded;
 
 /// A hand on the giver's deque for the taker.

@@ -1,9 +1,9 @@
 //! A worker's place in the crew.
-use crate::lane::Lane;
 use crate::deque::Thief;
-use crate::worker::Count;
+use crate::lane::Lane;
 use crate::outbox::Outbox;
 use crate::victim::Victim;
+use crate::worker::Count;
 
 #[derive(Drop)]
 pub struct Place<J> {

@@ -9,8 +9,8 @@ ghost use Rattle.steal_pool.specs.Workers.{own};
 ghost use Rattle.steal_pool.specs.Lists.{Each};
 ghost use Rattle.steal_pool.specs.Loans.{HandKey, hand_key, keys_of, keys_in, key_in, keys_of_others, CanTakeBack, OnlyTakesBack, ReturnsHands, RestoresHands, others_took, own_took, all_took};
 
-use crate::victim::Victim;
 use crate::place::Place;
+use crate::victim::Victim;
 use crossbeam_utils::CachePadded;
 
 /// The giver's last hand goes back to the owner of its deque.

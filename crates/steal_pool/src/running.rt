@@ -6,18 +6,14 @@ ghost use Rattle.crossbeam_utils.specs.Padded.{padded_value};
 ghost use Rattle.steal_pool.specs.Places.{CanStart, EndsWork, FinishesWork};
 
 use crate::job::Job;
-use crate::worker::{work_until_empty, work_until_idle};
 use crate::place::Place;
+use crate::worker::{work_until_empty, work_until_idle};
 use crossbeam_utils::CachePadded;
 use heap_base::Gate;
 use std::thread;
 use std::thread::Threads;
 
-fn run_place<S: Sync, J: Job<S>, G: Gate>(
-    place: &mut CachePadded<Place<J>>,
-    shared: &S,
-    gate: &G,
-)
+fn run_place<S: Sync, J: Job<S>, G: Gate>(place: &mut CachePadded<Place<J>>, shared: &S, gate: &G)
     requires { CanStart J.meaning shared.now (padded_value place.old) }
     ensures { EndsWork J.meaning shared.now (padded_value place.old) (padded_value place.new) }
 {

@@ -4,8 +4,8 @@ ghost use Rattle.heap_base.specs.declared.task.Task.{Task};
 ghost use Rattle.crossbeam_deque.specs.Handles.{view};
 ghost use Rattle.steal_pool.specs.Victims.{StealsFrom, IsUntouched, AreUntouched, total_took, StealsFromOne};
 
-use crate::hand::Hand;
 use crate::deque::steal;
+use crate::hand::Hand;
 use crate::victim::Victim;
 use heap_base::Task;
 

@@ -5,10 +5,10 @@ ghost use Rattle.steal_pool.specs.Workers.{HasRoom, DoesTask, own};
 ghost use Rattle.steal_pool.specs.Loops.{Advances, CanWork, TellsBlank, most_finds};
 ghost use Rattle.steal_pool.specs.Steps.{IsEmptied};
 
-use crate::finding::find_task;
-use crate::lane::Lane;
-use crate::job::Job;
 use crate::deque::BLANK;
+use crate::finding::find_task;
+use crate::job::Job;
+use crate::lane::Lane;
 use crate::outbox::Outbox;
 use crate::victim::Victim;
 use heap_base::{Gate, Task};

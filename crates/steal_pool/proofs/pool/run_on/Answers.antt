@@ -392,7 +392,6 @@ returns-clause-ran g c =
     subst (λ x. Run M s fs (record { jobs = js; room = room }) (record { jobs = x; room = c.least_room.result })) (sym left-is)
     (run_from M s F n room c.least_room.result js fs es gs rs ks zs W refl c.requires.blank fits c.take_back_all.ensures.sum c.least_room.ensures.least c.ranges._room.fits)
 
-
 pub returns-clause-ready : goal.returns-clause-ready
 returns-clause-ready g c =
     let M = g.J.Job.meaning in
@@ -442,7 +441,6 @@ returns-clause-ready g c =
     let W = final M s F n B (17 - n) 0 room ds js fs es gs rs ks zs D.0 D.2 D.1 ended gathered alone c.finish_all.ensures R.1 R.2 left in
     subst (All (λ j. M.ready j s)) (sym left-is) (rec_all (λ j. M.ready j s) ks W.ready)
 
-
 pub returns-clause-same_fit : goal.returns-clause-same_fit
 returns-clause-same_fit g c =
     let M = g.J.Job.meaning in
@@ -491,7 +489,6 @@ returns-clause-same_fit g c =
     let left = c.unseat_jobs.ensures.2 in
     let W = final M s F n B (17 - n) 0 room ds js fs es gs rs ks zs D.0 D.2 D.1 ended gathered alone c.finish_all.ensures R.1 R.2 left in
     subst (All (λ j. M.fit j s ≡ F)) (sym left-is) (rec_all (λ j. M.fit j s ≡ F) ks W.same_fit)
-
 
 pub returns-clause-turns : goal.returns-clause-turns
 returns-clause-turns g c =
@@ -543,7 +540,6 @@ returns-clause-turns g c =
     subst (Pairs (λ j k. M.turns j ≤ M.turns k + most_tasks M js fs) js) (sym left-is)
     (turns_from M s F n room js fs es gs rs ks zs W c.requires.blank fits c.take_back_all.ensures.sum)
 
-
 pub returns-clause-room : goal.returns-clause-room
 returns-clause-room g c =
     let M = g.J.Job.meaning in
@@ -593,7 +589,6 @@ returns-clause-room g c =
     let W = final M s F n B (17 - n) 0 room ds js fs es gs rs ks zs D.0 D.2 D.1 ended gathered alone c.finish_all.ensures R.1 R.2 left in
     let many : 0 < length js = (let a = c.requires.jobs in let b = c.args.jobs.now.ok.0 in let d = c.requires.some in omega arith) in
     room_from M s F n room c.least_room.result js fs es gs rs ks zs W many c.least_room.ensures.least c.ranges._room.fits
-
 
 pub returns-clause-count : goal.returns-clause-count
 returns-clause-count g c =
