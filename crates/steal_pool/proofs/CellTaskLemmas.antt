@@ -1,11 +1,10 @@
 -- The tests' jobs may run.
-use Rattle.std.proofs.Common.{◌≡◌, ◌≢◌, ℕ, zero, suc, ◌+◌, ◌*◌, ◌^◌, ◌<◌, ◌≤◌, List, [], ◌∷◌, ◌++◌, length, get_or, set, replicate, slice_index_or, sym, refl, ap, ◌∙◌, subst, ⊎_elim, arith}
+use Rattle.std.proofs.Common.{◌≡◌, ℕ, zero, suc, ◌+◌, ◌*◌, ◌^◌, ◌<◌, ◌≤◌, List, [], ◌∷◌, ◌++◌, length, get_or, set, replicate, slice_index_or, sym, refl, ◌∙◌, ⊎_elim, arith}
 use Rattle.std.proofs.lemmas.Bool.{cases_eq}
 use Rattle.std.specs.List.{All, AllByRecursion, Contains}
 use Rattle.heap_base.specs.declared.task.Task.{Task}
-use Rattle.steal_pool.specs.Hands.{blank}
 use Rattle.steal_pool.specs.Jobs.{AllFit}
-use Rattle.steal_pool.specs.Runs.{fit_tasks, HaveRoom, most_tasks}
+use Rattle.steal_pool.specs.Runs.{HaveRoom, most_tasks}
 use Rattle.steal_pool.specs.CellTasks.{tasks_below, cells_meaning, AreFirst}
 use Rattle.steal_pool.proofs.Elements.{all-snoc}
 
@@ -19,18 +18,8 @@ below_fit (suc n) c l = ⊎_elim
     (λ ne. let r = below_fit n c (omega arith) in (suc r.0, (let b = r.1 in omega arith), r.2))
     (cases_eq c n)
 
-no_tag : (n : ℕ) (t : Task) (k : ℕ) → k < length (tasks_below n) → get_or (tasks_below n) k t ≡ t → t.tag ≡ 0
-no_tag zero t k l e = absurd (omega arith)
-no_tag (suc n) t zero l e = sym (ap (λ (u : Task). u.tag) e)
-no_tag (suc n) t (suc k) l e = no_tag n t k (omega arith) e
-
 pub fit-append : (n : ℕ) (ts : List Task) (c : ℕ) → AllFit (tasks_below n) ts → c < n → AllFit (tasks_below n) (ts ++ task_of c ∷ [])
 fit-append n ts c a l = all-snoc (Contains (tasks_below n)) ts (task_of c) a (below_fit n c l)
-
-module _ {J S : Type 0} (count : S → ℕ) (room turns : J → ℕ) (s : S) where
-  pub no_blank : (js : List J) → Contains (fit_tasks (cells_meaning count room turns) s js) blank → ⊥
-  no_blank [] c = absurd (let l = c.1 in omega arith)
-  no_blank (j ∷ js) c = absurd (let e = no_tag (count s) blank c.0 c.1 c.2 in omega arith)
 
 module _ {J S : Type 0} (count : S → ℕ) (room turns : J → ℕ) (cells : ℕ) where
   abbrev AreCounters : List J → Type 0

@@ -4,7 +4,7 @@ pub mod RuleSteps
 pub mod VictimLists
 pub mod FoundTasks
 pub mod TurnLemmas
-pub mod TurnChains
+pub mod PlaceTurns
 pub mod LoanLemmas
 pub mod ReturnLemmas
 pub mod WholeRun

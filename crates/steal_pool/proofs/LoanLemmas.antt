@@ -1,4 +1,4 @@
--- Hands dealt out and taken back.
+-- Hands lent.
 use Rattle.std.proofs.Common.{◌≡◌, ℕ, zero, suc, ◌+◌, ◌-◌, ◌<◌, ◌≤◌, false, List, [], ◌∷◌, ◌++◌, length, map, get_or, set, take, drop, sym, refl, ap, ◌∙◌, subst, arith, append_assoc, append-nil, length-append, vec_len, vec_capacity}
 use Rattle.std.specs.List.{AllByRecursion}
 use Rattle.crossbeam_deque.specs.Handles.{worker_deque}
@@ -6,7 +6,7 @@ use Rattle.crossbeam_utils.specs.Padded.{padded_value}
 use Rattle.crossbeam_utils.specs.declared.cache_padded.CachePadded.{CachePadded}
 use Rattle.steal_pool.specs.declared.place.Place.{Place}
 use Rattle.steal_pool.specs.Steps.{lent_hand}
-use Rattle.steal_pool.specs.Workers.{own}
+use Rattle.steal_pool.specs.Lanes.{own_hand}
 use Rattle.steal_pool.specs.Lists.{Each}
 use Rattle.steal_pool.specs.Loans.{keys_of_others, HandKey, hand_key, keys_of, keys_in, key_in, IsFresh, CanLend, CanReceive, LendsHands, OnlyLends, ReceivesHands, ExchangesHands, TakesBackHands}
 
@@ -45,10 +45,9 @@ module _ {J : Type 0} where
   pub lent_on : (j k : ℕ) (p q r : Place J) → LendsHands j p q → LendsHands k q r → LendsHands (j + k) p r
   lent_on j k p q r a b =
       record {
-        view = b.view ∙ (λ i. record (a.view i) { rights = (own r.lane).rights });
+        view = b.view ∙ (λ i. record (a.view i) { rights = (own_hand r.lane).rights });
         rights = (let x = a.rights in let y = b.rights in omega arith);
         deque = b.deque ∙ a.deque;
-        room = b.room ∙ a.room;
         stock = (let x = a.stock in let y = b.stock in omega arith);
         kin = b.kin;
         space = b.space ∙ a.space;
@@ -132,14 +131,14 @@ module _ {J : Type 0} where
         (get_less (padded_value p) (padded_value q) (padded_value r) m k j n e.0 f.0 b.0, t.1),
       )
 
-  pub same_rest : (p r : Place J) → r.job ≡ p.job → r.out ≡ p.out → r.count ≡ p.count → r ≡ record p { lane = r.lane; spare = r.spare; others = r.others }
-  same_rest p r a b c = λ i. record r { job = a i; out = b i; count = c i }
+  pub same_rest : (p r : Place J) → r.job ≡ p.job → r.queue ≡ p.queue → r.count ≡ p.count → r ≡ record p { lane = r.lane; spare = r.spare; others = r.others }
+  same_rest p r a b c = λ i. record r { job = a i; queue = b i; count = c i }
 
   pub exchanged_head : (k : ℕ) (ms : List HandKey) (p q r : Place J) → OnlyLends k p q → ReceivesHands ms q r → ExchangesHands k p r
   exchanged_head k ms p q r a b =
       record {
-        rest = same_rest p r (ap (λ (u : Place J). u.job) b.rest ∙ ap (λ (u : Place J). u.job) a.0) (ap (λ (u : Place J). u.out) b.rest ∙ ap (λ (u : Place J). u.out) a.0) (ap (λ (u : Place J). u.count) b.rest ∙ ap (λ (u : Place J). u.count) a.0);
-        lent = subst (LendsHands k p) (sym b.rest) (record { view = a.1.view; rights = a.1.rights; deque = a.1.deque; room = a.1.room; stock = a.1.stock; kin = a.1.kin; space = a.1.space });
+        rest = same_rest p r (ap (λ (u : Place J). u.job) b.rest ∙ ap (λ (u : Place J). u.job) a.0) (ap (λ (u : Place J). u.queue) b.rest ∙ ap (λ (u : Place J). u.queue) a.0) (ap (λ (u : Place J). u.count) b.rest ∙ ap (λ (u : Place J). u.count) a.0);
+        lent = subst (LendsHands k p) (sym b.rest) (record { view = a.1.view; rights = a.1.rights; deque = a.1.deque; stock = a.1.stock; kin = a.1.kin; space = a.1.space });
         fresh = λ h. b.fresh (subst IsFresh (sym a.0) h);
         space = b.space ∙ ap (λ (u : Place J). vec_capacity u.others) a.0;
       }
@@ -147,10 +146,9 @@ module _ {J : Type 0} where
   lent_from : (k : ℕ) (p q r : Place J) (ms : List HandKey) → ReceivesHands ms p q → LendsHands k q r → LendsHands k p r
   lent_from k p q r ms g l =
       record {
-        view = l.view ∙ ap (λ (u : Place J). record (own u.lane) { rights = (own r.lane).rights }) g.rest;
-        rights = l.rights ∙ ap (λ (u : Place J). (own u.lane).rights) g.rest;
+        view = l.view ∙ ap (λ (u : Place J). record (own_hand u.lane) { rights = (own_hand r.lane).rights }) g.rest;
+        rights = l.rights ∙ ap (λ (u : Place J). (own_hand u.lane).rights) g.rest;
         deque = l.deque ∙ ap (λ (u : Place J). worker_deque u.lane.owner) g.rest;
-        room = l.room ∙ ap (λ (u : Place J). u.lane.room) g.rest;
         stock = l.stock ∙ ap (λ (u : Place J). vec_len u.spare) g.rest;
         kin = l.kin;
         space = l.space ∙ ap (λ (u : Place J). vec_capacity u.spare) g.rest;
@@ -159,7 +157,7 @@ module _ {J : Type 0} where
   exchanged_later : (k j : ℕ) (m : HandKey) (p q r s : Place J) → 1 + j ≡ k → ReceivesHands (m ∷ []) p q → OnlyLends 1 q r → ExchangesHands j r s → ExchangesHands k p s
   exchanged_later k j m p q r s l a b c =
       record {
-        rest = same_rest p s (ap (λ (u : Place J). u.job) c.rest ∙ (ap (λ (u : Place J). u.job) b.0 ∙ ap (λ (u : Place J). u.job) a.rest)) (ap (λ (u : Place J). u.out) c.rest ∙ (ap (λ (u : Place J). u.out) b.0 ∙ ap (λ (u : Place J). u.out) a.rest)) (ap (λ (u : Place J). u.count) c.rest ∙ (ap (λ (u : Place J). u.count) b.0 ∙ ap (λ (u : Place J). u.count) a.rest));
+        rest = same_rest p s (ap (λ (u : Place J). u.job) c.rest ∙ (ap (λ (u : Place J). u.job) b.0 ∙ ap (λ (u : Place J). u.job) a.rest)) (ap (λ (u : Place J). u.queue) c.rest ∙ (ap (λ (u : Place J). u.queue) b.0 ∙ ap (λ (u : Place J). u.queue) a.rest)) (ap (λ (u : Place J). u.count) c.rest ∙ (ap (λ (u : Place J). u.count) b.0 ∙ ap (λ (u : Place J). u.count) a.rest));
         lent = subst (λ n. LendsHands n p s) l (lent_from (1 + j) p q s (m ∷ []) a (lent_on 1 j q r s b.1 c.lent));
         fresh = λ h. c.fresh (subst IsFresh (sym b.0) (a.fresh h));
         space = c.space ∙ (ap (λ (u : Place J). vec_capacity u.others) b.0 ∙ a.space);
@@ -188,7 +186,7 @@ module _ {J : Type 0} where
   marks_dealt j (r ∷ rs) [] e = absurd e
   marks_dealt j (r ∷ rs) (s ∷ ss) e = λ i. key_lent j (padded_value r) (padded_value s) e.0.lent i ∷ marks_dealt j rs ss e.1 i
 
-  -- each keys_of is one hand_key longer
+  -- each place has one key more
   pub rows_got : (m : HandKey) (b : List HandKey) (ps qs rs : List (CachePadded (Place J))) → EachGets ps (map (λ _. m) ps) qs → EachGives qs rs → AllByRecursion (λ p. keys_in p ≡ b) ps → AllByRecursion (λ p. keys_in p ≡ b ++ m ∷ []) rs
   rows_got m b [] [] [] e f a = tt
   rows_got m b [] [] (r ∷ rs) e f a = absurd (let n = ap length f.1 in omega arith)
@@ -197,7 +195,7 @@ module _ {J : Type 0} where
   rows_got m b (p ∷ ps) (q ∷ qs) [] e f a = absurd f
   rows_got m b (p ∷ ps) (q ∷ qs) (r ∷ rs) e f a = (ap keys_of f.0.0 ∙ (e.0.came ∙ ap (λ xs. xs ++ m ∷ []) a.0), rows_got m b ps qs rs e.1 f.1 a.1)
 
-  -- the rows keys_of_others, where the first place's keys_of and those of the rest do
+  -- the keys of the first place and those of the rest are those of all
   pub rows_cross : (b : List HandKey) (p q r : Place J) (ns : List HandKey) (ss : List (CachePadded (Place J))) (k : ℕ) → keys_of p ≡ b → OnlyLends k p q → ReceivesHands ns q r → ns ≡ map key_in ss
       → map keys_in ss ≡ keys_of_others (b ++ hand_key p.lane ∷ []) (map key_in ss) → keys_of r ∷ map keys_in ss ≡ keys_of_others b (hand_key r.lane ∷ map key_in ss)
   rows_cross b p q r ns ss k at g h same c =

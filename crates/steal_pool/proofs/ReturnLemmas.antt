@@ -13,21 +13,21 @@ use Rattle.steal_pool.specs.declared.place.Place.{Place}
 use Rattle.heap_base.specs.Counting.{total}
 use Rattle.steal_pool.specs.Steps.{joined_hand}
 use Rattle.steal_pool.specs.Victims.{total_took}
-use Rattle.steal_pool.specs.Workers.{own}
+use Rattle.steal_pool.specs.Lanes.{own_hand}
 use Rattle.steal_pool.specs.Lists.{Each}
 use Rattle.steal_pool.specs.Loans.{keys_of_others, HandKey, hand_key, victim_key, keys_of, keys_in, key_in, CanTakeBack, TakesBackHands, OnlyTakesBack, ReturnsHands, RestoresHands, IsThiefOf, own_took, others_took, all_took}
 use Rattle.heap_base.proofs.Counting.{total-append, total-snoc}
 use Rattle.steal_pool.proofs.Elements.{all-snoc}
 use Rattle.steal_pool.proofs.LoanLemmas.{same_rest, key_joined}
 
--- the last hand is the one that is marked so
+-- the last hand is the one with this key
 pub last_seen : (xs : List Victim) (r : Victim) (front : List HandKey) (m : HandKey) → map victim_key (xs ++ r ∷ []) ≡ front ++ m ∷ [] → (map victim_key xs ≡ front) × (victim_key r ≡ m)
 last_seen xs r front m e = same_from_push (map victim_key xs) front (victim_key r) m (sym (map-append victim_key xs (r ∷ [])) ∙ e)
 
-pub sum_one : (h : Task → ℕ) (l m : Lane) (rs : List Victim) (r : Victim) → own m ≡ joined_hand (own l) (view r.pass) → total h (own m).took + total_took h rs ≡ total h (own l).took + total_took h (rs ++ r ∷ [])
+pub sum_one : (h : Task → ℕ) (l m : Lane) (rs : List Victim) (r : Victim) → own_hand m ≡ joined_hand (own_hand l) (view r.pass) → total h (own_hand m).took + total_took h rs ≡ total h (own_hand l).took + total_took h (rs ++ r ∷ [])
 sum_one h l m rs r e =
     let v : Hand = view r.pass in
-    let a : total h (own m).took ≡ total h (own l).took + total h v.took = ap (λ (u : Hand). total h u.took) e ∙ total-append h (own l).took v.took in
+    let a : total h (own_hand m).took ≡ total h (own_hand l).took + total h v.took = ap (λ (u : Hand). total h u.took) e ∙ total-append h (own_hand l).took v.took in
     let b = total-snoc (λ (s : Victim). let u : Hand = view s.pass in total h u.took) rs r in
     omega arith
 
@@ -41,7 +41,6 @@ module _ {J : Type 0} where
         put = b.put ∙ a.put;
         more = λ h. (let x = a.more h in let y = b.more h in omega arith);
         deque = b.deque ∙ a.deque;
-        room = b.room ∙ a.room;
         stock = (let x = a.stock in let y = b.stock in omega arith);
         kin = b.kin;
         space = b.space ∙ a.space;
@@ -105,7 +104,7 @@ module _ {J : Type 0} where
   pub tails : (m n : HandKey) (ps : List (CachePadded (Place J))) → m ≡ n → AllByRecursion (λ p. (front : List HandKey) × (keys_in p ≡ front ++ m ∷ [])) ps → AllByRecursion (λ p. (front : List HandKey) × (keys_in p ≡ front ++ n ∷ [])) ps
   tails m n ps e a = subst (λ x. AllByRecursion (λ p. (front : List HandKey) × (keys_in p ≡ front ++ x ∷ [])) ps) e a
 
-  -- the first keys_of, and the rows of the rest
+  -- the keys of the first place, and those of the rest
   pub first_row : (b : List HandKey) (p : CachePadded (Place J)) (ps : List (CachePadded (Place J))) → map keys_in (p ∷ ps) ≡ keys_of_others b (map key_in (p ∷ ps))
       → (keys_in p ≡ b ++ map key_in ps) × (map keys_in ps ≡ keys_of_others (b ++ key_in p ∷ []) (map key_in ps))
   first_row b p ps e = (ap (λ xs. get_or xs 0 []) e, ap tail e)
@@ -129,16 +128,16 @@ module _ {J : Type 0} where
   pub restored_head : (k : ℕ) (ms : List HandKey) (p q r : Place J) → OnlyTakesBack k p q → ReturnsHands ms q r → RestoresHands k p r
   restored_head k ms p q r a b =
       record {
-        rest = same_rest p r (ap (λ (u : Place J). u.job) b.rest ∙ ap (λ (u : Place J). u.job) a.0) (ap (λ (u : Place J). u.out) b.rest ∙ ap (λ (u : Place J). u.out) a.0) (ap (λ (u : Place J). u.count) b.rest ∙ ap (λ (u : Place J). u.count) a.0);
-        joined = subst (TakesBackHands k p) (sym b.rest) (record { rights = a.1.rights; terms = a.1.terms; bound = a.1.bound; put = a.1.put; more = a.1.more; deque = a.1.deque; room = a.1.room; stock = a.1.stock; kin = a.1.kin; space = a.1.space });
+        rest = same_rest p r (ap (λ (u : Place J). u.job) b.rest ∙ ap (λ (u : Place J). u.job) a.0) (ap (λ (u : Place J). u.queue) b.rest ∙ ap (λ (u : Place J). u.queue) a.0) (ap (λ (u : Place J). u.count) b.rest ∙ ap (λ (u : Place J). u.count) a.0);
+        joined = subst (TakesBackHands k p) (sym b.rest) (record { rights = a.1.rights; terms = a.1.terms; bound = a.1.bound; put = a.1.put; more = a.1.more; deque = a.1.deque; stock = a.1.stock; kin = a.1.kin; space = a.1.space });
         space = b.space ∙ ap (λ (u : Place J). vec_capacity u.others) a.0;
       }
 
   restored_later : (k j : ℕ) (ms : List HandKey) (p q r s : Place J) → j + 1 ≡ k → RestoresHands j p q → ReturnsHands ms q r → OnlyTakesBack 1 r s → RestoresHands k p s
   restored_later k j ms p q r s l a b c =
-      let mid : TakesBackHands j p r = subst (TakesBackHands j p) (sym b.rest) (record { rights = a.joined.rights; terms = a.joined.terms; bound = a.joined.bound; put = a.joined.put; more = a.joined.more; deque = a.joined.deque; room = a.joined.room; stock = a.joined.stock; kin = a.joined.kin; space = a.joined.space }) in
+      let mid : TakesBackHands j p r = subst (TakesBackHands j p) (sym b.rest) (record { rights = a.joined.rights; terms = a.joined.terms; bound = a.joined.bound; put = a.joined.put; more = a.joined.more; deque = a.joined.deque; stock = a.joined.stock; kin = a.joined.kin; space = a.joined.space }) in
       record {
-        rest = same_rest p s (ap (λ (u : Place J). u.job) c.0 ∙ (ap (λ (u : Place J). u.job) b.rest ∙ ap (λ (u : Place J). u.job) a.rest)) (ap (λ (u : Place J). u.out) c.0 ∙ (ap (λ (u : Place J). u.out) b.rest ∙ ap (λ (u : Place J). u.out) a.rest)) (ap (λ (u : Place J). u.count) c.0 ∙ (ap (λ (u : Place J). u.count) b.rest ∙ ap (λ (u : Place J). u.count) a.rest));
+        rest = same_rest p s (ap (λ (u : Place J). u.job) c.0 ∙ (ap (λ (u : Place J). u.job) b.rest ∙ ap (λ (u : Place J). u.job) a.rest)) (ap (λ (u : Place J). u.queue) c.0 ∙ (ap (λ (u : Place J). u.queue) b.rest ∙ ap (λ (u : Place J). u.queue) a.rest)) (ap (λ (u : Place J). u.count) c.0 ∙ (ap (λ (u : Place J). u.count) b.rest ∙ ap (λ (u : Place J). u.count) a.rest));
         joined = subst (λ n. TakesBackHands n p s) l (joined_on j 1 p r s mid c.1);
         space = ap (λ (u : Place J). vec_capacity u.others) c.0 ∙ (b.space ∙ a.space);
       }
@@ -154,7 +153,7 @@ module _ {J : Type 0} where
       let n = l (omega arith) in
       (restored_later k j (m ∷ []) (padded_value p) (padded_value q) (padded_value r) (padded_value s) n a.0 b.0 c.0, restored_rest k j m ps qs rs ss (λ _. n) a.1 b.1 c.1)
 
-  -- each keys_of is one hand_key shorter
+  -- each place has one key less
   pub rows_returned : (b : List HandKey) (m : HandKey) (qs rs ss : List (CachePadded (Place J))) → AllByRecursion (λ q. keys_in q ≡ b ++ m ∷ []) qs → EachReturns qs (map (λ _. m) qs) rs → EachJoins rs ss → AllByRecursion (λ q. keys_in q ≡ b) ss
   rows_returned b m [] [] [] a e f = tt
   rows_returned b m [] [] (s ∷ ss) a e f = absurd (let n = ap length f.1 in omega arith)
@@ -173,7 +172,7 @@ module _ {J : Type 0} where
   took_returned h m (q ∷ qs) (r ∷ rs) [] e f = absurd f
   took_returned h m (q ∷ qs) (r ∷ rs) (s ∷ ss) e f =
       let t = took_returned h m qs rs ss e.1 f.1 in
-      let a : own_took h r ≡ own_took h q = ap (λ (u : Place J). total h (own u.lane).took) e.0.rest in
+      let a : own_took h r ≡ own_took h q = ap (λ (u : Place J). total h (own_hand u.lane).took) e.0.rest in
       let b : others_took h s ≡ others_took h r = ap (λ (u : Place J). total_took h u.others.items) f.0.0 in
       let x = t.0 in
       let y = t.1 in
@@ -184,9 +183,9 @@ module _ {J : Type 0} where
   total_all h (p ∷ ps) = let t = total_all h ps in omega arith
 
   -- one hand goes back to its owner
-  pub join_one : (p q : Place J) (r : Victim) → victim_key r ≡ hand_key p.lane → own q.lane ≡ joined_hand (own p.lane) (view r.pass) → (own p.lane).owner ≡ true → worker_deque q.lane.owner ≡ worker_deque p.lane.owner → q.lane.room ≡ p.lane.room
+  pub join_one : (p q : Place J) (r : Victim) → victim_key r ≡ hand_key p.lane → own_hand q.lane ≡ joined_hand (own_hand p.lane) (view r.pass) → (own_hand p.lane).owner ≡ true → worker_deque q.lane.owner ≡ worker_deque p.lane.owner
       → q.spare.items ≡ p.spare.items ++ r.thief ∷ [] → vec_len q.spare ≡ vec_len p.spare + 1 → vec_capacity q.spare ≡ vec_capacity p.spare → CanTakeBack 1 p → TakesBackHands 1 p q
-  join_one p q r at view-is owns deque room items len space can =
+  join_one p q r at view-is owns deque items len space can =
       let v : Hand = view r.pass in
       let one : v.rights ≡ 1 = ap (λ (m : HandKey). m.1.rights) at in
       let none : v.put ≡ [] = ap (λ (m : HandKey). m.1.put) at in
@@ -195,10 +194,9 @@ module _ {J : Type 0} where
         rights = (let e = ap (λ (u : Hand). u.rights) view-is in omega arith);
         terms = ap (λ (u : Hand). u.fit) view-is;
         bound = ap (λ (u : Hand). u.bound) view-is;
-        put = ap (λ (u : Hand). u.put) view-is ∙ (ap (λ xs. (own p.lane).put ++ xs) none ∙ append-nil (own p.lane).put);
-        more = λ h. (let e = ap (λ (u : Hand). total h u.took) view-is in let w = total-append h (own p.lane).took v.took in omega arith);
+        put = ap (λ (u : Hand). u.put) view-is ∙ (ap (λ xs. (own_hand p.lane).put ++ xs) none ∙ append-nil (own_hand p.lane).put);
+        more = λ h. (let e = ap (λ (u : Hand). total h u.took) view-is in let w = total-append h (own_hand p.lane).took v.took in omega arith);
         deque = deque;
-        room = room;
         stock = len;
         kin = subst (λ d. AllByRecursion (IsThiefOf d) q.spare.items) (sym deque) (subst (λ xs. AllByRecursion (IsThiefOf (worker_deque p.lane.owner)) xs) (sym items) (all-snoc (IsThiefOf (worker_deque p.lane.owner)) p.spare.items r.thief can.kin (thief, r.fifo)));
         space = space;

@@ -1,4 +1,4 @@
--- One more of the others was tried.
+-- What a steal, or none, leaves of the others.
 use Rattle.std.proofs.Common.{◌≡◌, ℕ, zero, suc, ◌+◌, ◌<◌, List, [], ◌∷◌, ◌++◌, length, get_or, set, refl, ap, ◌∙◌, subst, inl, inr, ⊎_elim, arith, Option, Some, None, MatchOption}
 use Rattle.heap_base.specs.declared.task.Task.{Task}
 use Rattle.crossbeam_deque.specs.Handles.{view}
@@ -65,5 +65,5 @@ pub gave_sum : (h : Task → ℕ) (rs ss : List Victim) (t : Task) → StealsFro
 gave_sum h [] ss t a = absurd a
 gave_sum h (r ∷ rs) [] t a = absurd a
 gave_sum h (r ∷ rs) (s ∷ ss) t a = ⊎_elim
-    (λ b. let e = untouched_sum h rs ss b.1 in let old : Hand = view r.pass in let f = ap (λ (v : Hand). total h v.took) b.0.1.0 ∙ total-append h old.took (t ∷ []) in omega arith)
+    (λ b. let e = untouched_sum h rs ss b.1 in let old : Hand = view r.pass in let f = ap (λ (v : Hand). total h v.took) b.0.1.hand ∙ total-append h old.took (t ∷ []) in omega arith)
     (λ b. let e = gave_sum h rs ss t b.1 in let f = ap (λ (v : Hand). total h v.took) b.0.1 in omega arith) a

@@ -1,4 +1,5 @@
 pub mod Rests
+pub mod Needs
 pub mod Runs
 pub mod FirstLists
 pub mod Outboxes
@@ -11,5 +12,8 @@ pub mod Hands
 pub mod Steps
 pub mod Victims
 pub mod Workers
-pub mod Loops
+pub mod Deques
+pub mod Lanes
+pub mod Queues
+pub mod Searches
 pub mod Places

@@ -1,10 +1,10 @@
--- What each step on a deque tells.
-use Rattle.std.specs.Prelude.{◌≡◌, ℕ, ◌+◌, ◌-◌, ◌≤◌, true, false, cond, List, [], ◌++◌, length}
-use Rattle.std.specs.List.{AllByRecursion}
+-- What each step on a deque does to the hand that makes it.
+use Rattle.std.specs.Prelude.{◌≡◌, ℕ, ◌+◌, ◌-◌, ◌≤◌, true, false, cond, List, [], ◌++◌}
 use Rattle.heap_base.specs.declared.task.Task.{Task}
-use Rattle.steal_pool.specs.declared.hand.Hand.{Hand}
 use Rattle.heap_base.specs.Counting.{total}
-use Rattle.steal_pool.specs.Hands.{real, IsFit}
+use Rattle.steal_pool.specs.declared.hand.Hand.{Hand}
+use Rattle.steal_pool.specs.Hands.{one}
+use Rattle.steal_pool.specs.Jobs.{AllFit}
 
 abbrev pub with_put : Hand → List Task → Hand
 with_put v xs = record v { put = v.put ++ xs }
@@ -15,20 +15,29 @@ with_took v xs = record v { took = v.took ++ xs }
 abbrev pub Puts : Hand → List Task → Hand → Type 0
 Puts v xs w = w ≡ with_put v xs
 
--- what was taken is fit, and there are no more than the terms allow. With all the rights, what was taken was put
-abbrev pub Takes : Hand → List Task → Hand → Type 0
-Takes v xs w = (w ≡ with_took v xs) × AllByRecursion (IsFit v.fit) xs × (total real w.took ≤ v.bound) × (length w.took ≤ v.bound + 1) × (v.rights ≡ 16 → (h : Task → ℕ) → total h w.took ≤ total h w.put)
+-- The hand took xs: they are fit by its terms, it took no more tasks than the terms allow, and the owner no more than
+-- it put.
+pub record Takes (v : Hand) (xs : List Task) (w : Hand) : Type 0 where
+  pub hand : w ≡ with_took v xs
+  pub are_fit : AllFit v.fit xs
+  pub few : total one w.took ≤ v.bound
+  pub own : v.owner ≡ true → total one w.took ≤ total one w.put
 
 -- with all the rights, all that was put was taken
 abbrev pub IsEmptied : Hand → Type 0
 IsEmptied v = v.rights ≡ 16 → (h : Task → ℕ) → total h v.put ≡ total h v.took
 
--- a run begins, with these terms
-abbrev pub begun_hand : List Task → ℕ → List Task → Hand
-begun_hand fit bound xs = record { rights = 16; owner = true; fit = fit; bound = bound; put = xs; took = [] }
+-- with all the rights, no more was taken than was put
+abbrev pub HasSettled : Hand → List Task → Type 0
+HasSettled v items = v.rights ≡ 16 → total one v.took ≤ total one v.put
 
-abbrev pub less : Hand → Hand
-less v = record v { rights = v.rights - 1 }
+-- the owner's hand at the beginning of a run, with these terms
+abbrev pub renewed_hand : List Task → ℕ → Hand
+renewed_hand fit bound = record { rights = 16; owner = true; fit = fit; bound = bound; put = []; took = [] }
+
+-- the hand with one right less
+abbrev pub one_less : Hand → Hand
+one_less v = record v { rights = v.rights - 1 }
 
 -- a hand on the same terms, with one right
 abbrev pub lent_hand : Hand → Hand

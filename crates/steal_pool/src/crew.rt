@@ -7,11 +7,11 @@ ghost use Rattle.steal_pool.specs.Rests.{IsAtRest};
 use crate::place::Place;
 use crossbeam_utils::CachePadded;
 
-/// Workers with a deque each.
+/// Workers that do tasks at the same time, each with a queue and a deque of its own. It can run again and again.
 #[derive(Drop)]
 pub struct Crew<J> {
     pub(crate) places: Vec<CachePadded<Place<J>>>,
-    /// How many pushes each deque still has room for, at least.
+    /// How many tasks each worker has room for in a run.
     pub(crate) room: u64,
     ghost some: { 0 < vec_len places },
     ghost few: { vec_len places ≤ 16 },

@@ -1,64 +1,73 @@
-//! One worker's deque.
-ghost use Rattle.std.specs.Prelude.{◌≡◌, ℕ, ◌+◌, ◌<◌, ◌≤◌, true, [], ◌∷◌, ◌++◌, List, length, IfOk, IfErr, IfSome, IfNone, MatchOption, IsOk};
+//! The steps on one deque.
+ghost use Rattle.std.specs.Prelude.{◌≡◌, ◌<◌, ◌≤◌, true, [], ◌∷◌, IfOk, MatchBool, MatchOption};
 ghost use Rattle.std.specs.List.{Contains};
-ghost use Rattle.heap_base.specs.declared.task.Task.{Task};
-ghost use Rattle.crossbeam_deque.specs.Handles.{view, IsPassOf, worker_deque, worker_view, worker_capacity, worker_index, worker_flavor, stealer_deque, stealer_flavor};
-ghost use Rattle.crossbeam_deque.specs.Steals.{MatchSteal};
+ghost use Rattle.crossbeam_deque.specs.Handles.{view, IsPassOf, worker_deque, worker_view, worker_flavor, stealer_deque, stealer_flavor};
 ghost use Rattle.heap_base.specs.Counting.{total};
-ghost use Rattle.steal_pool.specs.Hands.{first_hand, real};
-ghost use Rattle.steal_pool.specs.Steps.{Puts, Takes, IsEmptied, less, lent_hand, joined_hand, with_put};
+ghost use Rattle.steal_pool.specs.Hands.{first_hand, one};
+ghost use Rattle.steal_pool.specs.Steps.{Takes, IsEmptied, one_less, lent_hand, joined_hand, with_put};
+ghost use Rattle.steal_pool.specs.Deques.{IsSameDeque};
 
 use crate::hand::{DequeRule, Hand};
-use crate::outcomes::{OneRight, Put, Take, Together};
+use crate::outcomes::{LendOne, Put, Settle, Take, Together};
 use crossbeam_deque::{Pass, Steal, Stealer, Worker};
 use heap_base::{OutOfMemory, Task};
 use std::alloc::Global;
 
+/// The worker's end of its own deque.
 pub type Owner = Worker<Task, Global, Hand, DequeRule>;
 
+/// The end at which others steal.
 pub type Thief = Stealer<Task, Global, Hand, DequeRule>;
 
+/// A hand that another worker has.
 pub type HandPass = Pass<Task, Hand>;
 
-pub const BLANK: Task = Task {
-    cell: 0xffff_ffff,
-    tag: 0xffff_ffff,
-};
-
-pub fn make(alloc: Global, room: usize) -> Result<Owner, OutOfMemory>
-    ensures { IfOk result (λ o. (room ≤ worker_capacity o) × (worker_index o ≡ 0) × (worker_flavor o ≡ 0) × (worker_view o ≡ first_hand)) }
+/// An empty deque with at least `slots` slots, first in, first out.
+pub fn make(alloc: Global, slots: usize) -> Result<Owner, OutOfMemory>
+    ensures fifo { IfOk result (λ o. worker_flavor o ≡ 0) }
+    ensures view { IfOk result (λ o. worker_view o ≡ first_hand) }
 {
-    Ok(Owner::fifo_as(alloc, room)?)
+    Ok(Owner::fifo_as(alloc, slots)?)
 }
 
-/// A push into a deque that has room.
-pub fn push(owner: &mut Owner, task: Task)
-    requires room { worker_index owner.old < worker_capacity owner.old }
+/// Puts the task last. It answers whether there was a slot for it.
+pub fn push(owner: &mut Owner, task: Task) -> bool
     requires fit { Contains (worker_view owner.old).fit task }
-    requires bound { (total real (worker_view owner.old).put < (worker_view owner.old).bound) × (length (worker_view owner.old).put ≤ (worker_view owner.old).bound) }
+    requires bound { total one (worker_view owner.old).put < (worker_view owner.old).bound }
     requires hand { (0 < (worker_view owner.old).rights) × ((worker_view owner.old).owner ≡ true) }
-    ensures view { worker_view owner.new ≡ with_put (worker_view owner.old) (task ∷ []) }
-    ensures index { worker_index owner.new ≡ worker_index owner.old + 1 }
-    ensures same { (worker_deque owner.new ≡ worker_deque owner.old) × (worker_capacity owner.old ≤ worker_capacity owner.new) × (worker_flavor owner.new ≡ worker_flavor owner.old) }
+    ensures view { MatchBool result (worker_view owner.new ≡ with_put (worker_view owner.old) (task ∷ [])) (worker_view owner.new ≡ worker_view owner.old) }
+    ensures same { IsSameDeque owner.old owner.new }
 {
-    let Ok(()) = owner.push_as::<Put>(task) else {
-        unreachable!()
-    };
+    match owner.push_as::<Put>(task) {
+        Ok(()) => true,
+        Err(_) => false,
+    }
 }
 
+/// Takes the first task.
 pub fn take(owner: &mut Owner) -> Option<Task>
     requires hand { 0 < (worker_view owner.old).rights }
     requires fifo { worker_flavor owner.old ≡ 0 }
-    ensures some { MatchOption result ((worker_view owner.new ≡ worker_view owner.old) × IsEmptied (worker_view owner.old)) (λ t. Takes (worker_view owner.old) (t ∷ []) (worker_view owner.new)) }
-    ensures same { (worker_deque owner.new ≡ worker_deque owner.old) × (worker_capacity owner.old ≤ worker_capacity owner.new) × (worker_flavor owner.new ≡ worker_flavor owner.old) × (worker_index owner.new ≤ worker_index owner.old) }
+    ensures view { MatchOption result ((worker_view owner.new ≡ worker_view owner.old) × IsEmptied (worker_view owner.old)) (λ t. Takes (worker_view owner.old) (t ∷ []) (worker_view owner.new)) }
+    ensures same { IsSameDeque owner.old owner.new }
 {
     owner.pop_as::<Take>()
 }
 
+/// How many tasks the deque holds at one moment. With all the rights, the hand took no more than it put.
+pub fn len(owner: &mut Owner) -> usize
+    ensures settled { (worker_view owner.old).rights ≡ 16 → total one (worker_view owner.old).took ≤ total one (worker_view owner.old).put }
+    ensures view { worker_view owner.new ≡ worker_view owner.old }
+    ensures same { IsSameDeque owner.old owner.new }
+{
+    owner.len_as::<Settle>()
+}
+
+/// Takes the first task of another's deque.
 pub fn steal(thief: &Thief, hand: &mut HandPass) -> Option<Task>
     requires table { IsPassOf (stealer_deque thief.now) hand.old × (stealer_flavor thief.now ≡ 0) }
     requires hand { 0 < (view hand.old).rights }
-    ensures some { MatchOption result (view hand.new ≡ view hand.old) (λ t. Takes (view hand.old) (t ∷ []) (view hand.new)) }
+    ensures view { MatchOption result (view hand.new ≡ view hand.old) (λ t. Takes (view hand.old) (t ∷ []) (view hand.new)) }
     ensures table { IsPassOf (stealer_deque thief.now) hand.new }
 {
     match thief.steal_as::<Take>(hand) {
@@ -67,18 +76,22 @@ pub fn steal(thief: &Thief, hand: &mut HandPass) -> Option<Task>
     }
 }
 
+/// A hand with one right for another worker.
 pub fn split(owner: &mut Owner) -> HandPass
     requires { 1 < (worker_view owner.old).rights }
-    ensures views { (worker_view owner.new ≡ less (worker_view owner.old)) × (view result ≡ lent_hand (worker_view owner.old)) }
-    ensures same { (worker_deque owner.new ≡ worker_deque owner.old) × IsPassOf (worker_deque owner.old) result × (worker_index owner.new ≡ worker_index owner.old) × (worker_capacity owner.old ≤ worker_capacity owner.new) × (worker_flavor owner.new ≡ worker_flavor owner.old) }
+    ensures views { (worker_view owner.new ≡ one_less (worker_view owner.old)) × (view result ≡ lent_hand (worker_view owner.old)) }
+    ensures table { IsPassOf (worker_deque owner.old) result }
+    ensures same { IsSameDeque owner.old owner.new }
 {
-    owner.another::<OneRight>()
+    owner.another::<LendOne>()
 }
 
+/// Takes another worker's hand back.
 pub fn join(owner: &mut Owner, hand: HandPass)
     requires table { IsPassOf (worker_deque owner.old) hand }
     requires rights { (0 < (worker_view owner.old).rights) × (0 < (view hand).rights) }
-    ensures { (worker_view owner.new ≡ joined_hand (worker_view owner.old) (view hand)) × (worker_deque owner.new ≡ worker_deque owner.old) × (worker_index owner.new ≡ worker_index owner.old) × (worker_capacity owner.old ≤ worker_capacity owner.new) × (worker_flavor owner.new ≡ worker_flavor owner.old) }
+    ensures view { worker_view owner.new ≡ joined_hand (worker_view owner.old) (view hand) }
+    ensures same { IsSameDeque owner.old owner.new }
 {
     owner.absorb::<Together>(hand)
 }

@@ -1,58 +1,64 @@
-//! Steps of a worker on its own deque.
-ghost use Rattle.std.specs.Prelude.{◌≡◌, ℕ, ◌+◌, ◌<◌, ◌≤◌, true, [], ◌∷◌, ◌++◌, List, length, MatchOption};
+//! A worker's steps on its own deque.
+ghost use Rattle.std.specs.Prelude.{◌≡◌, ◌<◌, ◌≤◌, [], ◌∷◌, MatchBool, MatchOption};
 ghost use Rattle.std.specs.List.{Contains};
-ghost use Rattle.crossbeam_deque.specs.Handles.{view, IsPassOf, worker_view, worker_deque};
-ghost use Rattle.steal_pool.specs.Jobs.{AllFit};
+ghost use Rattle.crossbeam_deque.specs.Handles.{view, IsPassOf, worker_deque};
 ghost use Rattle.heap_base.specs.Counting.{total};
-ghost use Rattle.steal_pool.specs.Hands.{real};
-ghost use Rattle.steal_pool.specs.Steps.{Takes, IsEmptied, with_put, less, lent_hand, joined_hand};
+ghost use Rattle.steal_pool.specs.Hands.{one};
+ghost use Rattle.steal_pool.specs.Steps.{Takes, IsEmptied, with_put, one_less, lent_hand, joined_hand};
+ghost use Rattle.steal_pool.specs.Lanes.{own_hand, HasTakenFew};
 
-use crate::deque::{HandPass, join, push, split, take};
+use crate::deque::{HandPass, join, len, push, split, take};
 use crate::lane::Lane;
 use heap_base::Task;
 
 impl Lane {
-    pub fn push(&mut self, task: Task)
-        requires room { 0 < self.old.room }
-        requires fit { Contains (worker_view self.old.owner).fit task }
-        requires bound { (total real (worker_view self.old.owner).put < (worker_view self.old.owner).bound) × (length (worker_view self.old.owner).put ≤ (worker_view self.old.owner).bound) }
-        ensures { (worker_view self.new.owner ≡ with_put (worker_view self.old.owner) (task ∷ [])) × (self.new.room + 1 ≡ self.old.room) × (worker_deque self.new.owner ≡ worker_deque self.old.owner) }
+    /// Puts the task last. It answers whether it did.
+    pub fn push(&mut self, task: Task) -> bool
+        requires fit { Contains (own_hand self.old).fit task }
+        requires bound { total one (own_hand self.old).put < (own_hand self.old).bound }
+        ensures hand { MatchBool result (own_hand self.new ≡ with_put (own_hand self.old) (task ∷ [])) (own_hand self.new ≡ own_hand self.old) }
+        ensures deque { worker_deque self.new.owner ≡ worker_deque self.old.owner }
     {
-        push(&mut self.owner, task);
-        self.room -= 1;
+        if self.pushes == 0 {
+            return false;
+        }
+        self.pushes -= 1;
+        push(&mut self.owner, task)
     }
 
+    /// Takes the first task.
     pub fn take(&mut self) -> Option<Task>
-        ensures view { MatchOption result ((worker_view self.new.owner ≡ worker_view self.old.owner) × IsEmptied (worker_view self.old.owner)) (λ t. Takes (worker_view self.old.owner) (t ∷ []) (worker_view self.new.owner)) }
-        ensures room { (self.new.room ≡ self.old.room) × (worker_deque self.new.owner ≡ worker_deque self.old.owner) }
+        ensures hand { MatchOption result ((own_hand self.new ≡ own_hand self.old) × IsEmptied (own_hand self.old)) (λ t. Takes (own_hand self.old) (t ∷ []) (own_hand self.new)) }
+        ensures deque { worker_deque self.new.owner ≡ worker_deque self.old.owner }
     {
         take(&mut self.owner)
     }
 
-    pub fn push_all(&mut self, tasks: &[Task])
-        requires room { length tasks.now ≤ self.old.room }
-        requires fit { AllFit (worker_view self.old.owner).fit tasks.now }
-        requires bound { (total real (worker_view self.old.owner).put + length tasks.now ≤ (worker_view self.old.owner).bound) × (length (worker_view self.old.owner).put + length tasks.now ≤ (worker_view self.old.owner).bound + 1) }
-        ensures { (worker_view self.new.owner ≡ with_put (worker_view self.old.owner) tasks.now) × (self.new.room + length tasks.now ≡ self.old.room) × (worker_deque self.new.owner ≡ worker_deque self.old.owner) }
+    /// How many tasks the deque holds at one moment.
+    pub fn len(&mut self) -> usize
+        ensures few { (own_hand self.old).rights ≡ 16 → HasTakenFew self.new }
+        ensures hand { own_hand self.new ≡ own_hand self.old }
+        ensures deque { worker_deque self.new.owner ≡ worker_deque self.old.owner }
     {
-        for task in tasks {
-            self.push(*task);
-        }
+        len(&mut self.owner)
     }
 
+    /// A hand with one right for another worker.
     pub fn split(&mut self) -> HandPass
-        requires { 1 < (worker_view self.old.owner).rights }
-        ensures views { (worker_view self.new.owner ≡ less (worker_view self.old.owner)) × (view result ≡ lent_hand (worker_view self.old.owner)) }
-        ensures same { IsPassOf (worker_deque self.old.owner) result × (self.new.room ≡ self.old.room) × (worker_deque self.new.owner ≡ worker_deque self.old.owner) }
+        requires { 1 < (own_hand self.old).rights }
+        ensures hands { (own_hand self.new ≡ one_less (own_hand self.old)) × (view result ≡ lent_hand (own_hand self.old)) }
+        ensures table { IsPassOf (worker_deque self.old.owner) result }
+        ensures deque { worker_deque self.new.owner ≡ worker_deque self.old.owner }
     {
         split(&mut self.owner)
     }
 
+    /// Takes another worker's hand back.
     pub fn join(&mut self, hand: HandPass)
         requires table { IsPassOf (worker_deque self.old.owner) hand }
         requires rights { 0 < (view hand).rights }
-        ensures view { worker_view self.new.owner ≡ joined_hand (worker_view self.old.owner) (view hand) }
-        ensures same { (self.new.room ≡ self.old.room) × (worker_deque self.new.owner ≡ worker_deque self.old.owner) }
+        ensures hand { own_hand self.new ≡ joined_hand (own_hand self.old) (view hand) }
+        ensures deque { worker_deque self.new.owner ≡ worker_deque self.old.owner }
     {
         join(&mut self.owner, hand);
     }

@@ -1,11 +1,11 @@
-//! Each worker gets a hand on each other deque, and gives it back.
+//! Each worker gets a hand on each other deque.
 ghost use Rattle.std.specs.Prelude.{◌≡◌, ℕ, ◌+◌, ◌-◌, ◌≤◌, List, [], ◌∷◌, ◌++◌, length, map};
 ghost use Rattle.std.specs.List.{AllByRecursion};
 ghost use Rattle.heap_base.specs.declared.task.Task.{Task};
 ghost use Rattle.crossbeam_utils.specs.Padded.{padded_value};
 ghost use Rattle.heap_base.specs.Counting.{total};
 ghost use Rattle.steal_pool.specs.Victims.{total_took};
-ghost use Rattle.steal_pool.specs.Workers.{own};
+ghost use Rattle.steal_pool.specs.Lanes.{own_hand};
 ghost use Rattle.steal_pool.specs.Lists.{Each};
 ghost use Rattle.steal_pool.specs.Loans.{HandKey, hand_key, keys_of, keys_in, key_in, keys_of_others, CanLend, CanReceive, OnlyLends, ReceivesHands, ExchangesHands};
 
@@ -13,7 +13,7 @@ use crate::place::Place;
 use crate::victim::Victim;
 use crossbeam_utils::CachePadded;
 
-/// A hand on the giver's deque for the taker.
+// A hand on the giver's deque for the taker.
 fn lend<J>(giver: &mut Place<J>, taker: &mut Place<J>)
     requires give { CanLend 1 giver.old }
     requires get { CanReceive 1 taker.old }

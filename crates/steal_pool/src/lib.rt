@@ -2,7 +2,6 @@
 //! task steals from the others.
 #![tactic(auto)]
 
-mod beginning;
 mod crew;
 mod deque;
 mod finding;
@@ -12,10 +11,13 @@ mod job;
 mod lane;
 mod lane_calls;
 mod lending;
+mod offering;
 mod outbox;
 mod outcomes;
 mod place;
 mod pool;
+mod queue;
+mod renewing;
 mod returning;
 mod running;
 mod seating;
@@ -23,7 +25,7 @@ mod stealing;
 #[cfg(test)]
 mod tests;
 mod victim;
-mod worker;
+mod working;
 
 pub use crew::Crew;
 pub use first_tasks::FirstTasks;

@@ -1,15 +1,15 @@
-//! What each step on a deque tells its hand.
-ghost use Rattle.std.specs.Prelude.{◌≡◌, ℕ, List};
+//! What each step on a deque does to the hand that makes it.
+ghost use Rattle.std.specs.Prelude.{ℕ, List};
 ghost use Rattle.heap_base.specs.declared.task.Task.{Task};
 ghost use Rattle.steal_pool.specs.Hands.{spent_hand};
-ghost use Rattle.steal_pool.specs.Steps.{Puts, Takes, IsEmptied, begun_hand, less, lent_hand, joined_hand};
+ghost use Rattle.steal_pool.specs.Steps.{Puts, Takes, IsEmptied, HasSettled, renewed_hand, one_less, lent_hand, joined_hand};
 
 use crate::hand::Hand;
-use crossbeam_deque::protocol::{Join, Outcome, Split};
+use crossbeam_deque::protocol::{Join, Lesson, Outcome, Split};
 use heap_base::Task;
 use std::marker::{Brand, PhantomData};
 
-/// The terms of a run. Each call of a program picks them.
+/// The terms of a run, which each call picks.
 pub trait Terms {
     ghost fit: { List Task };
 
@@ -24,12 +24,15 @@ impl Terms for Brand {
     ghost bound = { 0 };
 }
 
-pub(crate) struct Begin<B> {
+/// Sets the terms of the next run. The other hand that a split makes has nothing.
+pub(crate) struct Renew<B> {
     terms: PhantomData<B>,
 }
 
-impl<B: Terms> Outcome<Task, Hand> for Begin<B> {
-    ghost then = { λ v xs w. w ≡ begun_hand B.fit B.bound xs };
+impl<B: Terms> Split<Hand> for Renew<B> {
+    ghost left = { λ _. renewed_hand B.fit B.bound };
+
+    ghost right = { λ _. spent_hand };
 }
 
 pub(crate) struct Put;
@@ -46,10 +49,16 @@ impl Outcome<Task, Hand> for Take {
     ghost empty = { IsEmptied };
 }
 
-pub(crate) struct OneRight;
+pub(crate) struct Settle;
 
-impl Split<Hand> for OneRight {
-    ghost left = { less };
+impl Lesson<Task, Hand> for Settle {
+    ghost fact = { HasSettled };
+}
+
+pub(crate) struct LendOne;
+
+impl Split<Hand> for LendOne {
+    ghost left = { one_less };
 
     ghost right = { lent_hand };
 }

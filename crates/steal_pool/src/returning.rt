@@ -5,7 +5,7 @@ ghost use Rattle.heap_base.specs.declared.task.Task.{Task};
 ghost use Rattle.crossbeam_utils.specs.Padded.{padded_value};
 ghost use Rattle.heap_base.specs.Counting.{total};
 ghost use Rattle.steal_pool.specs.Victims.{total_took};
-ghost use Rattle.steal_pool.specs.Workers.{own};
+ghost use Rattle.steal_pool.specs.Lanes.{own_hand};
 ghost use Rattle.steal_pool.specs.Lists.{Each};
 ghost use Rattle.steal_pool.specs.Loans.{HandKey, hand_key, keys_of, keys_in, key_in, keys_of_others, CanTakeBack, OnlyTakesBack, ReturnsHands, RestoresHands, others_took, own_took, all_took};
 
@@ -13,13 +13,13 @@ use crate::place::Place;
 use crate::victim::Victim;
 use crossbeam_utils::CachePadded;
 
-/// The giver's last hand goes back to the owner of its deque.
+// The giver's last hand goes back to the owner of its deque.
 fn take_back<J>(owner: &mut Place<J>, giver: &mut Place<J>)
     requires join { CanTakeBack 1 owner.old }
     requires last { (front : List HandKey) × (keys_of giver.old ≡ front ++ hand_key owner.old.lane ∷ []) }
     ensures joined { OnlyTakesBack 1 owner.old owner.new }
     ensures returned { ReturnsHands (hand_key owner.old.lane ∷ []) giver.old giver.new }
-    ensures sum { (h : Task → ℕ) → total h (own owner.new.lane).took + total_took h giver.new.others.items ≡ total h (own owner.old.lane).took + total_took h giver.old.others.items }
+    ensures sum { (h : Task → ℕ) → total h (own_hand owner.new.lane).took + total_took h giver.new.others.items ≡ total h (own_hand owner.old.lane).took + total_took h giver.old.others.items }
 {
     let Some(victim) = giver.others.pop() else {
         unreachable!()
@@ -34,7 +34,7 @@ fn take_back_from_each<J>(owner: &mut Place<J>, givers: &mut [CachePadded<Place<
     requires last { AllByRecursion (λ p. (front : List HandKey) × (keys_in p ≡ front ++ hand_key owner.old.lane ∷ [])) givers.old }
     ensures joined { OnlyTakesBack (length givers.old) owner.old owner.new }
     ensures returned { Each (λ p m q. ReturnsHands (m ∷ []) (padded_value p) (padded_value q)) givers.old (map (λ _. hand_key owner.old.lane) givers.old) givers.new }
-    ensures sum { (h : Task → ℕ) → total h (own owner.new.lane).took + total (others_took h) givers.new ≡ total h (own owner.old.lane).took + total (others_took h) givers.old }
+    ensures sum { (h : Task → ℕ) → total h (own_hand owner.new.lane).took + total (others_took h) givers.new ≡ total h (own_hand owner.old.lane).took + total (others_took h) givers.old }
 {
     if !givers.is_empty() {
         let (head, rest) = givers.split_at_mut(1);

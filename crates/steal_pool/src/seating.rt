@@ -1,4 +1,4 @@
-//! Each worker's place takes its job and its first tasks, and gives the job back.
+//! Jobs and first tasks go to the places of their workers, and the jobs come back.
 ghost use Rattle.std.specs.Prelude.{◌≡◌, ℕ, ◌+◌, ◌<◌, ◌≤◌, List, [], ◌∷◌, ◌++◌, length, drop, vec_len, vec_capacity};
 ghost use Rattle.std.specs.List.{AllByRecursion};
 ghost use Rattle.heap_base.specs.declared.task.Task.{Task};
@@ -12,7 +12,7 @@ use crate::place::Place;
 use crossbeam_utils::CachePadded;
 use heap_base::Task;
 
-/// The last jobs go to these places, in their order.
+/// The last jobs go to these places, in order.
 pub fn seat_jobs<J: Drop>(jobs: &mut Vec<J>, places: &mut [CachePadded<Place<J>>])
     requires { length places.old ≤ vec_len jobs.old }
     ensures moved { (last : List J) × (jobs.old.items ≡ jobs.new.items ++ last) × Each (λ p j q. TakesJob (padded_value p) j (padded_value q)) places.old last places.new }
@@ -30,7 +30,7 @@ pub fn seat_jobs<J: Drop>(jobs: &mut Vec<J>, places: &mut [CachePadded<Place<J>>
     }
 }
 
-/// The jobs of these places go back, in their order.
+/// The jobs of these places go back, in order.
 pub fn unseat_jobs<J: Drop>(jobs: &mut Vec<J>, places: &mut [CachePadded<Place<J>>])
     requires jobs { AllByRecursion HasSomeJob places.old }
     requires space { vec_len jobs.old + length places.old ≤ vec_capacity jobs.old }
@@ -47,6 +47,7 @@ pub fn unseat_jobs<J: Drop>(jobs: &mut Vec<J>, places: &mut [CachePadded<Place<J
     }
 }
 
+// The job's fit tasks are the terms of the deque, and the first tasks wait.
 fn begin_place<S: Sync, J: Job<S>>(place: &mut Place<J>, shared: &S, first: &[Task], number: u32)
     requires { CanBegin J.meaning shared.now place.old first.now }
     ensures { Begins J.meaning shared.now place.old first.now place.new }
@@ -54,14 +55,14 @@ fn begin_place<S: Sync, J: Job<S>>(place: &mut Place<J>, shared: &S, first: &[Ta
     let Some(job) = &place.job else {
         unreachable!()
     };
-    let bound = first.len() as u64 + job.room();
-    place.lane.begin(job, shared, bound);
-    place.lane.push_all(first);
+    place.lane.begin(job, shared, first);
+    place.queue.clear();
+    place.queue.add_all(first);
     place.count.number = number;
-    place.count.tasks_begun = 0;
+    place.count.begun = 0;
 }
 
-/// Each of these places begins with its list, the first of them with that of the number.
+/// The run begins at each of these places, at the first of them with the list of this number.
 pub fn begin_all<S: Sync, J: Job<S>>(
     places: &mut [CachePadded<Place<J>>],
     shared: &S,

@@ -1,4 +1,4 @@
-//! Steals from the others.
+//! Steals from the others' deques.
 ghost use Rattle.std.specs.Prelude.{◌≡◌, ℕ, ◌+◌, ◌<◌, [], ◌∷◌, List, length, slice_index_or, MatchOption, IfSome};
 ghost use Rattle.heap_base.specs.declared.task.Task.{Task};
 ghost use Rattle.crossbeam_deque.specs.Handles.{view};
@@ -10,6 +10,7 @@ use crate::victim::Victim;
 use heap_base::Task;
 
 impl Victim {
+    /// Takes the first task of the deque, where one is there.
     pub fn steal(&mut self) -> Option<Task>
         ensures { MatchOption result (IsUntouched self.old self.new) (λ t. StealsFrom self.old t self.new) }
     {

@@ -3,7 +3,7 @@ use Rattle.std.proofs.lemmas.List.{append_cancel_right}
 use Rattle.std.specs.List.{AllByRecursion}
 use Rattle.crossbeam_utils.specs.Padded.{padded_value, padded_with_value}
 use Rattle.heap_base.specs.Counting.{total}
-use Rattle.steal_pool.specs.Workers.{own}
+use Rattle.steal_pool.specs.Lanes.{own_hand}
 use Rattle.steal_pool.specs.Victims.{total_took}
 use Rattle.steal_pool.specs.Loans.{HandKey, hand_key, key_in, keys_of, CanTakeBack, own_took}
 use Rattle.steal_pool.proofs.LoanLemmas.{front_is, headed}
@@ -36,7 +36,7 @@ returns-then-not-is_empty-clause-sum g t c = λ h. (
     let s = c.split_at_mut-head in
     let rest = s.result.1.now in
     let x = slice_index_or s.result.0.now 0 c.index-head-0.result in
-    let a = subst (λ u. total h (own c.take_back.new.owner.lane).took + total_took h c.take_back.new.giver.others.items ≡ total h (own u.lane).took + total_took h c.give_back_to_each.new.giver.others.items) c.deref_mut-first.ensures.value (c.take_back.ensures.sum h) in
+    let a = subst (λ u. total h (own_hand c.take_back.new.owner.lane).took + total_took h c.take_back.new.giver.others.items ≡ total h (own_hand u.lane).took + total_took h c.give_back_to_each.new.giver.others.items) c.deref_mut-first.ensures.value (c.take_back.ensures.sum h) in
     let b = c.give_back_to_each.ensures.sum h in
     headed (λ xs ys. total (own_took h) ys + total_took h c.take_back.new.giver.others.items ≡ total (own_took h) xs + total_took h c.args.giver.now.others.items) c.args.owners.now s.result.0.now rest c.index-head-0.result (padded_with_value x c.take_back.new.owner) c.give_back_to_each.new.owners s.ensures.value s.ensures.front_len
     (omega arith))

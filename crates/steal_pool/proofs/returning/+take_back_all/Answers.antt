@@ -3,7 +3,7 @@ use Rattle.std.proofs.lemmas.List.{append_cancel_right}
 use Rattle.std.specs.List.{AllByRecursion}
 use Rattle.crossbeam_utils.specs.Padded.{padded_value, padded_with_value}
 use Rattle.heap_base.specs.Counting.{total}
-use Rattle.steal_pool.specs.Workers.{own}
+use Rattle.steal_pool.specs.Lanes.{own_hand}
 use Rattle.steal_pool.specs.Lists.{Each}
 use Rattle.steal_pool.specs.Victims.{total_took}
 use Rattle.steal_pool.specs.Loans.{HandKey, hand_key, key_in, keys_of, keys_in, keys_of_others, CanTakeBack, OnlyTakesBack, ReturnsHands, RestoresHands, own_took, others_took, all_took}
@@ -105,9 +105,9 @@ returns-then-not-is_empty-clause-sum g t c = λ h. (
     let t0 = total_all h rest in
     let t1 = total_all h qs in
     let t2 = total_all h ss in
-    let w0 : own_took h x ≡ total h (own c.deref_mut-first.result.now.lane).took = ap (λ u. total h (own u.lane).took) (sym c.deref_mut-first.ensures.value) in
+    let w0 : own_took h x ≡ total h (own_hand c.deref_mut-first.result.now.lane).took = ap (λ u. total h (own_hand u.lane).took) (sym c.deref_mut-first.ensures.value) in
     let w1 : others_took h x ≡ total_took h c.deref_mut-first.result.now.others.items = ap (λ u. total_took h u.others.items) (sym c.deref_mut-first.ensures.value) in
     let v0 : total_took h c.take_back_from_each.new.owner.others.items ≡ total_took h c.deref_mut-first.result.now.others.items = ap (λ u. total_took h u.others.items) c.take_back_from_each.ensures.joined.0 in
-    let v1 : total h (own c.give_back_to_each.new.giver.lane).took ≡ total h (own c.take_back_from_each.new.owner.lane).took = ap (λ u. total h (own u.lane).took) c.give_back_to_each.ensures.returned.rest in
+    let v1 : total h (own_hand c.give_back_to_each.new.giver.lane).took ≡ total h (own_hand c.take_back_from_each.new.owner.lane).took = ap (λ u. total h (own_hand u.lane).took) c.give_back_to_each.ensures.returned.rest in
     headed (λ xs ys. total (all_took h) ys ≡ total (all_took h) xs) c.args.places.now s.result.0.now rest c.index-head-0.result (padded_with_value x c.give_back_to_each.new.giver) ss s.ensures.value s.ensures.front_len
     (omega arith))

@@ -2,7 +2,7 @@ use Rattle.std.proofs.Common.{rules, arith, ◌≡◌, ◌+◌, ◌++◌, List, 
 use Rattle.std.specs.List.{AllByRecursion}
 use Rattle.crossbeam_utils.specs.Padded.{padded_value, padded_with_value}
 use Rattle.heap_base.specs.Counting.{total}
-use Rattle.steal_pool.specs.Workers.{own}
+use Rattle.steal_pool.specs.Lanes.{own_hand}
 use Rattle.steal_pool.specs.Lists.{Each}
 use Rattle.steal_pool.specs.Loans.{HandKey, hand_key, keys_of, keys_in, OnlyTakesBack, ReturnsHands, others_took}
 use Rattle.steal_pool.specs.Victims.{total_took}
@@ -58,7 +58,7 @@ returns-then-not-is_empty-clause-sum g t c = λ h. (
     let s = c.split_at_mut-head in
     let rest = s.result.1.now in
     let x = slice_index_or s.result.0.now 0 c.index-head-0.result in
-    let a = subst (λ u. total h (own c.take_back.new.owner.lane).took + total_took h c.take_back.new.giver.others.items ≡ total h (own c.args.owner.now.lane).took + total_took h u.others.items) c.deref_mut-first.ensures.value (c.take_back.ensures.sum h) in
+    let a = subst (λ u. total h (own_hand c.take_back.new.owner.lane).took + total_took h c.take_back.new.giver.others.items ≡ total h (own_hand c.args.owner.now.lane).took + total_took h u.others.items) c.deref_mut-first.ensures.value (c.take_back.ensures.sum h) in
     let b = c.take_back_from_each.ensures.sum h in
-    headed (λ xs ys. total h (own c.take_back_from_each.new.owner.lane).took + total (others_took h) ys ≡ total h (own c.args.owner.now.lane).took + total (others_took h) xs) c.args.givers.now s.result.0.now rest c.index-head-0.result (padded_with_value x c.take_back.new.giver) c.take_back_from_each.new.givers s.ensures.value s.ensures.front_len
+    headed (λ xs ys. total h (own_hand c.take_back_from_each.new.owner.lane).took + total (others_took h) ys ≡ total h (own_hand c.args.owner.now.lane).took + total (others_took h) xs) c.args.givers.now s.result.0.now rest c.index-head-0.result (padded_with_value x c.take_back.new.giver) c.take_back_from_each.new.givers s.ensures.value s.ensures.front_len
     (omega arith))

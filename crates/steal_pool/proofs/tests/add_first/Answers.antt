@@ -1,4 +1,4 @@
-use Rattle.std.proofs.Common.{arith, ◌<◌, List, length, slice_index_or, [], ap, sym, subst}
+use Rattle.std.proofs.Common.{arith, List, length, ap, sym, subst}
 use Rattle.heap_base.specs.declared.task.Task.{Task}
 use Rattle.steal_pool.specs.CellTasks.{AreFirst}
 use Rattle.steal_pool.proofs.CellTaskLemmas.{first_more}

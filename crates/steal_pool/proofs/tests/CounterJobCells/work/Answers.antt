@@ -1,4 +1,4 @@
-use Rattle.std.proofs.Common.{arith, ◌≡◌, ◌+◌, ◌<◌, ◌≤◌, List, [], ◌∷◌, ◌++◌, length, ap, ◌∙◌, append_assoc, length-append}
+use Rattle.std.proofs.Common.{arith, List, [], ◌∷◌, ◌++◌, ap, ◌∙◌, append_assoc, length-append}
 use Rattle.heap_base.specs.declared.task.Task.{Task}
 use Rattle.steal_pool.proofs.CellTaskLemmas.{task_of, fit-append}
 use Rattle.steal_pool.proofs.tests.CounterJobCells.work.Goals as goal
