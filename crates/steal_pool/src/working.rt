@@ -1,0 +1,77 @@
+//! One worker's turns.
+ghost use Rattle.std.specs.Prelude.{◌≡◌, ◌+◌, ◌≤◌, cond, false};
+ghost use Rattle.steal_pool.specs.Lanes.{own_hand, HasTakenFew};
+ghost use Rattle.steal_pool.specs.Workers.{CanStart, EndsWork, HasNone, tasks_left};
+
+use crate::finding::find_task;
+use crate::job::Job;
+use crate::offering::offer;
+use crate::place::Place;
+use heap_base::Gate;
+use std::thread;
+
+/// How many idle turns in a row a worker makes before it stops.
+const PATIENCE: u32 = 4096;
+
+impl<J> Place<J> {
+    /// One turn: a task is found and done, and some of those that wait are offered to the others. It answers whether
+    /// there was a task.
+    fn turn<S: Sync, G: Gate>(&mut self, shared: &S, gate: &G) -> bool
+    where
+        J: Job<S>,
+        requires can { CanStart J.meaning shared.now self.old }
+        requires few { HasTakenFew self.old.lane }
+        ensures went { EndsWork J.meaning shared.now self.old self.new }
+        ensures few { HasTakenFew self.new.lane }
+        ensures fewer { tasks_left J.meaning self.new + cond result 1 0 ≤ tasks_left J.meaning self.old }
+        ensures none { result ≡ false → HasNone self.new }
+    {
+        let Some(job) = &mut self.job else {
+            unreachable!()
+        };
+        let from = self.count.number as usize;
+        let others = self.others.as_mut_slice();
+        let Some(task) = find_task(&mut self.queue, &mut self.lane, others, from) else {
+            return false;
+        };
+        self.count.begin(gate);
+        self.queue.work(job, shared, task);
+        if !self.others.is_empty() {
+            offer(&mut self.queue, &mut self.lane);
+        }
+        true
+    }
+
+    /// Does tasks until it was idle long enough.
+    pub fn work_until_idle<S: Sync, G: Gate>(&mut self, shared: &S, gate: &G)
+    where
+        J: Job<S>,
+        requires can { CanStart J.meaning shared.now self.old }
+        requires few { HasTakenFew self.old.lane }
+        ensures { EndsWork J.meaning shared.now self.old self.new }
+    {
+        let mut idle = 0;
+        while idle < PATIENCE {
+            if self.turn(shared, gate) {
+                idle = 0;
+            } else {
+                idle += 1;
+                gate.idle(self.count.number, idle);
+                thread::yield_now();
+            }
+        }
+    }
+
+    /// Does tasks until a turn finds none.
+    pub fn work_until_empty<S: Sync, G: Gate>(&mut self, shared: &S, gate: &G)
+    where
+        J: Job<S>,
+        requires can { CanStart J.meaning shared.now self.old }
+        requires whole { (own_hand self.old.lane).rights ≡ 16 }
+        ensures went { EndsWork J.meaning shared.now self.old self.new }
+        ensures none { HasNone self.new }
+    {
+        self.lane.len();
+        while self.turn(shared, gate) {}
+    }
+}
