@@ -4,11 +4,11 @@ use Rattle.std.specs.List.{list_all}
 use Rattle.std.specs.Str.{bytes_eq, is_utf8}
 use Rattle.serde_json.specs.Data.{Data, null, boolean, number, string, array, object}
 use Rattle.serde_json.specs.Read.{read}
-use Rattle.serde_json.specs.Find.{get, as_number, as_str, as_u64}
+use Rattle.serde_json.specs.Find.{get, as_bool, as_number, as_str, as_u64}
 use Rattle.heap_base.specs.Names.{is_name}
 use Rattle.heap_base.specs.declared.limits.TheConstants.{MOST_THREADS}
 use Rattle.graph_meaning.specs.declared.event.Event.{Event}
-use Rattle.graph_meaning.specs.declared.event.Event.TheVariants.{Alloc, Store, Root, AssertDead, StartRegion, AssertAllDead, AssertInstances, AssertUnshared, AssertOwnedBy, Collect}
+use Rattle.graph_meaning.specs.declared.event.Event.TheVariants.{Alloc, Store, SetWeak, Root, AssertDead, StartRegion, AssertAllDead, AssertInstances, AssertUnshared, AssertOwnedBy, Collect}
 use Rattle.graph_meaning.specs.declared.refusal.FieldName.{FieldName}
 use Rattle.graph_meaning.specs.declared.refusal.FieldName.TheVariants.{OpField, IdField, TypeField, SlotsField, ThreadField, AtField, SlotField, ToField, NameField, LimitField, OwnerField, OwneeField, WeakField}
 use Rattle.graph_meaning.specs.declared.refusal.Refusal.{Refusal}
@@ -103,7 +103,7 @@ Gives (Ok a) given = given ≡ Ok a
 Gives (Err (Refused r)) given = given ≡ Err r
 Gives (Err OutOfMemory) given = ⊤
 
--- ---- the ten operations, each with its fields in the order in which they are tested
+-- ---- the eleven operations, each with its fields in the order in which they are tested
 
 unfoldable pub alloc_in : Data → Result Event Refusal
 alloc_in d = do
@@ -119,6 +119,13 @@ store_in d = do
   slot ← needed_field SlotField count_value d
   to ← needed_field ToField target_value d
   Ok (Store at slot to)
+
+unfoldable pub set_weak_in : Data → Result Event Refusal
+set_weak_in d = do
+  at ← needed_field AtField id_value d
+  slot ← needed_field SlotField count_value d
+  weak ← needed_field WeakField as_bool d
+  Ok (SetWeak at slot weak)
 
 unfoldable pub root_in : Data → Result Event Refusal
 root_in d = do
@@ -163,6 +170,7 @@ unfoldable pub operation : List ℕ → Data → Result Event Refusal
 operation op d =
     if bytes_eq op (codes "alloc") then alloc_in d
     else (if bytes_eq op (codes "store") then store_in d
+    else (if bytes_eq op (codes "set-weak") then set_weak_in d
     else (if bytes_eq op (codes "root") then root_in d
     else (if bytes_eq op (codes "assert-dead") then dead_in d
     else (if bytes_eq op (codes "start-region") then start_in d
@@ -171,7 +179,7 @@ operation op d =
     else (if bytes_eq op (codes "assert-unshared") then unshared_in d
     else (if bytes_eq op (codes "assert-ownedby") then owned_in d
     else (if bytes_eq op (codes "collect") then Ok Collect
-    else Err UnknownOp)))))))))
+    else Err UnknownOp))))))))))
 
 -- an object's operation is named by its field `op`; fields that the operation does not name are ignored
 unfoldable pub event_in : Data → Result Event Refusal

@@ -1,5 +1,5 @@
 ghost use Rattle.std.specs.Prelude.{◌≡◌, ◌^◌, ◌<◌, IfOk, Some, None, Ok, Err, option_map, MatchResult};
-ghost use Rattle.serde_json.specs.Find.{get, as_u64, as_number};
+ghost use Rattle.serde_json.specs.Find.{get, as_bool, as_u64, as_number};
 ghost use Rattle.trace_reader.specs.Objects.{object_data, value_data};
 ghost use Rattle.trace_reader.specs.Meaning.{Gives, field_text, good_value, needed_field, optional_field, id_value, count_value, thread_value, target_value, name_value};
 
@@ -27,6 +27,13 @@ pub fn target_field(object: Object<'_>, field: FieldName) -> Result<Option<ObjId
     ensures { Gives result (needed_field field target_value (object_data object.entry)) }
 {
     good_field(field, target_in(needed_field(object, field)?))
+}
+
+/// True or false, in a field that must be there.
+pub fn bool_field(object: Object<'_>, field: FieldName) -> Result<bool, Stop>
+    ensures { Gives result (needed_field field as_bool (object_data object.entry)) }
+{
+    good_field(field, needed_field(object, field)?.as_bool())
 }
 
 /// A name, in a field that must be there.

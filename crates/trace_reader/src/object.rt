@@ -1,5 +1,5 @@
 ghost use Rattle.std.specs.Prelude.{◌≡◌, option_map, is_some, reverse};
-ghost use Rattle.serde_json.specs.Find.{as_null, as_object, as_str, get, get_member};
+ghost use Rattle.serde_json.specs.Find.{as_bool, as_null, as_object, as_str, get, get_member};
 ghost use Rattle.trace_reader.specs.Meaning.{field_text, whole_number};
 ghost use Rattle.trace_reader.specs.Objects.{value_data, members_data, object_data};
 
@@ -15,6 +15,7 @@ const MOST_MEMBERS: usize = 8;
 #[derive(Clone, Copy, Debug, Drop)]
 pub enum FieldValue<'a> {
     Null,
+    Bool(bool),
     /// A whole number below 2^64 that was written as digits alone.
     Whole(u64),
     /// A text, its escapes replaced by what they stand for.
@@ -42,7 +43,7 @@ pub type PlainMembers<'a> = ArrayVec<Member<'a>, MOST_MEMBERS>;
 /// The JSON value of a line.
 #[derive(Clone, Copy, Drop)]
 pub enum Object<'a> {
-    /// An object of few members, each of which is null, a whole number or a text.
+    /// An object of few members, each of which is null, true, false, a whole number or a text.
     Plain(&'a [Member<'a>]),
     /// Any value, as serde_json gives it.
     Any(&'a Value),
@@ -91,7 +92,7 @@ impl FieldValue<'_> {
         match self {
             FieldValue::Whole(n) => Some(n),
             FieldValue::Json(value) => value.as_u64(),
-            FieldValue::Null | FieldValue::Text(_) => None,
+            FieldValue::Null | FieldValue::Bool(_) | FieldValue::Text(_) => None,
         }
     }
 
@@ -102,7 +103,18 @@ impl FieldValue<'_> {
         match self {
             FieldValue::Null => true,
             FieldValue::Json(value) => value.is_null(),
-            FieldValue::Whole(_) | FieldValue::Text(_) => false,
+            FieldValue::Bool(_) | FieldValue::Whole(_) | FieldValue::Text(_) => false,
+        }
+    }
+
+    /// The truth value that it is, if it is one.
+    pub fn as_bool(self) -> Option<bool>
+        ensures { result ≡ as_bool (value_data self.entry) }
+    {
+        match self {
+            FieldValue::Bool(b) => Some(b),
+            FieldValue::Json(value) => value.as_bool(),
+            FieldValue::Null | FieldValue::Whole(_) | FieldValue::Text(_) => None,
         }
     }
 }
@@ -115,7 +127,7 @@ impl<'a> FieldValue<'a> {
         match self {
             FieldValue::Text(text) => Some(text),
             FieldValue::Json(value) => value.as_str(),
-            FieldValue::Null | FieldValue::Whole(_) => None,
+            FieldValue::Null | FieldValue::Bool(_) | FieldValue::Whole(_) => None,
         }
     }
 }

@@ -1,9 +1,9 @@
 ghost use Rattle.trace_reader.specs.Objects.{object_data};
-ghost use Rattle.trace_reader.specs.Meaning.{Gives, operation, event_in, alloc_in, store_in, root_in, dead_in, start_in, all_dead_in, instances_in, unshared_in, owned_in};
+ghost use Rattle.trace_reader.specs.Meaning.{Gives, operation, event_in, alloc_in, store_in, set_weak_in, root_in, dead_in, start_in, all_dead_in, instances_in, unshared_in, owned_in};
 
 use crate::field::{
-    count_field, good_field, id_field, name_field, needed_field, slots_field, target_field,
-    thread_field,
+    bool_field, count_field, good_field, id_field, name_field, needed_field, slots_field,
+    target_field, thread_field,
 };
 use crate::object::Object;
 use graph_meaning::{Event, FieldName, Refusal, Stop};
@@ -30,6 +30,7 @@ fn operation_named(alloc: Global, op: &str, object: Object<'_>) -> Result<Event,
     match op {
         "alloc" => alloc_event(alloc, object),
         "store" => store_event(object),
+        "set-weak" => set_weak_event(object),
         "root" => root_event(alloc, object),
         "assert-dead" => dead_event(object),
         "start-region" => start_event(object),
@@ -66,6 +67,16 @@ fn store_event(object: Object<'_>) -> Result<Event, Stop>
     let slot = count_field(object, FieldName::SlotField)?;
     let to = target_field(object, FieldName::ToField)?;
     Ok(Event::Store { at, slot, to })
+}
+
+#[tactic(auto, unfolding(crate::specs::Meaning::set_weak_in))]
+fn set_weak_event(object: Object<'_>) -> Result<Event, Stop>
+    ensures { Gives result (set_weak_in (object_data object.entry)) }
+{
+    let at = id_field(object, FieldName::AtField)?;
+    let slot = count_field(object, FieldName::SlotField)?;
+    let weak = bool_field(object, FieldName::WeakField)?;
+    Ok(Event::SetWeak { at, slot, weak })
 }
 
 #[tactic(auto, unfolding(crate::specs::Meaning::root_in))]

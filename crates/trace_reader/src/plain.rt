@@ -9,8 +9,8 @@ use fast_float::Numeral;
 use heap_base::OutOfMemory;
 use json::{Reader, Scratch, Token};
 
-/// Whether a text is a plain object, which has few members, each of them null, a whole number or a text. If it is one,
-/// its members are found; if not, some of them may be.
+/// Whether a text is a plain object, which has few members, each of them null, true, false, a whole number or a text.
+/// If it is one, its members are found; if not, some of them may be.
 pub fn read_plain<'a>(
     text: &'a str,
     scratch: &'a mut Scratch,
@@ -57,6 +57,7 @@ fn plain_value<'a>(reader: &mut Reader<'a>) -> Option<FieldValue<'a>>
 {
     match reader.next()? {
         Token::Null => Some(FieldValue::Null),
+        Token::Bool(b) => Some(FieldValue::Bool(b)),
         Token::String(text) => Some(FieldValue::Text(text)),
         Token::Number(text) => Some(FieldValue::Whole(whole_number(text)?)),
         _ => None,

@@ -3,7 +3,7 @@ ghost use Rattle.std.specs.Prelude.{◌<◌, Some};
 use crate::{CutError, LineCutter, LineReader, event_of};
 use graph_meaning::FieldName::{
     AtField, IdField, LimitField, NameField, OpField, OwneeField, OwnerField, SlotField,
-    SlotsField, ThreadField, ToField, TypeField,
+    SlotsField, ThreadField, ToField, TypeField, WeakField,
 };
 use graph_meaning::Refusal::{BadField, MissingField, NotJson, NotObject, UnknownOp};
 use graph_meaning::{Event, Refusal, Stop};
@@ -253,6 +253,12 @@ fn each_operation_is_read(rt: HostRuntime) {
     assert_eq!(rt; (at.number(), slot), (3, 0));
     assert_eq!(rt; to.map(|to| to.number()), Some(7));
 
+    let line = "{\"op\":\"set-weak\",\"at\":3,\"slot\":0,\"weak\":true}";
+    let Event::SetWeak { at, slot, weak } = event(&rt, rt.alloc(), line) else {
+        panic!(rt; "{line}");
+    };
+    assert_eq!(rt; (at.number(), slot, weak), (3, 0, true));
+
     let line = "{\"op\":\"root\",\"name\":\"a\",\"to\":7}";
     let Event::Root { name, to } = event(&rt, rt.alloc(), line) else {
         panic!(rt; "{line}");
@@ -282,7 +288,12 @@ fn in_short(event: &Event) -> (&'static str, u32) {
         Event::Store { .. } => ("store", 0),
         Event::Root { to: None, .. } => ("root of nothing", 0),
         Event::Root { .. } => ("root", 0),
-        Event::SetWeak { slot, .. } => ("set weak", *slot),
+        Event::SetWeak {
+            slot,
+            weak: true,
+            ..
+        } => ("weak", *slot),
+        Event::SetWeak { slot, .. } => ("strong", *slot),
         Event::AssertDead { id } => ("dead", id.number()),
         Event::StartRegion { thread } => ("start", thread.number()),
         Event::AssertAllDead { thread } => ("all dead", thread.number()),
@@ -404,12 +415,11 @@ fn lines_are_refused(rt: HostRuntime) {
         ("{\"op\":\"sweep\"}", UnknownOp),
         ("{\"op\":\"\"}", UnknownOp),
         ("{\"op\":\"Collect\"}", UnknownOp),
-        (
-            "{\"op\":\"set-weak\",\"at\":1,\"slot\":0,\"weak\":true}",
-            UnknownOp,
-        ),
+        ("{\"op\":\"weak\"}", UnknownOp),
+        ("{\"op\":\"set-weak \"}", UnknownOp),
         ("{}", MissingField(OpField)),
         ("{\"op\":3}", BadField(OpField)),
+        ("{\"op\":true}", BadField(OpField)),
         ("{\"op\":null}", BadField(OpField)),
         ("{\"op\":\"alloc\",\"type\":\"A\"}", MissingField(IdField)),
         (
@@ -488,6 +498,16 @@ fn lines_are_refused(rt: HostRuntime) {
             BadField(ThreadField),
         ),
         ("{\"op\":\"assert-dead\",\"id\":null}", BadField(IdField)),
+        // True and false are the values of `weak` alone.
+        ("{\"op\":\"assert-dead\",\"id\":true}", BadField(IdField)),
+        (
+            "{\"op\":\"store\",\"at\":1,\"slot\":0,\"to\":false}",
+            BadField(ToField),
+        ),
+        (
+            "{\"op\":\"root\",\"name\":true,\"to\":null}",
+            BadField(NameField),
+        ),
         // Numbers that are no whole numbers below 2^64.
         ("{\"op\":\"assert-dead\",\"id\":1e2}", BadField(IdField)),
         (
@@ -513,6 +533,88 @@ fn lines_are_refused(rt: HostRuntime) {
     for (line, want) in cases {
         assert_eq!(rt; refusal(&rt, rt.alloc(), line.as_bytes()), want, "{line}");
     }
+}
+
+// How a line may end behind the fields of its operation: as a plain object, and as one that only serde_json reads.
+const ENDS: [&str; 2] = ["}", ",\"x\":[{}]}"];
+
+// A line of the operation `set-weak` with these fields, each behind a comma.
+fn set_weak(alloc: Global, fields: &str, end: &str) -> Result<String, Fail> {
+    let mut line = String::from_str(alloc, "{\"op\":\"set-weak\"")?;
+    line.push_str(fields)?;
+    line.push_str(end)?;
+    Ok(line)
+}
+
+#[test]
+fn a_slot_is_made_weak_or_strong(rt: HostRuntime) -> Result<(), Fail> {
+    let cases = [
+        (",\"at\":3,\"slot\":5,\"weak\":true", ("weak", 5)),
+        (",\"at\":3,\"slot\":5,\"weak\":false", ("strong", 5)),
+        (",\"weak\":true,\"slot\":0,\"at\":1", ("weak", 0)),
+        (
+            ",\"at\":4294967295,\"slot\":4294967295,\"weak\":false,\"to\":null",
+            ("strong", 4_294_967_295),
+        ),
+        (",\"at\":1,\"slot\":0,\"w\\u0065ak\":true", ("weak", 0)),
+    ];
+    for (fields, want) in cases {
+        for end in ENDS {
+            let line = set_weak(rt.alloc(), fields, end)?;
+            let event = event(&rt, rt.alloc(), line.as_str());
+            assert_eq!(rt; in_short(&event), want, "{line}");
+        }
+    }
+    Ok(())
+}
+
+#[test]
+fn a_faulty_field_of_set_weak_is_refused(rt: HostRuntime) -> Result<(), Fail> {
+    let cases = [
+        (",\"slot\":0,\"weak\":true", MissingField(AtField)),
+        (",\"at\":0,\"slot\":0,\"weak\":true", BadField(AtField)),
+        (
+            ",\"at\":4294967296,\"slot\":0,\"weak\":true",
+            BadField(AtField),
+        ),
+        (",\"at\":null,\"slot\":0,\"weak\":true", BadField(AtField)),
+        (",\"at\":true,\"slot\":0,\"weak\":true", BadField(AtField)),
+        (",\"at\":1,\"weak\":true", MissingField(SlotField)),
+        (",\"at\":1,\"slot\":-1,\"weak\":true", BadField(SlotField)),
+        (
+            ",\"at\":1,\"slot\":4294967296,\"weak\":true",
+            BadField(SlotField),
+        ),
+        (",\"at\":1,\"slot\":null,\"weak\":true", BadField(SlotField)),
+        (
+            ",\"at\":1,\"slot\":false,\"weak\":true",
+            BadField(SlotField),
+        ),
+        (",\"at\":1,\"slot\":0", MissingField(WeakField)),
+        (",\"at\":1,\"slot\":0,\"weak\":1", BadField(WeakField)),
+        (",\"at\":1,\"slot\":0,\"weak\":0", BadField(WeakField)),
+        (
+            ",\"at\":1,\"slot\":0,\"weak\":\"true\"",
+            BadField(WeakField),
+        ),
+        (",\"at\":1,\"slot\":0,\"weak\":null", BadField(WeakField)),
+        (",\"at\":1,\"slot\":0,\"weak\":[true]", BadField(WeakField)),
+        (",\"at\":1,\"slot\":0,\"weak\":True", NotJson),
+        // The first field in the order of the operation decides.
+        ("", MissingField(AtField)),
+        (",\"at\":0,\"slot\":-1,\"weak\":1", BadField(AtField)),
+        (",\"weak\":1,\"at\":1", MissingField(SlotField)),
+        (",\"weak\":1,\"slot\":-1,\"at\":1", BadField(SlotField)),
+        (",\"slot\":-1,\"at\":1", BadField(SlotField)),
+    ];
+    for (fields, want) in cases {
+        for end in ENDS {
+            let line = set_weak(rt.alloc(), fields, end)?;
+            let found = refusal(&rt, rt.alloc(), line.as_str().as_bytes());
+            assert_eq!(rt; found, want, "{line}");
+        }
+    }
+    Ok(())
 }
 
 #[test]

@@ -12,6 +12,12 @@ returns-in-Null-clause-value c =
     let is : c.args.reader.now ≡ Token.null ∷ c.next.new.self = grind (arith, first) in
     (json.null, refl, λ depth. ap (value depth) is ∙ value_is depth _)
 
+pub returns-in-Bool-clause-value : goal.returns-in-Bool-clause-value
+returns-in-Bool-clause-value c =
+    let first : c.args.reader.now ≡ token_of c.in_ok-next.field-0 ∷ c.next.new.self = grind arith in
+    let is : c.args.reader.now ≡ Token.boolean c.in-Bool.b ∷ c.next.new.self = grind (arith, first) in
+    (json.boolean c.in-Bool.b, refl, λ depth. ap (value depth) is ∙ value_is depth _)
+
 pub returns-in-String-clause-value : goal.returns-in-String-clause-value
 returns-in-String-clause-value c =
     let first : c.args.reader.now ≡ token_of c.in_ok-next.field-0 ∷ c.next.new.self = grind arith in
