@@ -24,12 +24,6 @@ put_alone old later k change changed = go (slice_get old.cells k) changed
     go None changed = tt
     go (Some c) changed = ap (λ r. r.cells) changed
 
--- and the room
-pub put_room : (old later : Roomy Cell) (k : ℕ) (change : Cell → Cell) → k < length old.cells → IfSome (slice_get old.cells k) (λ c. later ≡ record old { cells = set old.cells k (change c) }) → later.room ≡ old.room
-put_room old later k change within changed =
-    let is : later ≡ record old { cells = set old.cells k (change (get_or old.cells k (Empty None))) } = rw (slice_get-get_or old.cells k (Empty None) within) at changed in
-    ap (λ r. r.room) is
-
 -- ---- the cell that comes next
 
 pub next_some : (cells : List Cell) (first : Option ℕ) (k : ℕ) → IsHoused cells first → first ≡ Some k → (k ≡ next_cell (map resident_in cells)) × (k < length cells)

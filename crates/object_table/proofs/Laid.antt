@@ -1,40 +1,43 @@
 -- Lists that stand in runs, one after another: where a run starts, and what an edit of one run does to the list.
-use Rattle.std.proofs.Common.{◌≡◌, ℕ, zero, suc, ◌+◌, ◌<◌, ◌≤◌, List, [], ◌∷◌, ◌++◌, length, take, get_or, true, false, leb, ◌∙◌, ap, arith, length-append}
+use Rattle.std.proofs.Common.{◌≡◌, ℕ, zero, suc, ◌+◌, ◌<◌, ◌≤◌, List, [], ◌∷◌, ◌++◌, length, take, drop, get_or, true, false, leb, ◌∙◌, ap, arith, length-append}
 use Rattle.std.specs.List.Sorted.{IsPartitionPoint, IsNonDecreasingBy}
 use Rattle.std.proofs.lemmas.Bool.{leb-true, leb-false}
-use Rattle.std.proofs.lemmas.List.{take_more, take_all}
+use Rattle.std.proofs.lemmas.List.{take_more, take_all, take-append-drop}
 use Rattle.std.proofs.lemmas.List.Concat.{flat_map-append}
 use Rattle.std.proofs.lemmas.List.Sorted.{IsNonDecreasingBy-from_all_adjacent}
-use Rattle.object_table.specs.Blocks.{Run, joined, IsLaid, IsRunOf}
+use Rattle.object_table.specs.Blocks.{Run, all_roots, IsLaid, IsRunOf}
 
 module _ {X : Type 0} where
-  pub joined-append : (qs rs : List (Run X)) → joined (qs ++ rs) ≡ joined qs ++ joined rs
-  joined-append qs rs = flat_map-append (λ r. r.entries) qs rs
+  pub all_roots-append : (qs rs : List (Run X)) → all_roots (qs ++ rs) ≡ all_roots qs ++ all_roots rs
+  all_roots-append qs rs = flat_map-append (λ r. r.roots) qs rs
 
   -- ---- where a run starts
 
-  pub start-at : (n : ℕ) (runs : List (Run X)) (k : ℕ) (d : Run X) → IsLaid n runs → k < length runs → (get_or runs k d).start ≡ n + length (joined (take k runs))
+  pub start-at : (n : ℕ) (runs : List (Run X)) (k : ℕ) (d : Run X) → IsLaid n runs → k < length runs → (get_or runs k d).start ≡ n + length (all_roots (take k runs))
   start-at n [] k d laid h = absurd (omega arith)
   start-at n (r ∷ runs) zero d laid h = omega (arith, laid.0)
-  start-at n (r ∷ runs) (suc k) d laid h = omega (arith, start-at (n + length r.entries) runs k d laid.2 (omega arith), length-append r.entries (joined (take k runs)))
+  start-at n (r ∷ runs) (suc k) d laid h = omega (arith, start-at (n + length r.roots) runs k d laid.2 (omega arith), length-append r.roots (all_roots (take k runs)))
 
-  pub start_is : (runs : List (Run X)) (k : ℕ) (d : Run X) → IsLaid 0 runs → k < length runs → (get_or runs k d).start ≡ length (joined (take k runs))
+  pub start_is : (runs : List (Run X)) (k : ℕ) (d : Run X) → IsLaid 0 runs → k < length runs → (get_or runs k d).start ≡ length (all_roots (take k runs))
   start_is runs k d laid h = omega (arith, start-at 0 runs k d laid h)
 
   -- the runs up to the end of the k-th
-  pub length-more : (runs : List (Run X)) (k : ℕ) (d : Run X) → k < length runs → length (joined (take (k + 1) runs)) ≡ length (joined (take k runs)) + length (get_or runs k d).entries
-  length-more runs k d h = ap (λ l. length (joined l)) (take_more runs k d h) ∙ ap length (joined-append (take k runs) (get_or runs k d ∷ [])) ∙ omega (arith, length-append (joined (take k runs)) ((get_or runs k d).entries ++ []), length-append (get_or runs k d).entries [])
+  pub length-more : (runs : List (Run X)) (k : ℕ) (d : Run X) → k < length runs → length (all_roots (take (k + 1) runs)) ≡ length (all_roots (take k runs)) + length (get_or runs k d).roots
+  length-more runs k d h = ap (λ l. length (all_roots l)) (take_more runs k d h) ∙ ap length (all_roots-append (take k runs) (get_or runs k d ∷ [])) ∙ omega (arith, length-append (all_roots (take k runs)) ((get_or runs k d).roots ++ []), length-append (get_or runs k d).roots [])
 
-  pub length-all : (runs : List (Run X)) (k : ℕ) → length runs ≤ k → length (joined (take k runs)) ≡ length (joined runs)
-  length-all runs k h = ap (λ l. length (joined l)) (take_all k runs h)
+  pub length-all : (runs : List (Run X)) (k : ℕ) → length runs ≤ k → length (all_roots (take k runs)) ≡ length (all_roots runs)
+  length-all runs k h = ap (λ l. length (all_roots l)) (take_all k runs h)
 
   pub starts_rise : (runs : List (Run X)) → IsLaid 0 runs → IsNonDecreasingBy (λ r. r.start) runs
   starts_rise runs laid = IsNonDecreasingBy-from_all_adjacent (λ r. r.start) runs (λ k d h. omega (arith, start_is runs k d laid (omega arith), start_is runs (k + 1) d laid (omega arith), length-more runs k d (omega arith)))
 
+  pub length_take : (runs : List (Run X)) (k : ℕ) → length (all_roots (take k runs)) ≤ length (all_roots runs)
+  length_take runs k = omega (arith, ap (λ l. length (all_roots l)) (take-append-drop k runs), ap length (all_roots-append (take k runs) (drop k runs)), length-append (all_roots (take k runs)) (all_roots (drop k runs)))
+
   -- ---- the run of a place
 
   abbrev empty_run : Run X
-  empty_run = record { start = 0; entries = [] }
+  empty_run = record { start = 0; roots = [] }
 
   abbrev StartsWithin : ℕ → List (Run X) → ℕ → Type 0
   StartsWithin place runs i = IsPartitionPoint (λ r. leb r.start place ≡ true) (λ r. leb r.start place ≡ false) runs i
@@ -44,9 +47,9 @@ module _ {X : Type 0} where
   starts_before runs place zero laid some parted = absurd (omega (arith, start_is runs 0 empty_run laid some, leb-false (get_or runs 0 empty_run).start place (parted.1 0 empty_run (omega arith) some)))
   starts_before runs place (suc i) laid some parted = omega arith
 
-  pub run_found : (runs : List (Run X)) (place i k : ℕ) → IsLaid 0 runs → place ≤ length (joined runs) → i ≤ length runs → k + 1 ≡ i → StartsWithin place runs i → IsRunOf runs place k
+  pub run_found : (runs : List (Run X)) (place i k : ℕ) → IsLaid 0 runs → place ≤ length (all_roots runs) → i ≤ length runs → k + 1 ≡ i → StartsWithin place runs i → IsRunOf runs place k
   run_found runs place i k laid within h next parted =
-      let begins : length (joined (take k runs)) ≤ place = omega (arith, start_is runs k empty_run laid (omega arith), leb-true (get_or runs k empty_run).start place (parted.0 k empty_run (omega arith) (omega arith))) in
-      let inner : k + 1 < length runs → place < length (joined (take (k + 1) runs)) = λ l. omega (arith, start_is runs (k + 1) empty_run laid l, leb-false (get_or runs (k + 1) empty_run).start place (parted.1 (k + 1) empty_run (omega arith) l)) in
-      let last : length runs ≤ k + 1 → length (joined (take (k + 1) runs)) ≡ length (joined runs) = length-all runs (k + 1) in
+      let begins : length (all_roots (take k runs)) ≤ place = omega (arith, start_is runs k empty_run laid (omega arith), leb-true (get_or runs k empty_run).start place (parted.0 k empty_run (omega arith) (omega arith))) in
+      let inner : k + 1 < length runs → place < length (all_roots (take (k + 1) runs)) = λ l. omega (arith, start_is runs (k + 1) empty_run laid l, leb-false (get_or runs (k + 1) empty_run).start place (parted.1 (k + 1) empty_run (omega arith) l)) in
+      let last : length runs ≤ k + 1 → length (all_roots (take (k + 1) runs)) ≡ length (all_roots runs) = length-all runs (k + 1) in
       record { in_range = omega arith; begins = begins; reaches = grind (arith, inner, last); ends = λ l. grind (arith, inner, last) }

@@ -5,8 +5,8 @@ pub mod Housing
 pub mod Indexes
 pub mod Laid
 pub mod Lookups
-pub mod Mapped
 pub mod Named
+pub mod Numbering
 pub mod Paging
 pub mod Parted
 pub mod Parts

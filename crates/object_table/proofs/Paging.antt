@@ -1,9 +1,8 @@
 -- Lists in pages of 1,024: where an element stands, and what a change in a page is to the whole.
 use Rattle.std.proofs.Common.{◌≡◌, ℕ, zero, suc, ◌+◌, ◌-◌, ◌*◌, ◌/◌, ◌%◌, ◌<◌, ◌≤◌, List, [], ◌∷◌, ◌++◌, length, take, set, get_or, slice_get, Some, IfSome, refl, inl, inr, sym, ◌∙◌, ap, arith, length-append}
 use Rattle.std.specs.List.{All}
-use Rattle.std.proofs.lemmas.List.{length-set, get_or_append_left, get_or-append_right, set-append_left, set-append_right, append-nil, get_or-take, length-take-le, take-append-le}
-use Rattle.std.proofs.lemmas.List.Elements.{All-head, All-tail, All-push, All-set}
-use Rattle.std.proofs.lemmas.List.Concat.{flat_map-append}
+use Rattle.std.proofs.lemmas.List.{length-set, get_or_append_left, get_or-append_right, set-append_left, set-append_right, get_or-take, length-take-le}
+use Rattle.std.proofs.lemmas.List.Elements.{All-head, All-tail, All-set}
 use Rattle.std.proofs.lemmas.Option.{slice_get-get_or, slice_get_cases, get_or_from_slice_get}
 use Rattle.std.proofs.lemmas.Grind.{take-set_at}
 use Rattle.std.proofs.Math.Nat.{div-add-mod}
@@ -141,16 +140,6 @@ module _ {X : Type 0} where
           (put.0, rw there.2 put.1)
       | inr past ↦ absurd (omega (arith, past.0))
     ]
-
-  -- ---- one more page
-
-  pub page_more : (pages : List (List X)) (count : ℕ) (page : List X) → IsPaged pages count → length page ≡ 1024 → length pages ≤ count / 1024 → IsPaged (pages ++ page ∷ []) count × ((paged (pages ++ page ∷ []) count).cells ≡ (paged pages count).cells) × (0 < (paged (pages ++ page ∷ []) count).room)
-  page_more pages count page is long full =
-      let whole : all_of (pages ++ page ∷ []) ≡ all_of pages ++ page = flat_map-append (λ p. p) pages (page ∷ []) ∙ ap (λ l. all_of pages ++ l) (append-nil page) in
-      let all = length-all_of pages is.full in
-      let more : length (all_of (pages ++ page ∷ [])) ≡ length (all_of pages) + 1024 = ap length whole ∙ length-append (all_of pages) page ∙ ap (λ n. length (all_of pages) + n) long in
-      let used = is.used in
-      (record { full = All-push (λ p. length p ≡ 1024) pages page is.full long; used = omega arith }, ap (take count) whole ∙ take-append-le count (all_of pages) page used, omega arith)
 
   -- there is room where the next element has a page
   pub room_left : (pages : List (List X)) (count : ℕ) → IsPaged pages count → count / 1024 < length pages → 0 < (paged pages count).room

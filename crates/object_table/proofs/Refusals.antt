@@ -111,7 +111,3 @@ root_fits t name id allowed = (grind (arith, nat_tests), λ new. grind (arith, n
 pub root_taken : (t : Table) (name : List ℕ) → root_refusal t name None ≡ None
 unfolding root_refusal
 root_taken t name = refl
-
--- what is not refused is live
-pub live_from_allowed : (t : Table) (id : ℕ) → not_live t id ≡ None → is_live t id ≡ true
-live_from_allowed t id allowed = grind (arith, nat_tests)

@@ -70,9 +70,6 @@ module _ (p : Parts) (is : IsTable p) where
   pub found_in : (id cell : ℕ) → id_in (placed_of p) cell ≡ Some id → found p.ids id ≡ Some cell
   found_in id cell at = found_held p is.laid id cell (sym (id_in-held p is.laid cell) ∙ at)
 
-  pub held_in : (id cell : ℕ) → id_in (placed_of p) cell ≡ Some id → (o : Resident) × (held_at p.cells cell ≡ Some o) × (o.id ≡ id)
-  held_in id cell at = held_with_id p.cells cell id (sym (id_in-held p is.laid cell) ∙ at)
-
   -- the object in the cell has the slot that is not refused
   pub slot_of_cell : (at slot cell : ℕ) (o : Resident) → id_in (placed_of p) cell ≡ Some at → held_at p.cells cell ≡ Some o → slot_refusal (placed_of p).table at slot ≡ None → slot < length o.slots
   slot_of_cell at slot cell o in_cell held allowed = omega (arith, slot_fits (placed_of p).table at slot allowed, slots_of-found at cell o (found_in at cell in_cell) held)

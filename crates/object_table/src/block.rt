@@ -1,20 +1,20 @@
-ghost use Rattle.std.specs.Prelude.{◌≡◌, ◌+◌, ◌<◌, ◌≤◌, ◌∷◌, [], length, take, drop, Some, slice_get, slice_set, IfSome, IfOk, IfErr, OnOk, OnErr};
+ghost use Rattle.std.specs.Prelude.{◌≡◌, ◌+◌, ◌<◌, ◌≤◌, ◌∷◌, ◌++◌, [], length, take, drop, Some, slice_get, slice_set, IfSome, IfOk, IfErr, OnOk, OnErr};
 ghost use Rattle.std.specs.List.{insert, remove};
 ghost use Rattle.std.specs.List.Sorted.{IsSearchInRange};
 ghost use Rattle.heap_base.specs.declared.limits.TheConstants.{MOST_ROOTS};
-ghost use Rattle.object_table.specs.Blocks.{Run, begins_above, raised, lowered};
+ghost use Rattle.object_table.specs.Blocks.{Run, begins_above};
 ghost use Rattle.object_table.specs.Ordered.{IsNamedAt, IsGapFor, RisesByName};
 
-use crate::entry::Entry;
+use crate::root::Root;
 use heap_base::{Name, ObjId, OutOfMemory};
 use std::alloc::Global;
 use std::marker::Model;
 
-/// A run of the entries of a longer list, with the place of its first entry in that list.
+/// A run of the roots of a longer list, with the place of its first root in that list.
 #[derive(Drop)]
 pub struct Block {
     start: usize,
-    entries: Vec<Entry>,
+    roots: Vec<Root>,
 }
 
 impl Model for Block {
@@ -23,46 +23,56 @@ impl Model for Block {
 
     ghost Value = { Run (List ℕ × ℕ) };
 
-    ghost view = { λ b. record { start = b.start; entries = b.entries.items } };
+    ghost view = { λ b. record { start = b.start; roots = b.roots.items } };
 }
 
 impl Block {
-    /// The first block of a list, with this entry alone.
-    pub fn of(alloc: Global, entry: Entry) -> Result<Block, OutOfMemory>
-        ensures { IfOk result (λ b. b ≡ record { start = 0; entries = entry ∷ [] }) }
+    /// A block without roots.
+    pub fn empty(alloc: Global) -> Block
+        ensures { result ≡ record { start = 0; roots = [] } }
     {
-        let mut entries = Vec::new(alloc);
-        entries.push(entry)?;
-        Ok(Block { start: 0, entries })
+        Block {
+            start: 0,
+            roots: Vec::new(alloc),
+        }
     }
 
-    /// The place of its first entry in the list.
+    /// The first block of a list, with this root alone.
+    pub fn of(alloc: Global, root: Root) -> Result<Block, OutOfMemory>
+        ensures { IfOk result (λ b. b ≡ record { start = 0; roots = root ∷ [] }) }
+    {
+        let mut roots = Vec::new(alloc);
+        roots.push(root)?;
+        Ok(Block { start: 0, roots })
+    }
+
+    /// The place of its first root in the list.
     pub fn start(&self) -> usize
         ensures { result ≡ self.now.start }
     {
         self.start
     }
 
-    /// How many entries it has.
+    /// How many roots it has.
     pub fn len(&self) -> usize
-        ensures { result ≡ length self.now.entries }
+        ensures { result ≡ length self.now.roots }
     {
-        self.entries.len()
+        self.roots.len()
     }
 
-    /// The entry at this place of the block.
-    pub fn at(&self, place: usize) -> &Entry
-        requires { place < length self.now.entries }
-        ensures { slice_get self.now.entries place ≡ Some result.now }
+    /// The root at this place of the block.
+    pub fn at(&self, place: usize) -> &Root
+        requires { place < length self.now.roots }
+        ensures { slice_get self.now.roots place ≡ Some result.now }
     {
-        &self.entries[place]
+        &self.roots[place]
     }
 
-    /// Whether its first entry has a name above this one.
+    /// Whether its first root has a name above this one.
     pub fn begins_above(&self, name: &Name) -> bool
-        ensures { result ≡ begins_above name.now self.now.entries }
+        ensures { result ≡ begins_above name.now self.now.roots }
     {
-        match self.entries.first() {
+        match self.roots.first() {
             Some(first) => first.name().as_str().cmp(name.as_str()).is_gt(),
             None => false,
         }
@@ -70,71 +80,75 @@ impl Block {
 
     /// Where in the block the name is, or where it would go.
     pub fn search(&self, name: &Name) -> Result<usize, usize>
-        requires { RisesByName self.now.entries }
-        ensures in_range { IsSearchInRange result (length self.now.entries) }
-        ensures found { IfOk result (IsNamedAt name.now self.now.entries) }
-        ensures gap { IfErr result (IsGapFor name.now self.now.entries) }
+        requires { RisesByName self.now.roots }
+        ensures in_range { IsSearchInRange result (length self.now.roots) }
+        ensures found { IfOk result (IsNamedAt name.now self.now.roots) }
+        ensures gap { IfErr result (IsGapFor name.now self.now.roots) }
     {
         let text = name.as_str();
-        self.entries
-            .binary_search_by(|entry| entry.name().as_str().cmp(text))
+        self.roots
+            .binary_search_by(|root| root.name().as_str().cmp(text))
     }
 
-    /// Lets the entry at this place of the block hold the object.
+    /// Lets the root at this place of the block hold the object.
     pub fn hold(&mut self, place: usize, id: ObjId)
-        requires { place < length self.old.entries }
+        requires { place < length self.old.roots }
         ensures start { self.new.start ≡ self.old.start }
-        ensures held { IfSome (slice_get self.old.entries place) (λ e. self.new.entries ≡ slice_set self.old.entries place (e.0, id)) }
+        ensures held { IfSome (slice_get self.old.roots place) (λ e. self.new.roots ≡ slice_set self.old.roots place (e.0, id)) }
     {
-        self.entries[place].hold(id);
+        self.roots[place].hold(id);
     }
 
-    /// Puts the entry at this place of the block.
-    pub fn insert(&mut self, place: usize, entry: Entry) -> Result<(), OutOfMemory>
-        requires { place ≤ length self.old.entries }
+    /// Puts the root at this place of the block.
+    pub fn insert(&mut self, place: usize, root: Root) -> Result<(), OutOfMemory>
+        requires { place ≤ length self.old.roots }
         ensures start { self.new.start ≡ self.old.start }
-        ensures inserted { OnOk result (self.new.entries ≡ insert self.old.entries place entry) }
+        ensures inserted { OnOk result (self.new.roots ≡ insert self.old.roots place root) }
         ensures err { OnErr result (self.new ≡ self.old) }
     {
-        Ok(self.entries.insert(place, entry)?)
+        Ok(self.roots.insert(place, root)?)
     }
 
-    /// Takes away the entry at this place of the block.
+    /// Takes away the root at this place of the block.
     pub fn remove(&mut self, place: usize)
-        requires { place < length self.old.entries }
-        ensures { self.new ≡ record self.old { entries = remove self.old.entries place } }
+        requires { place < length self.old.roots }
+        ensures { self.new ≡ record self.old { roots = remove self.old.roots place } }
     {
-        self.entries.remove(place);
+        self.roots.remove(place);
     }
 
-    /// Takes the entries from this place on into a block of their own.
+    /// Takes the roots from this place on into a block of their own.
     pub fn split(&mut self, place: usize) -> Result<Block, OutOfMemory>
-        requires in_range { place ≤ length self.old.entries }
-        requires small { self.old.start + length self.old.entries ≤ MOST_ROOTS }
-        ensures front { OnOk result (self.new ≡ record self.old { entries = take place self.old.entries }) }
-        ensures tail { IfOk result (λ tail. tail ≡ record { start = self.old.start + place; entries = drop place self.old.entries }) }
+        requires in_range { place ≤ length self.old.roots }
+        requires small { self.old.start + length self.old.roots ≤ MOST_ROOTS }
+        ensures front { OnOk result (self.new ≡ record self.old { roots = take place self.old.roots }) }
+        ensures tail { IfOk result (λ tail. tail ≡ record { start = self.old.start + place; roots = drop place self.old.roots }) }
         ensures err { OnErr result (self.new ≡ self.old) }
     {
-        let entries = self.entries.split_off(place)?;
+        let roots = self.roots.split_off(place)?;
         Ok(Block {
             start: self.start + place,
-            entries,
+            roots,
         })
     }
 
-    /// Moves it one place up in the list.
-    pub fn raise(&mut self)
-        requires { self.old.start < MOST_ROOTS }
-        ensures { self.new ≡ raised self.old }
+    /// Puts the roots of another block behind its own. Where memory is wanting it gives the other block back.
+    pub fn append(&mut self, mut other: Block) -> Result<(), Block>
+        ensures start { self.new.start ≡ self.old.start }
+        ensures appended { OnOk result (self.new.roots ≡ self.old.roots ++ other.roots) }
+        ensures err { OnErr result (self.new.roots ≡ self.old.roots) }
+        ensures given_back { IfErr result (λ back. back.roots ≡ other.roots) }
     {
-        self.start += 1;
+        match self.roots.append(&mut other.roots) {
+            Ok(()) => Ok(()),
+            Err(_) => Err(other),
+        }
     }
 
-    /// Moves it one place down in the list.
-    pub fn lower(&mut self)
-        requires { 0 < self.old.start }
-        ensures { self.new ≡ lowered self.old }
+    /// Lets it start at this place of the list.
+    pub fn move_to(&mut self, start: usize)
+        ensures { self.new ≡ record self.old { start = start } }
     {
-        self.start -= 1;
+        self.start = start;
     }
 }

@@ -2,19 +2,24 @@ ghost use Rattle.std.specs.Prelude.{◌≡◌, ◌+◌, ◌<◌, ◌≤◌, ◌+
 ghost use Rattle.std.specs.List.{insert, remove};
 ghost use Rattle.std.specs.List.Sorted.{IsSearchInRange};
 ghost use Rattle.heap_base.specs.declared.limits.TheConstants.{MOST_ROOTS};
-ghost use Rattle.object_table.specs.Blocks.{joined, IsLaid, IsRunOf, raised, lowered};
+ghost use Rattle.object_table.specs.Blocks.{all_roots, IsLaid, IsRunOf, NoneEmpty, laid_from};
 ghost use Rattle.object_table.specs.Ordered.{IsOrdered, IsNamedAt, IsGapFor};
 
 use crate::block::Block;
-use crate::entry::Entry;
+use crate::root::Root;
 use heap_base::{Name, ObjId, OutOfMemory};
 use std::alloc::Global;
 use std::marker::Model;
+use std::mem;
 
-// The most entries that a block is let grow to: an insertion or a removal moves no more than these.
+// The most roots that a block is let grow to: an insertion or a removal moves no more than these.
 const BLOCK: usize = 512;
 
-/// A list of entries in blocks, so that an insertion or a removal moves the entries of one block and not all
+// Two neighbours that have no more roots than these together are made into one block, so that memory goes with the
+// number of roots. A block that was ever full or half of a full one has the room for them.
+const FEW: usize = BLOCK / 2;
+
+/// A list of roots in blocks, so that an insertion or a removal moves the roots of one block and not all
 /// that follow. Contracts see the list.
 #[derive(Drop)]
 pub struct Blocks {
@@ -23,17 +28,17 @@ pub struct Blocks {
 
 impl Model for Blocks {
     ghost use Rattle.std.specs.Prelude.{List, ℕ};
-    ghost use Rattle.object_table.specs.Blocks.{joined, IsLaid};
+    ghost use Rattle.object_table.specs.Blocks.{all_roots, IsLaid};
 
     ghost Value = { List (List ℕ × ℕ) };
 
-    ghost view = { λ b. joined b.blocks.items };
+    ghost view = { λ b. all_roots b.blocks.items };
 
     ghost invariant = { λ b. IsLaid 0 b.blocks.items };
 }
 
 impl Blocks {
-    /// No entry.
+    /// No root.
     pub fn make(alloc: Global) -> Blocks
         ensures { result ≡ [] }
     {
@@ -42,7 +47,7 @@ impl Blocks {
         }
     }
 
-    /// How many entries there are.
+    /// How many roots there are.
     pub fn len(&self) -> usize
         requires { length self.now ≤ MOST_ROOTS }
         ensures { result ≡ length self.now }
@@ -53,8 +58,8 @@ impl Blocks {
         }
     }
 
-    /// The entry at this place.
-    pub fn at(&self, place: usize) -> &Entry
+    /// The root at this place.
+    pub fn at(&self, place: usize) -> &Root
         requires { place < length self.now }
         ensures { slice_get self.now place ≡ Some result.now }
     {
@@ -82,7 +87,7 @@ impl Blocks {
         }
     }
 
-    /// Lets the entry at this place hold the object.
+    /// Lets the root at this place hold the object.
     pub fn hold(&mut self, place: usize, id: ObjId)
         requires { place < length self.old }
         ensures { IfSome (slice_get self.old place) (λ e. self.new ≡ slice_set self.old place (e.0, id)) }
@@ -93,52 +98,52 @@ impl Blocks {
         block.hold(place - start, id);
     }
 
-    /// Puts the entry at this place.
-    pub fn insert(&mut self, place: usize, entry: Entry) -> Result<(), OutOfMemory>
+    /// Puts the root at this place.
+    pub fn insert(&mut self, place: usize, root: Root) -> Result<(), OutOfMemory>
         requires in_range { place ≤ length self.old }
         requires room { length self.old < MOST_ROOTS }
-        ensures inserted { OnOk result (self.new ≡ insert self.old place entry) }
+        ensures inserted { OnOk result (self.new ≡ insert self.old place root) }
         ensures err { OnErr result (self.new ≡ self.old) }
     {
         if self.blocks.is_empty() {
-            return put_first(&mut self.blocks, entry);
+            return put_first(&mut self.blocks, root);
         }
         split_full(&mut self.blocks, place)?;
-        put(&mut self.blocks, place, entry)
+        put(&mut self.blocks, place, root)
     }
 
-    /// Takes away the entry at this place.
+    /// Takes away the root at this place. Blocks that then have few roots together become one.
     pub fn remove(&mut self, place: usize)
-        requires { place < length self.old }
+        requires in_range { place < length self.old }
+        requires few { length self.old ≤ MOST_ROOTS }
         ensures { self.new ≡ remove self.old place }
     {
         let at = block_of(&self.blocks, place);
-        if self.blocks[at].len() == 1 {
-            take_block(&mut self.blocks, at, place);
-        } else {
-            take(&mut self.blocks, at, place);
-        }
+        take(&mut self.blocks, at, place);
+        merge_with_next(&mut self.blocks, at);
+        merge_with_next(&mut self.blocks, at.saturating_sub(1));
+        renumber(&mut self.blocks);
     }
 }
 
-// The block of the entry at this place, and at the list's end the last block.
+// The block of the root at this place, and at the list's end the last block.
 fn block_of(blocks: &[Block], place: usize) -> usize
     requires laid { IsLaid 0 blocks.now }
     requires some { 0 < length blocks.now }
-    requires in_range { place ≤ length (joined blocks.now) }
+    requires in_range { place ≤ length (all_roots blocks.now) }
     ensures { IsRunOf blocks.now place result }
 {
     blocks.partition_point(|block| block.start() <= place) - 1
 }
 
-// Puts the first entry of an empty list.
-fn put_first(blocks: &mut Vec<Block>, entry: Entry) -> Result<(), OutOfMemory>
+// Puts the first root of an empty list.
+fn put_first(blocks: &mut Vec<Block>, root: Root) -> Result<(), OutOfMemory>
     requires { blocks.old.items ≡ [] }
     ensures laid { IsLaid 0 blocks.new.items }
-    ensures put { OnOk result (joined blocks.new.items ≡ insert (joined blocks.old.items) 0 entry) }
+    ensures put { OnOk result (all_roots blocks.new.items ≡ insert (all_roots blocks.old.items) 0 root) }
     ensures err { OnErr result (blocks.new.items ≡ blocks.old.items) }
 {
-    let block = Block::of(*blocks.allocator(), entry)?;
+    let block = Block::of(*blocks.allocator(), root)?;
     Ok(blocks.push(block)?)
 }
 
@@ -146,11 +151,11 @@ fn put_first(blocks: &mut Vec<Block>, entry: Entry) -> Result<(), OutOfMemory>
 fn split_full(blocks: &mut Vec<Block>, place: usize) -> Result<(), OutOfMemory>
     requires laid { IsLaid 0 blocks.old.items }
     requires some { 0 < length blocks.old.items }
-    requires in_range { place ≤ length (joined blocks.old.items) }
-    requires few { length (joined blocks.old.items) ≤ MOST_ROOTS }
+    requires in_range { place ≤ length (all_roots blocks.old.items) }
+    requires few { length (all_roots blocks.old.items) ≤ MOST_ROOTS }
     ensures laid { IsLaid 0 blocks.new.items }
     ensures some { 0 < length blocks.new.items }
-    ensures same { joined blocks.new.items ≡ joined blocks.old.items }
+    ensures same { all_roots blocks.new.items ≡ all_roots blocks.old.items }
 {
     let at = block_of(blocks, place);
     if blocks[at].len() < BLOCK {
@@ -164,11 +169,11 @@ fn split_full(blocks: &mut Vec<Block>, place: usize) -> Result<(), OutOfMemory>
 fn split(blocks: &mut Vec<Block>, at: usize) -> Result<(), OutOfMemory>
     requires laid { IsLaid 0 blocks.old.items }
     requires in_range { at < length blocks.old.items }
-    requires long { HoldsAt (λ r. 2 ≤ length r.entries) blocks.old.items at }
-    requires few { length (joined blocks.old.items) ≤ MOST_ROOTS }
+    requires long { HoldsAt (λ r. 2 ≤ length r.roots) blocks.old.items at }
+    requires few { length (all_roots blocks.old.items) ≤ MOST_ROOTS }
     ensures laid { IsLaid 0 blocks.new.items }
     ensures some { 0 < length blocks.new.items }
-    ensures same { joined blocks.new.items ≡ joined blocks.old.items }
+    ensures same { all_roots blocks.new.items ≡ all_roots blocks.old.items }
 {
     blocks.reserve(1)?;
     let block = &mut blocks[at];
@@ -177,70 +182,73 @@ fn split(blocks: &mut Vec<Block>, at: usize) -> Result<(), OutOfMemory>
     Ok(blocks.insert(at + 1, tail)?)
 }
 
-// Puts the entry at this place, in the block of the place.
-fn put(blocks: &mut Vec<Block>, place: usize, entry: Entry) -> Result<(), OutOfMemory>
+// Puts the root at this place, in the block of the place.
+fn put(blocks: &mut Vec<Block>, place: usize, root: Root) -> Result<(), OutOfMemory>
     requires laid { IsLaid 0 blocks.old.items }
     requires some { 0 < length blocks.old.items }
-    requires in_range { place ≤ length (joined blocks.old.items) }
-    requires room { length (joined blocks.old.items) < MOST_ROOTS }
+    requires in_range { place ≤ length (all_roots blocks.old.items) }
+    requires room { length (all_roots blocks.old.items) < MOST_ROOTS }
     ensures laid { IsLaid 0 blocks.new.items }
-    ensures put { OnOk result (joined blocks.new.items ≡ insert (joined blocks.old.items) place entry) }
-    ensures err { OnErr result (joined blocks.new.items ≡ joined blocks.old.items) }
+    ensures put { OnOk result (all_roots blocks.new.items ≡ insert (all_roots blocks.old.items) place root) }
+    ensures err { OnErr result (all_roots blocks.new.items ≡ all_roots blocks.old.items) }
 {
     let at = block_of(blocks, place);
     let block = &mut blocks[at];
     let start = block.start();
-    block.insert(place - start, entry)?;
-    raise(blocks, at + 1);
+    block.insert(place - start, root)?;
+    renumber(blocks);
     Ok(())
 }
 
-// Takes away the entry at this place of the list, which is not the only one of its block.
+// Takes away the root at this place of the list, and its block where it was alone there.
 fn take(blocks: &mut Vec<Block>, at: usize, place: usize)
     requires laid { IsLaid 0 blocks.old.items }
-    requires long { HoldsAt (λ r. 2 ≤ length r.entries) blocks.old.items at }
     requires run { IsRunOf blocks.old.items place at }
-    requires inside { place < length (joined blocks.old.items) }
-    ensures laid { IsLaid 0 blocks.new.items }
-    ensures taken { joined blocks.new.items ≡ remove (joined blocks.old.items) place }
+    requires inside { place < length (all_roots blocks.old.items) }
+    ensures some { NoneEmpty blocks.new.items }
+    ensures taken { all_roots blocks.new.items ≡ remove (all_roots blocks.old.items) place }
 {
-    let block = &mut blocks[at];
-    let start = block.start();
-    block.remove(place - start);
-    lower(blocks, at + 1);
-}
-
-// Takes away the entry at this place of the list, which is the only one of its block.
-fn take_block(blocks: &mut Vec<Block>, at: usize, place: usize)
-    requires laid { IsLaid 0 blocks.old.items }
-    requires alone { HoldsAt (λ r. length r.entries ≡ 1) blocks.old.items at }
-    requires run { IsRunOf blocks.old.items place at }
-    requires inside { place < length (joined blocks.old.items) }
-    ensures laid { IsLaid 0 blocks.new.items }
-    ensures taken { joined blocks.new.items ≡ remove (joined blocks.old.items) place }
-{
-    blocks.remove(at);
-    lower(blocks, at);
-}
-
-// Moves the blocks from this one on one place up in the list.
-fn raise(blocks: &mut Vec<Block>, from: usize)
-    requires in_range { from ≤ length blocks.old.items }
-    requires low { All (λ r. r.start < MOST_ROOTS) (drop from blocks.old.items) }
-    ensures { blocks.new.items ≡ take from blocks.old.items ++ map raised (drop from blocks.old.items) }
-{
-    for at in from..blocks.len() {
-        blocks[at].raise();
+    if blocks[at].len() == 1 {
+        blocks.remove(at);
+    } else {
+        let block = &mut blocks[at];
+        let start = block.start();
+        block.remove(place - start);
     }
 }
 
-// Moves the blocks from this one on one place down in the list.
-fn lower(blocks: &mut Vec<Block>, from: usize)
-    requires in_range { from ≤ length blocks.old.items }
-    requires high { All (λ r. 0 < r.start) (drop from blocks.old.items) }
-    ensures { blocks.new.items ≡ take from blocks.old.items ++ map lowered (drop from blocks.old.items) }
+// Makes this block and the next one into one block where they have few roots together.
+fn merge_with_next(blocks: &mut Vec<Block>, at: usize)
+    requires some { NoneEmpty blocks.old.items }
+    ensures some { NoneEmpty blocks.new.items }
+    ensures same { all_roots blocks.new.items ≡ all_roots blocks.old.items }
 {
-    for at in from..blocks.len() {
-        blocks[at].lower();
+    if blocks.len() <= 1 || at >= blocks.len() - 1 {
+        return;
+    }
+    if blocks[at].len() > FEW || blocks[at + 1].len() > FEW - blocks[at].len() {
+        return;
+    }
+    let empty = Block::empty(*blocks.allocator());
+    let next = mem::replace(&mut blocks[at + 1], empty);
+    let this = &mut blocks[at];
+    match this.append(next) {
+        Ok(()) => {
+            blocks.remove(at + 1);
+        }
+        Err(next) => blocks[at + 1] = next,
+    }
+}
+
+// Lets each block start where the one before it ends.
+fn renumber(blocks: &mut Vec<Block>)
+    requires { length (all_roots blocks.old.items) ≤ MOST_ROOTS }
+    ensures { blocks.new.items ≡ laid_from 0 blocks.old.items }
+{
+    let mut start = 0;
+    for at in 0..blocks.len() {
+        let block = &mut blocks[at];
+        block.move_to(start);
+        start += block.len();
     }
 }

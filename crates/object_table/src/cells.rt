@@ -129,7 +129,6 @@ impl Cells {
 // Empties the cells that are not kept, and each slot that holds what stood in one. It answers the first empty cell.
 fn sweep(pages: &mut Pages, kept: &[bool]) -> Option<u32>
     ensures cells { pages.new.cells ≡ cells_after kept.now 0 pages.old.cells }
-    ensures room { pages.new.room ≡ pages.old.room }
     ensures first { result ≡ first_empty 0 pages.new.cells }
 {
     let mut first = None;

@@ -7,7 +7,7 @@ ghost use Rattle.graph_meaning.specs.Heap.{name_cmp};
 ghost use Rattle.object_table.specs.Ordered.{IsOrdered, IsNamedAt, IsGapFor};
 
 use crate::blocks::Blocks;
-use crate::entry::Entry;
+use crate::root::Root;
 use heap_base::{Name, ObjId, OutOfMemory};
 use std::alloc::Global;
 use std::marker::Model;
@@ -16,7 +16,7 @@ use std::marker::Model;
 /// the list of those pairs.
 #[derive(Drop)]
 pub struct Roots {
-    entries: Blocks,
+    blocks: Blocks,
 }
 
 impl Model for Roots {
@@ -25,9 +25,9 @@ impl Model for Roots {
 
     ghost Value = { List (List ℕ × ℕ) };
 
-    ghost view = { λ r. r.entries };
+    ghost view = { λ r. r.blocks };
 
-    ghost invariant = { λ r. IsOrdered r.entries };
+    ghost invariant = { λ r. IsOrdered r.blocks };
 }
 
 impl Roots {
@@ -36,7 +36,7 @@ impl Roots {
         ensures { result ≡ [] }
     {
         Roots {
-            entries: Blocks::make(alloc),
+            blocks: Blocks::make(alloc),
         }
     }
 
@@ -45,7 +45,7 @@ impl Roots {
         ensures count { result ≡ length self.now }
         ensures few { result ≤ MOST_ROOTS }
     {
-        self.entries.len() as u32
+        self.blocks.len() as u32
     }
 
     /// The name of the root at this place.
@@ -53,7 +53,7 @@ impl Roots {
         requires { place < length self.now }
         ensures { IfSome (slice_get self.now place) (λ r. result.now ≡ r.0) }
     {
-        self.entries.at(place as usize).name()
+        self.blocks.at(place as usize).name()
     }
 
     /// The object that the root at this place holds.
@@ -61,7 +61,7 @@ impl Roots {
         requires { place < length self.now }
         ensures { IfSome (slice_get self.now place) (λ r. result ≡ r.1) }
     {
-        self.entries.at(place as usize).id()
+        self.blocks.at(place as usize).id()
     }
 
     /// Whether a root has this name.
@@ -80,12 +80,12 @@ impl Roots {
     {
         match self.search(name) {
             Ok(place) => {
-                self.entries.hold(place, id);
+                self.blocks.hold(place, id);
                 Ok(())
             }
             Err(place) => {
                 let name = name.copy()?;
-                self.entries.insert(place, Entry::make(name, id))?;
+                self.blocks.insert(place, Root::make(name, id))?;
                 Ok(())
             }
         }
@@ -96,7 +96,7 @@ impl Roots {
         ensures { self.new ≡ remove_entry (is_at (name_cmp name.now)) self.old }
     {
         if let Ok(place) = self.search(name) {
-            self.entries.remove(place);
+            self.blocks.remove(place);
         }
     }
 
@@ -107,6 +107,6 @@ impl Roots {
         ensures gap { IfErr result (IsGapFor name.now self.now) }
         ensures ordered { IsOrdered self.now }
     {
-        self.entries.search(name)
+        self.blocks.search(name)
     }
 }

@@ -285,3 +285,26 @@ fn many_roots_stand_in_order(rt: HostRuntime) -> Result<(), Fail> {
     assert_eq!(rt; table.roots(), 0);
     Ok(())
 }
+
+#[test]
+fn few_roots_of_many_stand_in_order(rt: HostRuntime) -> Result<(), Fail> {
+    let mut table = table_of(rt.alloc(), &[1, 2], 0)?;
+    for number in 0..4_096u32 {
+        let name = numbered(rt.alloc(), number)?;
+        table.set_root(&name, Some(id(1 + number % 2)?))?;
+    }
+    for number in 0..4_096u32 {
+        if number % 256 != 0 {
+            table.set_root(&numbered(rt.alloc(), number)?, None)?;
+        }
+    }
+    assert_eq!(rt; table.roots(), 16);
+    assert!(rt; stand_in_order(rt.alloc(), &table, 0, 256)?);
+    for number in 0..4_096u32 {
+        let name = numbered(rt.alloc(), number)?;
+        table.set_root(&name, Some(id(1 + number % 2)?))?;
+    }
+    assert_eq!(rt; table.roots(), 4_096);
+    assert!(rt; stand_in_order(rt.alloc(), &table, 0, 1)?);
+    Ok(())
+}

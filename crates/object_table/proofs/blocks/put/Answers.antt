@@ -1,6 +1,8 @@
-use Rattle.std.proofs.Common.{◌∙◌, arith}
-use Rattle.std.proofs.lemmas.List.{length-set}
-use Rattle.object_table.proofs.Parted.{parted, after_start, within, put_laid, put_is, starts_low, drop_written}
+use Rattle.std.proofs.Common.{◌-◌, length, set, ◌∙◌, ap, arith}
+use Rattle.std.proofs.lemmas.List.Edits.{length-insert}
+use Rattle.object_table.specs.Blocks.{all_roots}
+use Rattle.object_table.proofs.Numbering.{all_roots-laid, is_laid}
+use Rattle.object_table.proofs.Parted.{parted, after_start, within, put_is, none_empty_set}
 use Rattle.object_table.proofs.blocks.put.Goals as goal
 
 pub overflow_sub-place : goal.overflow_sub-place
@@ -15,25 +17,23 @@ insert-requires c =
     let p = parted c.args.blocks.now.items c.block_of-at.result c.index_mut-block.result.now c.requires.laid run.in_range c.index_mut-block.ensures.value in
     within _ _ _ _ _ p run c.start-start.ensures
 
-pub raise-requires-clause-in_range : goal.raise-requires-clause-in_range
-raise-requires-clause-in_range c =
-    let run = rw c.deref.ensures.value at c.block_of-at.ensures in
-    rw length-set (omega (arith, run.in_range))
-
-pub raise-requires-clause-low : goal.raise-requires-clause-low
-raise-requires-clause-low c =
+pub renumber-requires : goal.renumber-requires
+renumber-requires c =
     let run = rw c.deref.ensures.value at c.block_of-at.ensures in
     let p = parted c.args.blocks.now.items c.block_of-at.result c.index_mut-block.result.now c.requires.laid run.in_range c.index_mut-block.ensures.value in
-    rw (drop_written c.args.blocks.now.items c.block_of-at.result c.insert.new.self) (starts_low _ _ _ _ p c.requires.room)
+    let put = put_is c.args.blocks.now.items c.block_of-at.result c.args.place c.start-start.result c.index_mut-block.result.now c.insert.new.self c.args.root p (c.start-start.ensures ∙ p.start) (after_start _ _ _ _ _ p run c.start-start.ensures) (within _ _ _ _ _ p run c.start-start.ensures) c.in_ok-insert.ensures.inserted in
+    omega (arith, ap length put, length-insert (all_roots c.args.blocks.now.items) c.args.place c.args.root c.requires.in_range, c.requires.room)
 
 pub returns-clause-laid : goal.returns-clause-laid
 returns-clause-laid c =
     let run = rw c.deref.ensures.value at c.block_of-at.ensures in
     let p = parted c.args.blocks.now.items c.block_of-at.result c.index_mut-block.result.now c.requires.laid run.in_range c.index_mut-block.ensures.value in
-    rw c.raise.ensures (put_laid _ _ _ _ _ _ p (within _ _ _ _ _ p run c.start-start.ensures) c.insert.ensures.start c.in_ok-insert.ensures.inserted)
+    let longer = ap length c.in_ok-insert.ensures.inserted ∙ length-insert c.index_mut-block.result.now.roots (c.args.place - c.start-start.result) c.args.root (within _ _ _ _ _ p run c.start-start.ensures) in
+    rw c.renumber.ensures (is_laid 0 _ (none_empty_set c.args.blocks.now.items c.block_of-at.result c.insert.new.self c.requires.laid (omega (arith, longer))))
 
 pub returns-clause-put : goal.returns-clause-put
 returns-clause-put c =
     let run = rw c.deref.ensures.value at c.block_of-at.ensures in
     let p = parted c.args.blocks.now.items c.block_of-at.result c.index_mut-block.result.now c.requires.laid run.in_range c.index_mut-block.ensures.value in
-    rw c.raise.ensures (put_is _ _ _ _ _ _ _ p (c.start-start.ensures ∙ p.start) (after_start _ _ _ _ _ p run c.start-start.ensures) (within _ _ _ _ _ p run c.start-start.ensures) c.in_ok-insert.ensures.inserted)
+    let put = put_is c.args.blocks.now.items c.block_of-at.result c.args.place c.start-start.result c.index_mut-block.result.now c.insert.new.self c.args.root p (c.start-start.ensures ∙ p.start) (after_start _ _ _ _ _ p run c.start-start.ensures) (within _ _ _ _ _ p run c.start-start.ensures) c.in_ok-insert.ensures.inserted in
+    rw c.renumber.ensures (all_roots-laid 0 (set c.args.blocks.now.items c.block_of-at.result c.insert.new.self) ∙ put)

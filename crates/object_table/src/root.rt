@@ -3,27 +3,27 @@ ghost use Rattle.std.specs.Prelude.{◌≡◌};
 use heap_base::{Name, ObjId};
 use std::marker::Model;
 
-/// A root's name with the object that it holds. Contracts see that pair.
+/// A root: its name, with the object that it holds. Contracts see that pair.
 #[derive(Drop)]
-pub struct Entry {
+pub struct Root {
     name: Name,
     id: ObjId,
 }
 
-impl Model for Entry {
+impl Model for Root {
     ghost use Rattle.std.specs.Prelude.{List, ℕ};
 
     ghost Value = { List ℕ × ℕ };
 
-    ghost view = { λ e. (e.name, e.id) };
+    ghost view = { λ r. (r.name, r.id) };
 }
 
-impl Entry {
+impl Root {
     /// The name, holding the object.
-    pub fn make(name: Name, id: ObjId) -> Entry
+    pub fn make(name: Name, id: ObjId) -> Root
         ensures { result ≡ (name, id) }
     {
-        Entry { name, id }
+        Root { name, id }
     }
 
     /// The name.
