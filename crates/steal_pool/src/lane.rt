@@ -7,7 +7,10 @@ use crate::deque::Owner;
 #[derive(Drop)]
 pub struct Lane {
     pub owner: Owner,
-    /// How many pushes are left that find a slot which was never used. A later push could want memory, so there is none.
+    /// How many pushes a run may make. Between two runs every slot is free, so that many find a free one. A later
+    /// push could come round to a slot that a thief has not left yet, and would ask for memory.
+    pub slots: u64,
+    /// How many of them are left in this run.
     pub pushes: u64,
     ghost fifo: { worker_flavor owner ≡ 0 },
     ghost held: { 0 < (worker_view owner).rights },

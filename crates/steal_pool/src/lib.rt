@@ -1,5 +1,5 @@
-//! A crew of workers that do tasks at the same time. Each worker has a deque of its own, and a worker without a
-//! task steals from the others.
+//! A crew of workers that do tasks at the same time. Each worker has a queue of its own and offers some of its tasks
+//! in a deque, from which a worker without a task steals.
 #![tactic(auto)]
 
 mod crew;

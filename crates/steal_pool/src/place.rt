@@ -20,6 +20,7 @@ impl Count {
     }
 }
 
+/// What one worker has.
 #[derive(Drop)]
 pub struct Place<J> {
     /// There in a run alone.

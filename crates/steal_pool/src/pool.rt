@@ -23,7 +23,7 @@ use heap_base::{Gate, OutOfMemory};
 use std::alloc::Global;
 use std::thread::Threads;
 
-/// How many tasks a worker may offer the others in the life of a crew, at most.
+/// How many tasks a worker offers the others in one run, at most.
 const MOST_OFFERS: u64 = 65_536;
 
 // A place with room for so many tasks, and a thief's end of its deque for each of the other workers.
@@ -32,8 +32,8 @@ fn make_place<J: Drop>(alloc: Global, workers: u32, room: u64) -> Result<Place<J
     requires few { workers ≤ 16 }
     ensures { IfOk result (λ p. IsAtRest workers room p) }
 {
-    let pushes = room.min(MOST_OFFERS);
-    let owner = deque::make(alloc, pushes as usize)?;
+    let slots = room.min(MOST_OFFERS);
+    let owner = deque::make(alloc, slots as usize)?;
     let mut spare = Vec::with_capacity(alloc, workers as usize)?;
     for _ in 1..workers {
         spare.push_reserved(owner.stealer()?);
@@ -41,7 +41,11 @@ fn make_place<J: Drop>(alloc: Global, workers: u32, room: u64) -> Result<Place<J
     Ok(Place {
         job: None,
         queue: Queue::make(alloc, room)?,
-        lane: Lane { owner, pushes },
+        lane: Lane {
+            owner,
+            slots,
+            pushes: slots,
+        },
         others: Vec::with_capacity(alloc, workers as usize)?,
         spare,
         count: Count {

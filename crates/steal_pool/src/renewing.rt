@@ -35,5 +35,6 @@ impl Lane {
         ensures deque { worker_deque self.new.owner ≡ worker_deque self.old.owner }
     {
         renew::<Brand, S, J>(&mut self.owner, job, shared, first);
+        self.pushes = self.slots;
     }
 }
