@@ -1,6 +1,7 @@
 //! The crew between two runs.
 ghost use Rattle.std.specs.Prelude.{◌≡◌, ◌<◌, ◌≤◌, vec_len};
 ghost use Rattle.std.specs.List.{All};
+ghost use Rattle.heap_base.specs.declared.limits.TheConstants.{MOST_WORKERS};
 ghost use Rattle.crossbeam_utils.specs.Padded.{padded_value};
 ghost use Rattle.steal_pool.specs.Rests.{IsAtRest};
 
@@ -14,6 +15,6 @@ pub struct Crew<J> {
     /// How many tasks each worker has room for in a run.
     pub(crate) room: u64,
     ghost some: { 0 < vec_len places },
-    ghost few: { vec_len places ≤ 16 },
+    ghost few: { vec_len places ≤ MOST_WORKERS },
     ghost rest: { All (λ p. IsAtRest (vec_len places) room (padded_value p)) places.items },
 }

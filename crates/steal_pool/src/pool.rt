@@ -1,6 +1,7 @@
 //! The crew and its run.
 ghost use Rattle.std.specs.Prelude.{◌≡◌, ℕ, ◌^◌, ◌+◌, ◌<◌, ◌≤◌, List, length, vec_len, vec_capacity, IfOk};
 ghost use Rattle.std.specs.List.{All};
+ghost use Rattle.heap_base.specs.declared.limits.TheConstants.{MOST_WORKERS};
 ghost use Rattle.crossbeam_utils.specs.Padded.{padded_value};
 ghost use Rattle.steal_pool.specs.Jobs.{AllFit};
 ghost use Rattle.steal_pool.specs.Needs.{CanRun};
@@ -29,7 +30,7 @@ const MOST_OFFERS: u64 = 65_536;
 // A place with room for so many tasks, and a thief's end of its deque for each of the other workers.
 fn make_place<J: Drop>(alloc: Global, workers: u32, room: u64) -> Result<Place<J>, OutOfMemory>
     requires some { 0 < workers }
-    requires few { workers ≤ 16 }
+    requires few { workers ≤ MOST_WORKERS }
     ensures { IfOk result (λ p. IsAtRest workers room p) }
 {
     let slots = room.min(MOST_OFFERS);
@@ -59,7 +60,7 @@ impl<J: Send + Drop> Crew<J> {
     /// A crew of `workers` workers, each with room for `room` tasks in a run.
     pub fn make(alloc: Global, workers: u32, room: u64) -> Result<Crew<J>, OutOfMemory>
         requires some { 0 < workers }
-        requires few { workers ≤ 16 }
+        requires few { workers ≤ MOST_WORKERS }
         requires room { room ≤ 2 ^ 36 }
         ensures workers { IfOk result (λ c. workers_of c ≡ workers) }
         ensures room { IfOk result (λ c. room_of c ≡ room) }

@@ -1,6 +1,7 @@
 //! Jobs and first tasks go to the places of their workers, and the jobs come back.
 ghost use Rattle.std.specs.Prelude.{◌≡◌, ℕ, ◌+◌, ◌<◌, ◌≤◌, List, [], ◌∷◌, ◌++◌, length, drop, vec_len, vec_capacity};
 ghost use Rattle.std.specs.List.{AllByRecursion};
+ghost use Rattle.heap_base.specs.declared.limits.TheConstants.{MOST_WORKERS};
 ghost use Rattle.heap_base.specs.declared.task.Task.{Task};
 ghost use Rattle.crossbeam_utils.specs.Padded.{padded_value};
 ghost use Rattle.steal_pool.specs.Lists.{Each};
@@ -70,7 +71,7 @@ pub fn begin_all<S: Sync, J: Job<S>>(
     number: u32,
 )
     requires lists { number + length places.old ≡ length first.now.lists }
-    requires few { length first.now.lists ≤ 16 }
+    requires few { length first.now.lists ≤ MOST_WORKERS }
     requires can { Each (λ p f _. CanBegin J.meaning shared.now (padded_value p) f) places.old (drop number first.now.lists) places.old }
     ensures { Each (λ p f q. Begins J.meaning shared.now (padded_value p) f (padded_value q)) places.old (drop number first.now.lists) places.new }
 {
