@@ -1,0 +1,11 @@
+pub mod ListLemmas
+pub mod Elements
+pub mod RuleSteps
+pub mod VictimLists
+pub mod FoundTasks
+pub mod TurnLemmas
+pub mod TurnChains
+pub mod LoanLemmas
+pub mod ReturnLemmas
+pub mod WholeRun
+pub mod CellTaskLemmas

@@ -1,0 +1,218 @@
+-- Hands dealt out and taken back.
+use Rattle.std.proofs.Common.{◌≡◌, ℕ, zero, suc, ◌+◌, ◌-◌, ◌<◌, ◌≤◌, false, List, [], ◌∷◌, ◌++◌, length, map, get_or, set, take, drop, sym, refl, ap, ◌∙◌, subst, arith, append_assoc, append-nil, length-append, vec_len, vec_capacity}
+use Rattle.std.specs.List.{AllByRecursion}
+use Rattle.crossbeam_deque.specs.Handles.{worker_deque}
+use Rattle.crossbeam_utils.specs.Padded.{padded_value}
+use Rattle.crossbeam_utils.specs.declared.cache_padded.CachePadded.{CachePadded}
+use Rattle.steal_pool.specs.declared.place.Place.{Place}
+use Rattle.steal_pool.specs.Steps.{lent_hand}
+use Rattle.steal_pool.specs.Workers.{own}
+use Rattle.steal_pool.specs.Lists.{Each}
+use Rattle.steal_pool.specs.Loans.{keys_of_others, HandKey, hand_key, keys_of, keys_in, key_in, IsFresh, CanLend, CanReceive, LendsHands, OnlyLends, ReceivesHands, ExchangesHands, TakesBackHands}
+
+module _ {X : Type 0} where
+  one_front : (head rest : List X) (d : X) → length head ≡ 1 → head ++ rest ≡ get_or head 0 d ∷ rest
+  one_front [] rest d e = absurd (omega arith)
+  one_front (x ∷ []) rest d e = refl
+  one_front (x ∷ y ∷ zs) rest d e = absurd (omega arith)
+
+  one_set : (head rest : List X) (z : X) → length head ≡ 1 → set head 0 z ++ rest ≡ z ∷ rest
+  one_set [] rest z e = absurd (omega arith)
+  one_set (x ∷ []) rest z e = refl
+  one_set (x ∷ y ∷ zs) rest z e = absurd (omega arith)
+
+  pub front_is : (old head rest : List X) (d : X) → old ≡ head ++ rest → length head ≡ 1 → old ≡ get_or head 0 d ∷ rest
+  front_is old head rest d e l = e ∙ one_front head rest d l
+
+  -- what holds of the list by its head and rest, before and after
+  pub headed : (P : List X → List X → Type 0) (old head rest : List X) (d z : X) (rest' : List X) → old ≡ head ++ rest → length head ≡ 1 → P (get_or head 0 d ∷ rest) (z ∷ rest') → P old (set head 0 z ++ rest')
+  headed P old head rest d z rest' e l p = subst (λ xs. P xs (set head 0 z ++ rest')) (sym (front_is old head rest d e l)) (subst (P (get_or head 0 d ∷ rest)) (sym (one_set head rest' z l)) p)
+
+  pub none_is : (xs : List X) → length xs ≡ 0 → xs ≡ []
+  none_is [] e = refl
+  none_is (x ∷ xs) e = absurd (omega arith)
+
+  pub tail_length : (old rest : List X) (x : X) → old ≡ x ∷ rest → length old - 1 ≡ length rest
+  tail_length old rest x e = let l = ap length e in omega arith
+
+module _ {J : Type 0} where
+  pub key_lent : (k : ℕ) (p q : Place J) → LendsHands k p q → hand_key q.lane ≡ hand_key p.lane
+  key_lent k p q l = λ i. (l.deque i, lent_hand (l.view i))
+
+  pub key_joined : (k : ℕ) (p q : Place J) → TakesBackHands k p q → hand_key q.lane ≡ hand_key p.lane
+  key_joined k p q l = λ i. (l.deque i, record { rights = 1; owner = false; fit = l.terms i; bound = l.bound i; put = []; took = [] })
+
+  pub lent_on : (j k : ℕ) (p q r : Place J) → LendsHands j p q → LendsHands k q r → LendsHands (j + k) p r
+  lent_on j k p q r a b =
+      record {
+        view = b.view ∙ (λ i. record (a.view i) { rights = (own r.lane).rights });
+        rights = (let x = a.rights in let y = b.rights in omega arith);
+        deque = b.deque ∙ a.deque;
+        room = b.room ∙ a.room;
+        stock = (let x = a.stock in let y = b.stock in omega arith);
+        kin = b.kin;
+        space = b.space ∙ a.space;
+      }
+
+  pub gets_on : (ms ns : List HandKey) (p q r : Place J) → ReceivesHands ms p q → ReceivesHands ns q r → ReceivesHands (ms ++ ns) p r
+  gets_on ms ns p q r a b =
+      record {
+        rest = b.rest ∙ (λ i. record (a.rest i) { others = r.others });
+        came = b.came ∙ (ap (λ xs. xs ++ ns) a.came ∙ append_assoc (keys_of p) ms ns);
+        fresh = λ h. b.fresh (a.fresh h);
+        space = b.space ∙ a.space;
+        count = (let x = a.count in let y = b.count in let z = length-append ms ns in omega arith);
+      }
+
+  pub gets_none : (p : Place J) → ReceivesHands [] p p
+  gets_none p = record { rest = refl; came = sym (append-nil (keys_of p)); fresh = λ h. h; space = refl; count = omega arith }
+
+  abbrev EachGets : List (CachePadded (Place J)) → List HandKey → List (CachePadded (Place J)) → Type 0
+  EachGets ps ms qs = Each (λ p m q. ReceivesHands (m ∷ []) (padded_value p) (padded_value q)) ps ms qs
+
+  abbrev EachGives : List (CachePadded (Place J)) → List (CachePadded (Place J)) → Type 0
+  EachGives ps qs = Each (λ p _ q. OnlyLends 1 (padded_value p) (padded_value q)) ps ps qs
+
+  abbrev EachDealt : ℕ → List (CachePadded (Place J)) → List (CachePadded (Place J)) → Type 0
+  EachDealt k ps qs = Each (λ p _ q. ExchangesHands k (padded_value p) (padded_value q)) ps ps qs
+
+  abbrev AllGive : ℕ → List (CachePadded (Place J)) → Type 0
+  AllGive k ps = AllByRecursion (λ p. CanLend k (padded_value p)) ps
+
+  abbrev AllGet : ℕ → List (CachePadded (Place J)) → Type 0
+  AllGet k ps = AllByRecursion (λ p. CanReceive k (padded_value p)) ps
+
+  pub got_length : (m : HandKey) (ps qs : List (CachePadded (Place J))) → EachGets ps (map (λ _. m) ps) qs → length qs ≡ length ps
+  got_length m [] qs e = ap length e.1
+  got_length m (p ∷ ps) [] e = absurd e
+  got_length m (p ∷ ps) (q ∷ qs) e = let r = got_length m ps qs e.1 in omega arith
+
+  pub gave_length : (ps qs : List (CachePadded (Place J))) → EachGives ps qs → length qs ≡ length ps
+  gave_length [] qs e = ap length e.1
+  gave_length (p ∷ ps) [] e = absurd e
+  gave_length (p ∷ ps) (q ∷ qs) e = let r = gave_length ps qs e.1 in omega arith
+
+  give_after : (p q : Place J) (ms : List HandKey) (k : ℕ) → 1 ≤ k → ReceivesHands ms p q → CanLend k p → CanLend 1 q
+  give_after p q ms k l g c = subst (CanLend 1) (sym g.rest) (record { rights = (let r = c.rights in omega arith); stock = (let r = c.stock in omega arith); kin = c.kin })
+
+  -- who could give k hands, and got one, can give one
+  pub can_give_one : (m : HandKey) (k : ℕ) (ps qs : List (CachePadded (Place J))) → length ps ≤ k → EachGets ps (map (λ _. m) ps) qs → AllGive k ps → AllGive 1 qs
+  can_give_one m k [] [] l e a = tt
+  can_give_one m k [] (q ∷ qs) l e a = absurd (let f = ap length e.1 in omega arith)
+  can_give_one m k (p ∷ ps) [] l e a = absurd e
+  can_give_one m k (p ∷ ps) (q ∷ qs) l e a = (give_after (padded_value p) (padded_value q) (m ∷ []) k (omega arith) e.0 a.0, can_give_one m k ps qs (omega arith) e.1 a.1)
+
+  pub get_one : (k : ℕ) (ps : List (CachePadded (Place J))) → length ps ≤ k → AllGet k ps → AllGet 1 ps
+  get_one k [] l a = tt
+  get_one k (p ∷ ps) l a = (let x = a.0 in omega arith, get_one k ps (omega arith) a.1)
+
+  give_less : (p q r : Place J) (ms : List HandKey) (k j : ℕ) → 1 + j ≡ k → ReceivesHands ms p q → OnlyLends 1 q r → CanLend k p → CanLend j r
+  give_less p q r ms k j l g h c =
+      let d : CanLend k q = subst (CanLend k) (sym g.rest) (record { rights = c.rights; stock = c.stock; kin = c.kin }) in
+      record {
+        rights = (let x = d.rights in let y = h.1.rights in omega arith);
+        stock = (let x = d.stock in let y = h.1.stock in omega arith);
+        kin = h.1.kin;
+      }
+
+  get_less : (p q r : Place J) (m : HandKey) (k j : ℕ) → 1 + j ≡ k → ReceivesHands (m ∷ []) p q → OnlyLends 1 q r → CanReceive k p → CanReceive j r
+  get_less p q r m k j l g h c = subst (CanReceive j) (sym h.0) (let x = g.count in let y = g.space in omega arith)
+
+  -- who could give and get k hands, and gave and got one, can give and get one less
+  pub can_go_on : (m : HandKey) (k j : ℕ) (ps qs rs : List (CachePadded (Place J))) → (0 < length ps → 1 + j ≡ k) → EachGets ps (map (λ _. m) ps) qs → EachGives qs rs → AllGive k ps → AllGet k ps → AllGive j rs × AllGet j rs
+  can_go_on m k j [] [] [] l e f a b = (tt, tt)
+  can_go_on m k j [] [] (r ∷ rs) l e f a b = absurd (let n = ap length f.1 in omega arith)
+  can_go_on m k j [] (q ∷ qs) rs l e f a b = absurd (let n = ap length e.1 in omega arith)
+  can_go_on m k j (p ∷ ps) [] rs l e f a b = absurd e
+  can_go_on m k j (p ∷ ps) (q ∷ qs) [] l e f a b = absurd f
+  can_go_on m k j (p ∷ ps) (q ∷ qs) (r ∷ rs) l e f a b =
+      let n = l (omega arith) in
+      let t = can_go_on m k j ps qs rs (λ _. n) e.1 f.1 a.1 b.1 in (
+        (give_less (padded_value p) (padded_value q) (padded_value r) (m ∷ []) k j n e.0 f.0 a.0, t.0),
+        (get_less (padded_value p) (padded_value q) (padded_value r) m k j n e.0 f.0 b.0, t.1),
+      )
+
+  pub same_rest : (p r : Place J) → r.job ≡ p.job → r.out ≡ p.out → r.count ≡ p.count → r ≡ record p { lane = r.lane; spare = r.spare; others = r.others }
+  same_rest p r a b c = λ i. record r { job = a i; out = b i; count = c i }
+
+  pub exchanged_head : (k : ℕ) (ms : List HandKey) (p q r : Place J) → OnlyLends k p q → ReceivesHands ms q r → ExchangesHands k p r
+  exchanged_head k ms p q r a b =
+      record {
+        rest = same_rest p r (ap (λ (u : Place J). u.job) b.rest ∙ ap (λ (u : Place J). u.job) a.0) (ap (λ (u : Place J). u.out) b.rest ∙ ap (λ (u : Place J). u.out) a.0) (ap (λ (u : Place J). u.count) b.rest ∙ ap (λ (u : Place J). u.count) a.0);
+        lent = subst (LendsHands k p) (sym b.rest) (record { view = a.1.view; rights = a.1.rights; deque = a.1.deque; room = a.1.room; stock = a.1.stock; kin = a.1.kin; space = a.1.space });
+        fresh = λ h. b.fresh (subst IsFresh (sym a.0) h);
+        space = b.space ∙ ap (λ (u : Place J). vec_capacity u.others) a.0;
+      }
+
+  lent_from : (k : ℕ) (p q r : Place J) (ms : List HandKey) → ReceivesHands ms p q → LendsHands k q r → LendsHands k p r
+  lent_from k p q r ms g l =
+      record {
+        view = l.view ∙ ap (λ (u : Place J). record (own u.lane) { rights = (own r.lane).rights }) g.rest;
+        rights = l.rights ∙ ap (λ (u : Place J). (own u.lane).rights) g.rest;
+        deque = l.deque ∙ ap (λ (u : Place J). worker_deque u.lane.owner) g.rest;
+        room = l.room ∙ ap (λ (u : Place J). u.lane.room) g.rest;
+        stock = l.stock ∙ ap (λ (u : Place J). vec_len u.spare) g.rest;
+        kin = l.kin;
+        space = l.space ∙ ap (λ (u : Place J). vec_capacity u.spare) g.rest;
+      }
+
+  exchanged_later : (k j : ℕ) (m : HandKey) (p q r s : Place J) → 1 + j ≡ k → ReceivesHands (m ∷ []) p q → OnlyLends 1 q r → ExchangesHands j r s → ExchangesHands k p s
+  exchanged_later k j m p q r s l a b c =
+      record {
+        rest = same_rest p s (ap (λ (u : Place J). u.job) c.rest ∙ (ap (λ (u : Place J). u.job) b.0 ∙ ap (λ (u : Place J). u.job) a.rest)) (ap (λ (u : Place J). u.out) c.rest ∙ (ap (λ (u : Place J). u.out) b.0 ∙ ap (λ (u : Place J). u.out) a.rest)) (ap (λ (u : Place J). u.count) c.rest ∙ (ap (λ (u : Place J). u.count) b.0 ∙ ap (λ (u : Place J). u.count) a.rest));
+        lent = subst (λ n. LendsHands n p s) l (lent_from (1 + j) p q s (m ∷ []) a (lent_on 1 j q r s b.1 c.lent));
+        fresh = λ h. c.fresh (subst IsFresh (sym b.0) (a.fresh h));
+        space = c.space ∙ (ap (λ (u : Place J). vec_capacity u.others) b.0 ∙ a.space);
+      }
+
+  pub exchanged_rest : (m : HandKey) (k j : ℕ) (ps qs rs ss : List (CachePadded (Place J))) → (0 < length ps → 1 + j ≡ k) → EachGets ps (map (λ _. m) ps) qs → EachGives qs rs → EachDealt j rs ss → EachDealt k ps ss
+  exchanged_rest m k j [] [] [] ss l e f d = (refl, d.1)
+  exchanged_rest m k j [] [] (r ∷ rs) ss l e f d = absurd (let n = ap length f.1 in omega arith)
+  exchanged_rest m k j [] (q ∷ qs) rs ss l e f d = absurd (let n = ap length e.1 in omega arith)
+  exchanged_rest m k j (p ∷ ps) [] rs ss l e f d = absurd e
+  exchanged_rest m k j (p ∷ ps) (q ∷ qs) [] ss l e f d = absurd f
+  exchanged_rest m k j (p ∷ ps) (q ∷ qs) (r ∷ rs) [] l e f d = absurd d
+  exchanged_rest m k j (p ∷ ps) (q ∷ qs) (r ∷ rs) (s ∷ ss) l e f d =
+      let n = l (omega arith) in
+      (exchanged_later k j m (padded_value p) (padded_value q) (padded_value r) (padded_value s) n e.0 f.0 d.0, exchanged_rest m k j ps qs rs ss (λ _. n) e.1 f.1 d.1)
+
+  pub marks_given : (qs rs : List (CachePadded (Place J))) → EachGives qs rs → map key_in rs ≡ map key_in qs
+  marks_given [] [] e = refl
+  marks_given [] (r ∷ rs) e = absurd (let n = ap length e.1 in omega arith)
+  marks_given (q ∷ qs) [] e = absurd e
+  marks_given (q ∷ qs) (r ∷ rs) e = λ i. key_lent 1 (padded_value q) (padded_value r) e.0.1 i ∷ marks_given qs rs e.1 i
+
+  pub marks_dealt : (j : ℕ) (rs ss : List (CachePadded (Place J))) → EachDealt j rs ss → map key_in ss ≡ map key_in rs
+  marks_dealt j [] [] e = refl
+  marks_dealt j [] (s ∷ ss) e = absurd (let n = ap length e.1 in omega arith)
+  marks_dealt j (r ∷ rs) [] e = absurd e
+  marks_dealt j (r ∷ rs) (s ∷ ss) e = λ i. key_lent j (padded_value r) (padded_value s) e.0.lent i ∷ marks_dealt j rs ss e.1 i
+
+  -- each keys_of is one hand_key longer
+  pub rows_got : (m : HandKey) (b : List HandKey) (ps qs rs : List (CachePadded (Place J))) → EachGets ps (map (λ _. m) ps) qs → EachGives qs rs → AllByRecursion (λ p. keys_in p ≡ b) ps → AllByRecursion (λ p. keys_in p ≡ b ++ m ∷ []) rs
+  rows_got m b [] [] [] e f a = tt
+  rows_got m b [] [] (r ∷ rs) e f a = absurd (let n = ap length f.1 in omega arith)
+  rows_got m b [] (q ∷ qs) rs e f a = absurd (let n = ap length e.1 in omega arith)
+  rows_got m b (p ∷ ps) [] rs e f a = absurd e
+  rows_got m b (p ∷ ps) (q ∷ qs) [] e f a = absurd f
+  rows_got m b (p ∷ ps) (q ∷ qs) (r ∷ rs) e f a = (ap keys_of f.0.0 ∙ (e.0.came ∙ ap (λ xs. xs ++ m ∷ []) a.0), rows_got m b ps qs rs e.1 f.1 a.1)
+
+  -- the rows keys_of_others, where the first place's keys_of and those of the rest do
+  pub rows_cross : (b : List HandKey) (p q r : Place J) (ns : List HandKey) (ss : List (CachePadded (Place J))) (k : ℕ) → keys_of p ≡ b → OnlyLends k p q → ReceivesHands ns q r → ns ≡ map key_in ss
+      → map keys_in ss ≡ keys_of_others (b ++ hand_key p.lane ∷ []) (map key_in ss) → keys_of r ∷ map keys_in ss ≡ keys_of_others b (hand_key r.lane ∷ map key_in ss)
+  rows_cross b p q r ns ss k at g h same c =
+      let first : keys_of r ≡ b ++ map key_in ss = h.came ∙ (λ i. (ap keys_of g.0 ∙ at) i ++ same i) in
+      let m : hand_key r.lane ≡ hand_key p.lane = ap (λ (u : Place J). hand_key u.lane) h.rest ∙ key_lent k p q g.1 in
+      λ i. first i ∷ (c ∙ ap (λ n. keys_of_others (b ++ n ∷ []) (map key_in ss)) (sym m)) i
+
+drop_suc : {X : Type 0} (k : ℕ) (xs : List X) (d : X) → k < length xs → drop k xs ≡ get_or xs k d ∷ drop (suc k) xs
+drop_suc k [] d l = absurd (omega arith)
+drop_suc zero (x ∷ xs) d l = refl
+drop_suc (suc k) (x ∷ xs) d l = drop_suc k xs d (omega arith)
+
+pub drop_at : {X : Type 0} (k : ℕ) (xs : List X) (d : X) → k < length xs → drop k xs ≡ get_or xs k d ∷ drop (k + 1) xs
+drop_at k xs d l = let e : suc k ≡ k + 1 = omega arith in subst (λ n. drop k xs ≡ get_or xs k d ∷ drop n xs) e (drop_suc k xs d l)
+
+pub split_one : {X : Type 0} (st head rest : List X) (d : X) → 0 < length st → head ≡ take 1 st → rest ≡ drop 1 st → st ≡ get_or head 0 d ∷ rest
+split_one [] head rest d l a b = absurd (omega arith)
+split_one (x ∷ xs) head rest d l a b = λ i. get_or (sym a i) 0 d ∷ sym b i

@@ -1,0 +1,205 @@
+-- Hands taken back.
+use Rattle.std.proofs.Common.{◌≡◌, ℕ, ◌+◌, ◌<◌, ◌≤◌, true, List, [], ◌∷◌, ◌++◌, length, map, get_or, sym, refl, ap, ◌∙◌, subst, arith, append-nil, vec_len, vec_capacity}
+use Rattle.std.proofs.lemmas.List.{same_from_push, append_cancel_right, map-append}
+use Rattle.std.specs.List.{AllByRecursion}
+use Rattle.heap_base.specs.declared.task.Task.{Task}
+use Rattle.crossbeam_deque.specs.Handles.{view, worker_deque, stealer_deque}
+use Rattle.crossbeam_utils.specs.Padded.{padded_value}
+use Rattle.crossbeam_utils.specs.declared.cache_padded.CachePadded.{CachePadded}
+use Rattle.steal_pool.specs.declared.hand.Hand.{Hand}
+use Rattle.steal_pool.specs.declared.lane.Lane.{Lane}
+use Rattle.steal_pool.specs.declared.victim.Victim.{Victim}
+use Rattle.steal_pool.specs.declared.place.Place.{Place}
+use Rattle.heap_base.specs.Counting.{total}
+use Rattle.steal_pool.specs.Steps.{joined_hand}
+use Rattle.steal_pool.specs.Victims.{total_took}
+use Rattle.steal_pool.specs.Workers.{own}
+use Rattle.steal_pool.specs.Lists.{Each}
+use Rattle.steal_pool.specs.Loans.{keys_of_others, HandKey, hand_key, victim_key, keys_of, keys_in, key_in, CanTakeBack, TakesBackHands, OnlyTakesBack, ReturnsHands, RestoresHands, IsThiefOf, own_took, others_took, all_took}
+use Rattle.heap_base.proofs.Counting.{total-append, total-snoc}
+use Rattle.steal_pool.proofs.Elements.{all-snoc}
+use Rattle.steal_pool.proofs.LoanLemmas.{same_rest, key_joined}
+
+-- the last hand is the one that is marked so
+pub last_seen : (xs : List Victim) (r : Victim) (front : List HandKey) (m : HandKey) → map victim_key (xs ++ r ∷ []) ≡ front ++ m ∷ [] → (map victim_key xs ≡ front) × (victim_key r ≡ m)
+last_seen xs r front m e = same_from_push (map victim_key xs) front (victim_key r) m (sym (map-append victim_key xs (r ∷ [])) ∙ e)
+
+pub sum_one : (h : Task → ℕ) (l m : Lane) (rs : List Victim) (r : Victim) → own m ≡ joined_hand (own l) (view r.pass) → total h (own m).took + total_took h rs ≡ total h (own l).took + total_took h (rs ++ r ∷ [])
+sum_one h l m rs r e =
+    let v : Hand = view r.pass in
+    let a : total h (own m).took ≡ total h (own l).took + total h v.took = ap (λ (u : Hand). total h u.took) e ∙ total-append h (own l).took v.took in
+    let b = total-snoc (λ (s : Victim). let u : Hand = view s.pass in total h u.took) rs r in
+    omega arith
+
+module _ {J : Type 0} where
+  pub joined_on : (j k : ℕ) (p q r : Place J) → TakesBackHands j p q → TakesBackHands k q r → TakesBackHands (j + k) p r
+  joined_on j k p q r a b =
+      record {
+        rights = (let x = a.rights in let y = b.rights in omega arith);
+        terms = b.terms ∙ a.terms;
+        bound = b.bound ∙ a.bound;
+        put = b.put ∙ a.put;
+        more = λ h. (let x = a.more h in let y = b.more h in omega arith);
+        deque = b.deque ∙ a.deque;
+        room = b.room ∙ a.room;
+        stock = (let x = a.stock in let y = b.stock in omega arith);
+        kin = b.kin;
+        space = b.space ∙ a.space;
+      }
+
+  pub joins_on : (j k : ℕ) (p q r : Place J) → OnlyTakesBack j p q → OnlyTakesBack k q r → OnlyTakesBack (j + k) p r
+  joins_on j k p q r a b = (b.0 ∙ (λ i. record (a.0 i) { lane = r.lane; spare = r.spare }), joined_on j k p q r a.1 b.1)
+
+  abbrev EachReturns : List (CachePadded (Place J)) → List HandKey → List (CachePadded (Place J)) → Type 0
+  EachReturns ps ms qs = Each (λ p m q. ReturnsHands (m ∷ []) (padded_value p) (padded_value q)) ps ms qs
+
+  abbrev EachJoins : List (CachePadded (Place J)) → List (CachePadded (Place J)) → Type 0
+  EachJoins ps qs = Each (λ p _ q. OnlyTakesBack 1 (padded_value p) (padded_value q)) ps ps qs
+
+  abbrev EachGathered : ℕ → List (CachePadded (Place J)) → List (CachePadded (Place J)) → Type 0
+  EachGathered k ps qs = Each (λ p _ q. RestoresHands k (padded_value p) (padded_value q)) ps ps qs
+
+  abbrev AllJoin : ℕ → List (CachePadded (Place J)) → Type 0
+  AllJoin k ps = AllByRecursion (λ p. CanTakeBack k (padded_value p)) ps
+
+  pub joins_length : (ps qs : List (CachePadded (Place J))) → EachJoins ps qs → length qs ≡ length ps
+  joins_length [] qs e = ap length e.1
+  joins_length (p ∷ ps) [] e = absurd e
+  joins_length (p ∷ ps) (q ∷ qs) e = let r = joins_length ps qs e.1 in omega arith
+
+  pub returns_length : (m : HandKey) (ps qs : List (CachePadded (Place J))) → EachReturns ps (map (λ _. m) ps) qs → length qs ≡ length ps
+  returns_length m [] qs e = ap length e.1
+  returns_length m (p ∷ ps) [] e = absurd e
+  returns_length m (p ∷ ps) (q ∷ qs) e = let r = returns_length m ps qs e.1 in omega arith
+
+  pub restored_length : (k : ℕ) (ps qs : List (CachePadded (Place J))) → EachGathered k ps qs → length qs ≡ length ps
+  restored_length k [] qs e = ap length e.1
+  restored_length k (p ∷ ps) [] e = absurd e
+  restored_length k (p ∷ ps) (q ∷ qs) e = let r = restored_length k ps qs e.1 in omega arith
+
+  pub join_less : (k j : ℕ) (ps : List (CachePadded (Place J))) → (0 < length ps → j ≤ k) → AllJoin k ps → AllJoin j ps
+  join_less k j [] l a = tt
+  join_less k j (p ∷ ps) l a = let n = l (omega arith) in (record { space = (let x = a.0.space in omega arith); kin = a.0.kin }, join_less k j ps (λ _. n) a.1)
+
+  join_after : (k j : ℕ) (p q r : Place J) (ms : List HandKey) → j + 1 ≤ k → CanTakeBack k p → RestoresHands j p q → ReturnsHands ms q r → CanTakeBack 1 r
+  join_after k j p q r ms l c g h =
+      record {
+        space = (let x = c.space in let y = g.joined.stock in let z = g.joined.space in let u = ap (λ (u : Place J). vec_len u.spare) h.rest in let v = ap (λ (u : Place J). vec_capacity u.spare) h.rest in omega arith);
+        kin = subst (λ (u : Place J). AllByRecursion (IsThiefOf (worker_deque u.lane.owner)) u.spare.items) (sym h.rest) g.joined.kin;
+      }
+
+  pub can_join_one : (k j : ℕ) (m : HandKey) (ps qs rs : List (CachePadded (Place J))) → (0 < length ps → j + 1 ≤ k) → AllJoin k ps → EachGathered j ps qs → EachReturns qs (map (λ _. m) qs) rs → AllJoin 1 rs
+  can_join_one k j m [] [] [] l a g h = tt
+  can_join_one k j m [] [] (r ∷ rs) l a g h = absurd (let n = ap length h.1 in omega arith)
+  can_join_one k j m [] (q ∷ qs) rs l a g h = absurd (let n = ap length g.1 in omega arith)
+  can_join_one k j m (p ∷ ps) [] rs l a g h = absurd g
+  can_join_one k j m (p ∷ ps) (q ∷ qs) [] l a g h = absurd h
+  can_join_one k j m (p ∷ ps) (q ∷ qs) (r ∷ rs) l a g h =
+      let n = l (omega arith) in
+      (join_after k j (padded_value p) (padded_value q) (padded_value r) (m ∷ []) n a.0 g.0 h.0, can_join_one k j m ps qs rs (λ _. n) a.1 g.1 h.1)
+
+  pub lasts : (b : List HandKey) (m : HandKey) (ps : List (CachePadded (Place J))) → AllByRecursion (λ p. keys_in p ≡ b ++ m ∷ []) ps → AllByRecursion (λ p. (front : List HandKey) × (keys_in p ≡ front ++ m ∷ [])) ps
+  lasts b m [] a = tt
+  lasts b m (p ∷ ps) a = ((b, a.0), lasts b m ps a.1)
+
+  pub tails : (m n : HandKey) (ps : List (CachePadded (Place J))) → m ≡ n → AllByRecursion (λ p. (front : List HandKey) × (keys_in p ≡ front ++ m ∷ [])) ps → AllByRecursion (λ p. (front : List HandKey) × (keys_in p ≡ front ++ n ∷ [])) ps
+  tails m n ps e a = subst (λ x. AllByRecursion (λ p. (front : List HandKey) × (keys_in p ≡ front ++ x ∷ [])) ps) e a
+
+  -- the first keys_of, and the rows of the rest
+  pub first_row : (b : List HandKey) (p : CachePadded (Place J)) (ps : List (CachePadded (Place J))) → map keys_in (p ∷ ps) ≡ keys_of_others b (map key_in (p ∷ ps))
+      → (keys_in p ≡ b ++ map key_in ps) × (map keys_in ps ≡ keys_of_others (b ++ key_in p ∷ []) (map key_in ps))
+  first_row b p ps e = (ap (λ xs. get_or xs 0 []) e, ap tail e)
+    where
+      tail : List (List HandKey) → List (List HandKey)
+      tail [] = []
+      tail (x ∷ xs) = xs
+
+  pub keys_restored : (j : ℕ) (ps qs : List (CachePadded (Place J))) → EachGathered j ps qs → map key_in qs ≡ map key_in ps
+  keys_restored j [] [] e = refl
+  keys_restored j [] (q ∷ qs) e = absurd (let n = ap length e.1 in omega arith)
+  keys_restored j (p ∷ ps) [] e = absurd e
+  keys_restored j (p ∷ ps) (q ∷ qs) e = λ i. key_joined j (padded_value p) (padded_value q) e.0.joined i ∷ keys_restored j ps qs e.1 i
+
+  pub keys_returned : (m : HandKey) (ps qs : List (CachePadded (Place J))) → EachReturns ps (map (λ _. m) ps) qs → map key_in qs ≡ map key_in ps
+  keys_returned m [] [] e = refl
+  keys_returned m [] (q ∷ qs) e = absurd (let n = ap length e.1 in omega arith)
+  keys_returned m (p ∷ ps) [] e = absurd e
+  keys_returned m (p ∷ ps) (q ∷ qs) e = λ i. ap (λ (u : Place J). hand_key u.lane) e.0.rest i ∷ keys_returned m ps qs e.1 i
+
+  pub restored_head : (k : ℕ) (ms : List HandKey) (p q r : Place J) → OnlyTakesBack k p q → ReturnsHands ms q r → RestoresHands k p r
+  restored_head k ms p q r a b =
+      record {
+        rest = same_rest p r (ap (λ (u : Place J). u.job) b.rest ∙ ap (λ (u : Place J). u.job) a.0) (ap (λ (u : Place J). u.out) b.rest ∙ ap (λ (u : Place J). u.out) a.0) (ap (λ (u : Place J). u.count) b.rest ∙ ap (λ (u : Place J). u.count) a.0);
+        joined = subst (TakesBackHands k p) (sym b.rest) (record { rights = a.1.rights; terms = a.1.terms; bound = a.1.bound; put = a.1.put; more = a.1.more; deque = a.1.deque; room = a.1.room; stock = a.1.stock; kin = a.1.kin; space = a.1.space });
+        space = b.space ∙ ap (λ (u : Place J). vec_capacity u.others) a.0;
+      }
+
+  restored_later : (k j : ℕ) (ms : List HandKey) (p q r s : Place J) → j + 1 ≡ k → RestoresHands j p q → ReturnsHands ms q r → OnlyTakesBack 1 r s → RestoresHands k p s
+  restored_later k j ms p q r s l a b c =
+      let mid : TakesBackHands j p r = subst (TakesBackHands j p) (sym b.rest) (record { rights = a.joined.rights; terms = a.joined.terms; bound = a.joined.bound; put = a.joined.put; more = a.joined.more; deque = a.joined.deque; room = a.joined.room; stock = a.joined.stock; kin = a.joined.kin; space = a.joined.space }) in
+      record {
+        rest = same_rest p s (ap (λ (u : Place J). u.job) c.0 ∙ (ap (λ (u : Place J). u.job) b.rest ∙ ap (λ (u : Place J). u.job) a.rest)) (ap (λ (u : Place J). u.out) c.0 ∙ (ap (λ (u : Place J). u.out) b.rest ∙ ap (λ (u : Place J). u.out) a.rest)) (ap (λ (u : Place J). u.count) c.0 ∙ (ap (λ (u : Place J). u.count) b.rest ∙ ap (λ (u : Place J). u.count) a.rest));
+        joined = subst (λ n. TakesBackHands n p s) l (joined_on j 1 p r s mid c.1);
+        space = ap (λ (u : Place J). vec_capacity u.others) c.0 ∙ (b.space ∙ a.space);
+      }
+
+  pub restored_rest : (k j : ℕ) (m : HandKey) (ps qs rs ss : List (CachePadded (Place J))) → (0 < length ps → j + 1 ≡ k) → EachGathered j ps qs → EachReturns qs (map (λ _. m) qs) rs → EachJoins rs ss → EachGathered k ps ss
+  restored_rest k j m [] [] [] ss l a b c = (refl, c.1)
+  restored_rest k j m [] [] (r ∷ rs) ss l a b c = absurd (let n = ap length b.1 in omega arith)
+  restored_rest k j m [] (q ∷ qs) rs ss l a b c = absurd (let n = ap length a.1 in omega arith)
+  restored_rest k j m (p ∷ ps) [] rs ss l a b c = absurd a
+  restored_rest k j m (p ∷ ps) (q ∷ qs) [] ss l a b c = absurd b
+  restored_rest k j m (p ∷ ps) (q ∷ qs) (r ∷ rs) [] l a b c = absurd c
+  restored_rest k j m (p ∷ ps) (q ∷ qs) (r ∷ rs) (s ∷ ss) l a b c =
+      let n = l (omega arith) in
+      (restored_later k j (m ∷ []) (padded_value p) (padded_value q) (padded_value r) (padded_value s) n a.0 b.0 c.0, restored_rest k j m ps qs rs ss (λ _. n) a.1 b.1 c.1)
+
+  -- each keys_of is one hand_key shorter
+  pub rows_returned : (b : List HandKey) (m : HandKey) (qs rs ss : List (CachePadded (Place J))) → AllByRecursion (λ q. keys_in q ≡ b ++ m ∷ []) qs → EachReturns qs (map (λ _. m) qs) rs → EachJoins rs ss → AllByRecursion (λ q. keys_in q ≡ b) ss
+  rows_returned b m [] [] [] a e f = tt
+  rows_returned b m [] [] (s ∷ ss) a e f = absurd (let n = ap length f.1 in omega arith)
+  rows_returned b m [] (r ∷ rs) ss a e f = absurd (let n = ap length e.1 in omega arith)
+  rows_returned b m (q ∷ qs) [] ss a e f = absurd e
+  rows_returned b m (q ∷ qs) (r ∷ rs) [] a e f = absurd f
+  rows_returned b m (q ∷ qs) (r ∷ rs) (s ∷ ss) a e f = (ap keys_of f.0.0 ∙ append_cancel_right (keys_in r) b (m ∷ []) (sym e.0.left ∙ a.0), rows_returned b m qs rs ss a.1 e.1 f.1)
+
+  -- what the hands took is counted at the owners, as they go back
+  pub took_returned : (h : Task → ℕ) (m : HandKey) (qs rs ss : List (CachePadded (Place J))) → EachReturns qs (map (λ _. m) qs) rs → EachJoins rs ss
+      → (total (own_took h) rs ≡ total (own_took h) qs) × (total (others_took h) ss ≡ total (others_took h) rs)
+  took_returned h m [] [] [] e f = (refl, refl)
+  took_returned h m [] [] (s ∷ ss) e f = absurd (let n = ap length f.1 in omega arith)
+  took_returned h m [] (r ∷ rs) ss e f = absurd (let n = ap length e.1 in omega arith)
+  took_returned h m (q ∷ qs) [] ss e f = absurd e
+  took_returned h m (q ∷ qs) (r ∷ rs) [] e f = absurd f
+  took_returned h m (q ∷ qs) (r ∷ rs) (s ∷ ss) e f =
+      let t = took_returned h m qs rs ss e.1 f.1 in
+      let a : own_took h r ≡ own_took h q = ap (λ (u : Place J). total h (own u.lane).took) e.0.rest in
+      let b : others_took h s ≡ others_took h r = ap (λ (u : Place J). total_took h u.others.items) f.0.0 in
+      let x = t.0 in
+      let y = t.1 in
+      (omega arith, omega arith)
+
+  pub total_all : (h : Task → ℕ) (ps : List (CachePadded (Place J))) → total (all_took h) ps ≡ total (own_took h) ps + total (others_took h) ps
+  total_all h [] = refl
+  total_all h (p ∷ ps) = let t = total_all h ps in omega arith
+
+  -- one hand goes back to its owner
+  pub join_one : (p q : Place J) (r : Victim) → victim_key r ≡ hand_key p.lane → own q.lane ≡ joined_hand (own p.lane) (view r.pass) → (own p.lane).owner ≡ true → worker_deque q.lane.owner ≡ worker_deque p.lane.owner → q.lane.room ≡ p.lane.room
+      → q.spare.items ≡ p.spare.items ++ r.thief ∷ [] → vec_len q.spare ≡ vec_len p.spare + 1 → vec_capacity q.spare ≡ vec_capacity p.spare → CanTakeBack 1 p → TakesBackHands 1 p q
+  join_one p q r at view-is owns deque room items len space can =
+      let v : Hand = view r.pass in
+      let one : v.rights ≡ 1 = ap (λ (m : HandKey). m.1.rights) at in
+      let none : v.put ≡ [] = ap (λ (m : HandKey). m.1.put) at in
+      let thief : stealer_deque r.thief ≡ worker_deque p.lane.owner = ap (λ (m : HandKey). m.0) at in
+      record {
+        rights = (let e = ap (λ (u : Hand). u.rights) view-is in omega arith);
+        terms = ap (λ (u : Hand). u.fit) view-is;
+        bound = ap (λ (u : Hand). u.bound) view-is;
+        put = ap (λ (u : Hand). u.put) view-is ∙ (ap (λ xs. (own p.lane).put ++ xs) none ∙ append-nil (own p.lane).put);
+        more = λ h. (let e = ap (λ (u : Hand). total h u.took) view-is in let w = total-append h (own p.lane).took v.took in omega arith);
+        deque = deque;
+        room = room;
+        stock = len;
+        kin = subst (λ d. AllByRecursion (IsThiefOf d) q.spare.items) (sym deque) (subst (λ xs. AllByRecursion (IsThiefOf (worker_deque p.lane.owner)) xs) (sym items) (all-snoc (IsThiefOf (worker_deque p.lane.owner)) p.spare.items r.thief can.kin (thief, r.fifo)));
+        space = space;
+      }

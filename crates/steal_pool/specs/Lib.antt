@@ -1,0 +1,15 @@
+pub mod Rests
+pub mod Runs
+pub mod FirstLists
+pub mod Outboxes
+pub mod CellTasks
+pub mod Seats
+pub mod Loans
+pub mod Jobs
+pub mod Lists
+pub mod Hands
+pub mod Steps
+pub mod Victims
+pub mod Workers
+pub mod Loops
+pub mod Places
