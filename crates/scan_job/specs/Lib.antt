@@ -1,0 +1,6 @@
+pub mod Graphs
+pub mod Cells
+pub mod States
+pub mod Scans
+pub mod Fit
+pub mod Jobs
