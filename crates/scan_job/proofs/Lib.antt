@@ -1,0 +1,6 @@
+pub mod Numbers
+pub mod Placing
+pub mod Reaching
+pub mod Fitting
+pub mod Meetings
+pub mod SlotSteps
