@@ -107,7 +107,7 @@ module _ (s : ScanShared) (t : Task) (i : ℕ) (old now : Worker) (p : HasScanne
 
 -- all slots were met
 module _ (s : ScanShared) (t : Task) (old now : Worker) (p : HasScanned s t (length (slots_in s.table.now t.cell)) old now) where
-  abbrev all_slots : Meeting
+  abbrev pub all_slots : Meeting
   all_slots = record { tag = t.tag; cells = targets_of s.table.now (slots_in s.table.now t.cell); won = p.won }
 
   pub scan-works : Works (shared_graph s) old.job t now.job (put_tasks (shared_graph s) old.job.mode all_slots)
