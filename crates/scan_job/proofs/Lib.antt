@@ -4,3 +4,5 @@ pub mod Reaching
 pub mod Fitting
 pub mod Meetings
 pub mod SlotSteps
+pub mod TestRoles
+pub mod TestRuns

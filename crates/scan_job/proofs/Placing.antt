@@ -1,6 +1,6 @@
 -- The graph of a table and its roles: cells that hold objects, and what slots lead to.
 use Rattle.std.proofs.Common.{◌≡◌, ℕ, zero, suc, ◌+◌, ◌<◌, ◌≤◌, Bool, true, false, cond, ⊎_elim, List, [], ◌∷◌, ◌++◌, length, get_or, take, filter, sym, refl, ap, ◌∙◌, subst, arith, eqb, eqb-true, eq-eqb, append-nil, IsTrue, Option, None, Some, ltb}
-use Rattle.std.specs.Prelude.{IsSome, IfSome, is_some, option_and_then, unwrap_or, position}
+use Rattle.std.specs.Prelude.{IsSome, IfSome, is_some, option_and_then, unwrap_or, position, slice_get}
 use Rattle.std.specs.List.{filter_map, cons_option, find, sum_by, position_or_len, range_with_len}
 use Rattle.std.specs.Option.{option_map_or}
 use Rattle.std.specs.Str.{bytes_eq}
@@ -9,7 +9,7 @@ use Rattle.std.proofs.lemmas.List.{take_more, get_or_past}
 use Rattle.std.proofs.lemmas.List.Elements.{filter_map-append}
 use Rattle.std.proofs.lemmas.List.Quantifiers.{position-Some}
 use Rattle.std.proofs.lemmas.List.Sums.{position_or_len_is, sum_by-cons}
-use Rattle.std.proofs.lemmas.Option.{option_and_then_some}
+use Rattle.std.proofs.lemmas.Option.{option_and_then_some, slice_get-get_or}
 use Rattle.heap_base.specs.declared.limits.TheConstants.{MOST_SLOTS}
 use Rattle.graph_meaning.specs.declared.roles.OwnerRole.{OwnerRole}
 use Rattle.graph_meaning.specs.declared.roles.OwnerRole.TheVariants.{NotOwned, OwnerCell, OwnerGone}
@@ -54,7 +54,7 @@ module _ (p : Placed) where
       ap is_some (holds_id-true id (id_in p cell) (position-Some (holds_id id) p.cells cell None e).1)
 
   -- and the cell that holds an id is given for it
-  cell-from_held : IsPlaced p → (cell id : ℕ) → id_in p cell ≡ Some id → cell_of p id ≡ Some cell
+  pub cell-from_held : IsPlaced p → (cell id : ℕ) → id_in p cell ≡ Some id → cell_of p id ≡ Some cell
   cell-from_held placed cell id held =
       let within = held-below cell (ap is_some held) in
       let before : (k : ℕ) → k < cell → holds_id id (get_or p.cells k None) ≡ false = λ k less.
@@ -86,7 +86,7 @@ module _ (p : Placed) where
       option_and_then_some (cell_of p) (edge_of slot) cell e (λ id is there. held-from_cell id cell there)
 
   -- the cell that a slot leads to by its id is its target
-  target-is : IsPlaced p → (slot : Slot) (o : Option ℕ) → option_and_then (id_in p) o ≡ edge_of slot → is_some o ≡ is_some (edge_of slot) → target_of p slot ≡ o
+  pub target-is : IsPlaced p → (slot : Slot) (o : Option ℕ) → option_and_then (id_in p) o ≡ edge_of slot → is_some o ≡ is_some (edge_of slot) → target_of p slot ≡ o
   target-is placed slot None e some = none (edge_of slot) some
     where
       none : (h : Option ℕ) → false ≡ is_some h → option_and_then (cell_of p) h ≡ None
@@ -146,6 +146,29 @@ module _ (p : Placed) where
       go : (o : Option ℕ) → length (option_map_or (λ o. o.slots) (option_and_then (object_at p.table.objects) o) []) ≤ MOST_SLOTS
       go None = omega arith
       go (Some id) = let l = sound.limits.slots in let s = slots_le p.table.objects id in omega arith
+
+-- ---- what is given at a place
+
+pub has_id-filter_map : {X : Type 0} (h : X → Option ℕ) (xs : List X) (i : ℕ) (d : X) (y : ℕ) → i < length xs → h (get_or xs i d) ≡ Some y → has_id (filter_map h xs) y ≡ true
+has_id-filter_map h [] i d y within is = absurd (omega arith)
+has_id-filter_map h (x ∷ xs) zero d y within is =
+    subst (λ o. has_id (cons_option o (filter_map h xs)) y ≡ true) (sym is) (or_left _ _ (eq-eqb y y refl))
+has_id-filter_map h (x ∷ xs) (suc i) d y within is = go (h x) (has_id-filter_map h xs i d y (omega arith) is)
+  where
+    go : (o : Option ℕ) → has_id (filter_map h xs) y ≡ true → has_id (cons_option o (filter_map h xs)) y ≡ true
+    go None rest = rest
+    go (Some z) rest = or_right _ _ rest
+
+-- the cell that an object's slot leads to is among its targets
+pub target-there : (p : Placed) (r : RoleTable) (cell slot target : ℕ) → IsPlaced p → slot < length (slots_in p cell) → option_and_then (id_in p) (Some target) ≡ edge_of (slot_in p cell slot) → true ≡ is_some (edge_of (slot_in p cell slot)) → has_id ((graph_of p r).targets cell) target ≡ true
+target-there p r cell slot target placed within leads some =
+    has_id-filter_map (target_of p) (slots_in p cell) slot empty_slot target within (target-is p placed (slot_in p cell slot) (Some target) leads some)
+
+-- the cell that a root names is among the roots
+pub root-there : (p : Placed) (r : RoleTable) (root cell : ℕ) → IsPlaced p → root < length p.table.roots → IfSome (slice_get p.table.roots root) (λ n. id_in p cell ≡ Some n.1) → has_id (graph_of p r).roots cell ≡ true
+root-there p r root cell placed within names =
+    let held = subst (λ o. IfSome o (λ n. id_in p cell ≡ Some n.1)) (slice_get-get_or p.table.roots root ([], 0) within) names in
+    has_id-filter_map (λ n. cell_of p n.1) p.table.roots root ([], 0) cell within (cell-from_held p placed cell (get_or p.table.roots root ([], 0)).1 held)
 
 -- ---- the whole graph
 

@@ -4,3 +4,4 @@ pub mod States
 pub mod Scans
 pub mod Fit
 pub mod Jobs
+pub mod TestHeaps

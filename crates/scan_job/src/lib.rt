@@ -7,6 +7,8 @@ mod meeting;
 mod mode;
 mod scanning;
 mod shared;
+#[cfg(test)]
+mod tests;
 
 pub use job::ScanJob;
 pub use mode::Mode;
