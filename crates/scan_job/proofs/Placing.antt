@@ -58,10 +58,10 @@ module _ (p : Placed) where
   cell-from_held placed cell id held =
       let within = held-below cell (ap is_some held) in
       let before : (k : ℕ) → k < cell → holds_id id (get_or p.cells k None) ≡ false = λ k less.
-          ⊎_elim
-          (λ same. absurd (let e = placed.once k cell id (holds_id-true id (id_in p k) same) held in omega arith))
-          (λ other. other)
-          (cases_Bool (holds_id id (get_or p.cells k None))) in
+      ⊎_elim
+      (λ same. absurd (let e = placed.once k cell id (holds_id-true id (id_in p k) same) held in omega arith))
+      (λ other. other)
+      (cases_Bool (holds_id id (get_or p.cells k None))) in
       let here : holds_id id (get_or p.cells cell None) ≡ true = ap (holds_id id) held ∙ eq-eqb id id refl in
       let is : position_or_len (holds_id id) p.cells ≡ cell = position_or_len_is (holds_id id) p.cells cell None (omega arith) before (λ _. here) in
       ap (λ n. cond (ltb n (length p.cells)) (Some n) None) is ∙ ap (λ b. cond b (Some cell) None) (lt-ltb cell (length p.cells) within)

@@ -1,5 +1,5 @@
 -- The tests' jobs may run in a crew.
-use Rattle.std.proofs.Common.{◌≡◌, ◌≢◌, ℕ, zero, suc, ◌+◌, ◌-◌, ◌*◌, ◌/◌, ◌^◌, ◌<◌, ◌≤◌, ⊎_elim, List, [], ◌∷◌, length, get_or, set, replicate, sym, refl, ap, ◌∙◌, subst, arith, IsTrue}
+use Rattle.std.proofs.Common.{◌≡◌, ◌≢◌, ℕ, zero, suc, ◌+◌, ◌-◌, ◌*◌, ◌/◌, ◌^◌, ◌<◌, ◌≤◌, ⊎_elim, List, [], ◌∷◌, ◌++◌, length, get_or, set, replicate, sym, refl, ap, ◌∙◌, subst, arith, IsTrue}
 use Rattle.std.specs.Prelude.{IsSome}
 use Rattle.std.specs.List.{All, AllByRecursion, Contains}
 use Rattle.std.proofs.lemmas.Bool.{cases_eq}
@@ -14,22 +14,42 @@ use Rattle.steal_pool.specs.Hands.{blank}
 use Rattle.steal_pool.specs.Jobs.{AllFit}
 use Rattle.steal_pool.specs.Runs.{HaveRoom, most_tasks}
 use Rattle.steal_pool.specs.Runs as Runs
+use Rattle.scan_job.specs.declared.mode.Mode.{Mode}
 use Rattle.scan_job.specs.declared.mode.Mode.TheVariants.{Owner}
 use Rattle.scan_job.specs.declared.shared.ScanShared.{ScanShared}
 use Rattle.scan_job.specs.Fit.{fit_tasks}
 use Rattle.scan_job.specs.Jobs.{shared_graph, IsReady, scan_meaning}
 use Rattle.scan_job.specs.States.{ScanState, room_of, turns_of}
-use Rattle.scan_job.specs.TestHeaps.{IsNewJob, AreNewJobs}
+use Rattle.scan_job.specs.TestHeaps.{IsOnlyJob, IsNewJob, AreNewJobs}
 use Rattle.scan_job.proofs.Fitting.{fit_tasks-is}
 use Rattle.scan_job.proofs.Placing.{is-whole, held-below, held-from_node}
 
 -- one worker has a list, and the others have none
 all-first : {X : Type 0} (P : List X → Type 0) (n : ℕ) (x : List X) → P [] → P x → All P (set (replicate n []) 0 x)
-all-first P n x none some k d within =
+all-first {X = X} P n x none some k d within =
     ⊎_elim
-    (λ (e : k ≡ 0). subst P (sym (ap (λ i. get_or (set (replicate n []) 0 x) i d) e ∙ get_or-set_same (replicate n []) 0 x d (let a = length-set (replicate n []) 0 x in omega arith))) some)
-    (λ ne. subst P (sym (get_or-set_other (replicate n []) 0 k x d ne ∙ get_or-replicate n k [] d (let a = length-set (replicate n []) 0 x in let b = length-replicate n [] in omega arith))) none)
+    (λ (e : k ≡ 0). subst P (sym (ap (λ i. get_or (set (replicate n []) 0 x) i d) e ∙ get_or-set_same (replicate n []) 0 x d (let a = length-set {A = List X} (replicate n []) 0 x in omega arith))) some)
+    (λ ne. subst P (sym (get_or-set_other (replicate n []) 0 k x d ne ∙ get_or-replicate n k [] d (let a = length-set {A = List X} (replicate n []) 0 x in let b = length-replicate {A = List X} n [] in omega arith))) none)
     (cases_eq k 0)
+
+-- the lists after the first task was added
+pub first-lists : (n : ℕ) (task : Task) (fs gs : List (List Task)) → 0 < n → fs ≡ replicate n [] → gs ≡ set fs 0 (get_or fs 0 [] ++ task ∷ []) → gs ≡ set (replicate n []) 0 (task ∷ [])
+first-lists n task fs gs some e is =
+    is ∙ ap (λ (hs : List (List Task)). set hs 0 (get_or hs 0 [] ++ task ∷ [])) e ∙ ap (λ (h : List Task). set (replicate n []) 0 (h ++ task ∷ [])) (get_or-replicate {A = List Task} n 0 [] [] some)
+
+-- the only job is ready, whatever its mode
+pub only-ready : (s : ScanShared) (j k : ScanState) (mode : Mode) → k ≡ record j { mode = mode } → IsOnlyJob s.table.now s.headers.now j → AreRolesOf s.table.now.cells (length s.table.now.table.kinds) s.roles.now → IsPlaced s.table.now → IsSound s.table.now.table → IsReady k s
+only-ready s j k mode is only roles placed sound =
+    let cells = ap (λ (i : ScanState). i.cells) only.is_new in
+    subst (λ i. IsReady i s) (sym is) (record {
+      pass = only.passes.0 0 j.pass (omega arith);
+      headers = only.headers ∙ sym cells;
+      cells = cells;
+      kinds = ap (λ (i : ScanState). length i.tally) only.is_new ∙ length-replicate (length s.table.now.table.kinds) 0;
+      roles = roles;
+      placed = placed;
+      sound = sound;
+    })
 
 module _ (s : ScanShared) (workers : ℕ) (js : List ScanState) (task : Task) (placed : IsPlaced s.table.now) (sound : IsSound s.table.now.table) (roles : AreRolesOf s.table.now.cells (length s.table.now.table.kinds) s.roles.now) (new : AreNewJobs workers s.table.now s.headers.now js) (some : 0 < workers) (few : workers ≤ 16) (fit : Contains (fit_tasks (shared_graph s) Owner) task) where
   abbrev lists : List (List Task)

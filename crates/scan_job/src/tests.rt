@@ -1,8 +1,8 @@
-ghost use Rattle.std.specs.Prelude.{◌≡◌, ◌<◌, ◌≤◌, length, IfSome, IfOk, IsSome};
+ghost use Rattle.std.specs.Prelude.{◌≡◌, ◌<◌, ◌≤◌, [], ◌∷◌, length, replicate, slice_set, IfSome, IfOk, OnOk, IsSome};
 ghost use Rattle.std.specs.List.{Contains};
 ghost use Rattle.heap_base.specs.declared.limits.TheConstants.{MOST_WORKERS};
 ghost use Rattle.graph_meaning.specs.Roles.{AreRolesOf};
-ghost use Rattle.object_table.specs.Placed.{id_in, IsPlaced};
+ghost use Rattle.object_table.specs.Placed.{id_in, IsPlaced, IsSound};
 ghost use Rattle.scan_job.specs.declared.mode.Mode.TheVariants.{Owner, TakeUp, Root};
 ghost use Rattle.scan_job.specs.Fit.{fit_tasks};
 ghost use Rattle.scan_job.specs.Jobs.{shared_graph};
@@ -66,26 +66,43 @@ fn cell(table: &ObjectTable, n: u32) -> Option<u32>
     }
 }
 
-// Roles by which the owner owns the ownee, and the orphan is an ownee whose owner was freed.
-fn roles(
-    alloc: Global,
-    table: &ObjectTable,
+/// The cells of the objects 1 to 4.
+#[derive(Clone, Copy)]
+struct Cells {
     owner: u32,
     ownee: u32,
+    node: u32,
     orphan: u32,
-) -> Result<Option<Roles>, OutOfMemory>
-    requires owner { IsSome (id_in table.now owner) }
-    requires ownee { IsSome (id_in table.now ownee) }
-    requires orphan { IsSome (id_in table.now orphan) }
+}
+
+fn named_cells(table: &ObjectTable) -> Option<Cells>
+    ensures owner { IfSome result (λ c. IsSome (id_in table.now c.owner)) }
+    ensures ownee { IfSome result (λ c. IsSome (id_in table.now c.ownee)) }
+    ensures node { IfSome result (λ c. IsSome (id_in table.now c.node)) }
+    ensures orphan { IfSome result (λ c. IsSome (id_in table.now c.orphan)) }
+{
+    Some(Cells {
+        owner: cell(table, 1)?,
+        ownee: cell(table, 2)?,
+        node: cell(table, 3)?,
+        orphan: cell(table, 4)?,
+    })
+}
+
+// Roles by which the owner owns the ownee, and the orphan is an ownee whose owner was freed.
+fn roles(alloc: Global, table: &ObjectTable, cells: Cells) -> Result<Option<Roles>, OutOfMemory>
+    requires owner { IsSome (id_in table.now cells.owner) }
+    requires ownee { IsSome (id_in table.now cells.ownee) }
+    requires orphan { IsSome (id_in table.now cells.orphan) }
     ensures { IfOk result (λ o. IfSome o (λ r. AreRolesOf table.now.cells (length table.now.table.kinds) r)) }
 {
-    if owner == ownee || ownee == orphan {
+    if cells.owner == cells.ownee || cells.ownee == cells.orphan {
         return Ok(None);
     }
     let mut roles = Roles::make(alloc, table.cells(), table.kinds())?;
-    roles.set_owner(ownee, OwnerRole::OwnerCell(owner));
-    roles.set_owner(orphan, OwnerRole::OwnerGone(9));
-    roles.add_owner(owner);
+    roles.set_owner(cells.ownee, OwnerRole::OwnerCell(cells.owner));
+    roles.set_owner(cells.orphan, OwnerRole::OwnerGone(9));
+    roles.add_owner(cells.owner);
     Ok(Some(roles))
 }
 
@@ -173,12 +190,15 @@ fn id_at(table: &ObjectTable, cells: &[u32], place: usize) -> u32 {
     }
 }
 
-// The cell of the task at this place.
-fn cell_put(tasks: &[Task], place: usize) -> u32 {
-    match tasks.get(place) {
-        Some(task) => task.cell,
-        None => u32::MAX,
+// The ids of the objects whose cells were put.
+fn ids_put(table: &ObjectTable, tasks: &[Task]) -> [u32; 3] {
+    let mut ids = [0; 3];
+    for place in 0..3 {
+        if let Some(task) = tasks.get(place) {
+            ids[place] = id_at(table, &[task.cell], 0);
+        }
     }
+    ids
 }
 
 /// Whether a cell is marked found, disputed and met by roots.
@@ -221,58 +241,63 @@ fn won_of(job: &ScanJob, table: &ObjectTable, kind: u32) -> u64
 }
 
 // What one job does with one task.
-fn scan(alloc: Global, table: &ObjectTable, mode: Mode) -> Result<Option<Seen>, OutOfMemory> {
-    let (Some(owner), Some(ownee), Some(node), Some(orphan)) = (
-        cell(table, 1),
-        cell(table, 2),
-        cell(table, 3),
-        cell(table, 4),
-    ) else {
-        return Ok(None);
-    };
-    let Some(roles) = roles(alloc, table, owner, ownee, orphan)? else {
-        return Ok(None);
-    };
-    let Some((headers, mut job)) = start(alloc, table)? else {
-        return Ok(None);
-    };
+fn scan_with(
+    alloc: Global,
+    table: &ObjectTable,
+    roles: &Roles,
+    headers: Headers,
+    mut job: ScanJob,
+    cells: Cells,
+    mode: Mode,
+) -> Result<Option<Seen>, OutOfMemory>
+    requires roles { AreRolesOf table.now.cells (length table.now.table.kinds) roles.now }
+    requires job { IsOnlyJob table.now headers job }
+    requires owner { IsSome (id_in table.now cells.owner) }
+    requires ownee { IsSome (id_in table.now cells.ownee) }
+    requires node { IsSome (id_in table.now cells.node) }
+    requires orphan { IsSome (id_in table.now cells.orphan) }
+{
+    let mut out = Outbox::make(alloc, table.cells() as u64)?;
     job.set_mode(mode);
     let shared = ScanShared {
         headers: &headers,
         table,
-        roles: &roles,
+        roles,
     };
-    let mut out = Outbox::make(alloc, table.cells() as u64)?;
-    let Some(task) = first_task(&shared, mode, owner) else {
+    let Some(task) = first_task(&shared, mode, cells.owner) else {
         return Ok(None);
     };
     job.work(&shared, task, &mut out);
-    let put = [
-        cell_put(out.tasks(), 0),
-        cell_put(out.tasks(), 1),
-        cell_put(out.tasks(), 2),
-    ];
+    let held = [id_at(table, job.held(), 0), id_at(table, job.held(), 1)];
     let won = [
         won_of(&job, table, 0),
         won_of(&job, table, 1),
         won_of(&job, table, 2),
     ];
-    let held = [id_at(table, job.held(), 0), id_at(table, job.held(), 1)];
     let mut passes = Vec::new(alloc);
     passes.push(job.into_pass())?;
     let words = headers.close(passes);
     Ok(Some(Seen {
-        put: [
-            id_at(table, &put, 0),
-            id_at(table, &put, 1),
-            id_at(table, &put, 2),
-        ],
+        put: ids_put(table, out.tasks()),
         held,
         won,
-        node: words.count(node),
-        ownee: marks_of(&words, ownee),
-        orphan: marks_of(&words, orphan),
+        node: words.count(cells.node),
+        ownee: marks_of(&words, cells.ownee),
+        orphan: marks_of(&words, cells.orphan),
     }))
+}
+
+fn scan(alloc: Global, table: &ObjectTable, mode: Mode) -> Result<Option<Seen>, OutOfMemory> {
+    let Some(cells) = named_cells(table) else {
+        return Ok(None);
+    };
+    let Some(roles) = roles(alloc, table, cells)? else {
+        return Ok(None);
+    };
+    match start(alloc, table)? {
+        Some((headers, job)) => scan_with(alloc, table, &roles, headers, job, cells, mode),
+        None => Ok(None),
+    }
 }
 
 #[test]
@@ -318,37 +343,48 @@ fn a_scan_meets_what_slots_lead_to(rt: HostRuntime) -> Result<(), Fail> {
     Ok(())
 }
 
-// What a job says of the root's cell, when it meets it once and again; whether nothing is held; and the room left.
-fn meet_root_twice(
-    alloc: Global,
+// What a job in mode Root answers where it meets a cell once and again, and how many cells it may win then.
+fn meet_twice(
     table: &ObjectTable,
-) -> Result<Option<(bool, bool, bool, u64)>, OutOfMemory> {
-    let (Some(owner), Some(ownee), Some(orphan)) = (cell(table, 1), cell(table, 2), cell(table, 4))
-    else {
-        return Ok(None);
-    };
-    let Some(roles) = roles(alloc, table, owner, ownee, orphan)? else {
-        return Ok(None);
-    };
-    let Some((headers, mut job)) = start(alloc, table)? else {
-        return Ok(None);
-    };
+    roles: &Roles,
+    headers: &Headers,
+    mut job: ScanJob,
+    cell: u32,
+) -> (bool, bool, u64)
+    requires roles { AreRolesOf table.now.cells (length table.now.table.kinds) roles.now }
+    requires job { IsOnlyJob table.now headers.now job }
+    requires cell { IsSome (id_in table.now cell) }
+    requires table { IsPlaced table.now × IsSound table.now.table }
+{
     job.set_mode(Mode::Root);
     let shared = ScanShared {
-        headers: &headers,
+        headers,
         table,
-        roles: &roles,
+        roles,
     };
-    let once = job.meet_root(&shared, ownee);
-    let again = job.turns() > 0 && job.meet_root(&shared, ownee);
-    Ok(Some((once, again, job.held().is_empty(), job.room())))
+    let once = job.meet_root(&shared, cell);
+    let again = job.turns() > 0 && job.meet_root(&shared, cell);
+    (once, again, job.room())
+}
+
+fn meet_root(alloc: Global, table: &ObjectTable) -> Result<Option<(bool, bool, u64)>, OutOfMemory> {
+    table.cells();
+    let Some(cells) = named_cells(table) else {
+        return Ok(None);
+    };
+    let Some(roles) = roles(alloc, table, cells)? else {
+        return Ok(None);
+    };
+    match start(alloc, table)? {
+        Some((headers, job)) => Ok(Some(meet_twice(table, &roles, &headers, job, cells.ownee))),
+        None => Ok(None),
+    }
 }
 
 #[test]
 fn a_root_is_won_once(rt: HostRuntime) -> Result<(), Fail> {
     let table = heap(rt.alloc())?;
-    let met = meet_root_twice(rt.alloc(), &table)?;
-    assert_eq!(rt; met, Some((true, false, true, 4)));
+    assert_eq!(rt; meet_root(rt.alloc(), &table)?, Some((true, false, 4)));
     Ok(())
 }
 
@@ -364,12 +400,7 @@ fn start_all(
     let (headers, mut passes) = Headers::make(alloc, table.cells(), workers)?;
     let mut jobs = Vec::new(alloc);
     while let Some(pass) = passes.pop() {
-        jobs.push(ScanJob::make(
-            alloc,
-            pass,
-            table.cells(),
-            table.kinds(),
-        )?)?;
+        jobs.push(ScanJob::make(alloc, pass, table.cells(), table.kinds())?)?;
     }
     Ok((headers, jobs))
 }
@@ -394,6 +425,38 @@ fn all_held(jobs: &[ScanJob]) -> usize {
     sum
 }
 
+// The task for the first worker, and none for the others.
+fn first_list(alloc: Global, workers: u32, task: Task) -> Result<FirstTasks, OutOfMemory>
+    requires { 0 < workers }
+    ensures { IfOk result (λ f. f.lists ≡ slice_set (replicate workers []) 0 (task ∷ [])) }
+{
+    let mut first = FirstTasks::make(alloc, workers, 1)?;
+    first.add(0, task);
+    Ok(first)
+}
+
+// A run of these jobs that begins with the owner's task.
+fn run_jobs<R: Threads + Sync>(
+    rt: &R,
+    alloc: Global,
+    shared: &ScanShared<'_>,
+    jobs: &mut Vec<ScanJob>,
+    workers: u32,
+    task: Task,
+) -> Result<(), OutOfMemory>
+    requires workers { (0 < workers) × (workers ≤ MOST_WORKERS) }
+    requires roles { AreRolesOf shared.now.table.now.cells (length shared.now.table.now.table.kinds) shared.now.roles.now }
+    requires jobs { AreNewJobs workers shared.now.table.now shared.now.headers.now jobs.old.items }
+    requires fit { Contains (fit_tasks (shared_graph shared.now) Owner) task }
+    ensures { OnOk result (CountKinds shared.now.table.now jobs.new.items) }
+{
+    let first = first_list(alloc, workers, task)?;
+    let room = shared.table.cells() as u64 + 2;
+    let mut crew: Crew<ScanJob> = Crew::make(alloc, workers, room)?;
+    crew.run(rt, shared, jobs, &first, &OpenGate);
+    Ok(())
+}
+
 // What all jobs of a crew won of each type, and how many cells they hold, after the scans from the owner.
 fn run<R: Threads + Sync>(
     rt: &R,
@@ -403,11 +466,10 @@ fn run<R: Threads + Sync>(
 ) -> Result<Option<([u64; 3], usize)>, OutOfMemory>
     requires { (0 < workers) × (workers ≤ MOST_WORKERS) }
 {
-    let (Some(owner), Some(ownee), Some(orphan)) = (cell(table, 1), cell(table, 2), cell(table, 4))
-    else {
+    let Some(cells) = named_cells(table) else {
         return Ok(None);
     };
-    let Some(roles) = roles(alloc, table, owner, ownee, orphan)? else {
+    let Some(roles) = roles(alloc, table, cells)? else {
         return Ok(None);
     };
     let (headers, mut jobs) = start_all(alloc, table, workers)?;
@@ -416,13 +478,10 @@ fn run<R: Threads + Sync>(
         table,
         roles: &roles,
     };
-    let Some(task) = owner_task(&shared, owner) else {
+    let Some(task) = owner_task(&shared, cells.owner) else {
         return Ok(None);
     };
-    let mut first = FirstTasks::make(alloc, workers, 1)?;
-    first.add(0, task);
-    let mut crew: Crew<ScanJob> = Crew::make(alloc, workers, table.cells() as u64 + 2)?;
-    crew.run(rt, &shared, &mut jobs, &first, &OpenGate);
+    run_jobs(rt, alloc, &shared, &mut jobs, workers, task)?;
     let won = [
         all_won(jobs.as_slice(), table, 0),
         all_won(jobs.as_slice(), table, 1),

@@ -13,4 +13,4 @@ invariant-loop-pass l = record {
 }
 
 abbrev pub decreases-loop-pass : goal.decreases-loop-pass
-decreases-loop-pass l = goal.left-loop-pass l
+decreases-loop-pass l = vec_len l.passes
