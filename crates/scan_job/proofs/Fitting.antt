@@ -1,5 +1,5 @@
 -- The list of fit tasks, and that what a fit task puts is fit.
-use Rattle.std.proofs.Common.{◌≡◌, ℕ, zero, suc, ◌+◌, ◌<◌, ◌≤◌, Bool, true, false, not, cond, ◌⊎◌, inl, inr, ⊎_elim, List, [], ◌∷◌, ◌++◌, length, get_or, filter, map, sym, refl, ap, ◌∙◌, subst, arith, ◌↔◌, eqb-true, eq-eqb, eqb}
+use Rattle.std.proofs.Common.{◌≡◌, ℕ, zero, suc, ◌<◌, Bool, true, false, not, cond, ◌⊎◌, inl, inr, ⊎_elim, List, [], ◌∷◌, ◌++◌, length, get_or, filter, map, sym, refl, ap, ◌∙◌, subst, arith, ◌↔◌, eqb-true, eq-eqb, eqb}
 use Rattle.std.specs.List.{flat_map, AllByRecursion, Contains}
 use Rattle.std.proofs.lemmas.Bool.{false≢true, or_cases, or_left, or_right, cases_Bool}
 use Rattle.heap_base.specs.declared.task.Task.{Task}

@@ -1,11 +1,10 @@
 -- A meeting with one cell, and meetings one after another.
-use Rattle.std.proofs.Common.{◌≡◌, ℕ, zero, suc, ◌+◌, ◌<◌, ◌≤◌, Bool, true, false, cond, ⊎_elim, List, [], ◌∷◌, ◌++◌, filter, map, length, get_or, set, sym, refl, ap, ◌∙◌, subst, arith, eqb, eqb-true, eq-eqb, append_assoc, append-nil, length-append, IsTrue, get_or-set_same, get_or-set_other}
+use Rattle.std.proofs.Common.{◌≡◌, ℕ, ◌+◌, ◌<◌, ◌≤◌, Bool, true, false, cond, ⊎_elim, List, [], ◌∷◌, ◌++◌, filter, map, length, get_or, set, sym, refl, ap, ◌∙◌, subst, arith, eqb, eqb-true, eq-eqb, append_assoc, append-nil, length-append, IsTrue, get_or-set_same, get_or-set_other}
 use Rattle.std.proofs.lemmas.Bool.{cases_eq, ne_eqb, or_cases, false≢true}
 use Rattle.std.proofs.lemmas.List.{map-append, length-map}
 use Rattle.std.proofs.lemmas.List.Elements.{filter-append}
 use Rattle.std.proofs.lemmas.Grind.{flat_map-append}
-use Rattle.heap_base.specs.declared.task.Task.{Task}
-use Rattle.heap_base.specs.Counting.{bit, total, IsOnce}
+use Rattle.heap_base.specs.Counting.{bit}
 use Rattle.heap_base.proofs.Counting.{total-append}
 use Rattle.graph_meaning.specs.Reach.{has_id}
 use Rattle.graph_meaning.proofs.Membership.{has_id-append, length-filter_le}

@@ -1,7 +1,7 @@
 -- The graph of a table and its roles: cells that hold objects, and what slots lead to.
-use Rattle.std.proofs.Common.{◌≡◌, ℕ, zero, suc, ◌+◌, ◌<◌, ◌≤◌, Bool, true, false, cond, ⊎_elim, List, [], ◌∷◌, ◌++◌, length, get_or, take, filter, sym, refl, ap, ◌∙◌, subst, arith, eqb, eqb-true, eq-eqb, append-nil, IsTrue, Option, None, Some, ltb}
-use Rattle.std.specs.Prelude.{IsSome, IfSome, is_some, option_and_then, unwrap_or, position, slice_get}
-use Rattle.std.specs.List.{filter_map, cons_option, find, sum_by, position_or_len, range_with_len}
+use Rattle.std.proofs.Common.{◌≡◌, ℕ, zero, suc, ◌+◌, ◌<◌, ◌≤◌, Bool, true, false, cond, ⊎_elim, List, [], ◌∷◌, ◌++◌, length, get_or, take, sym, refl, ap, ◌∙◌, subst, arith, eqb, eqb-true, eq-eqb, Option, None, Some, ltb}
+use Rattle.std.specs.Prelude.{IfSome, is_some, option_and_then, position, slice_get}
+use Rattle.std.specs.List.{filter_map, cons_option, sum_by, position_or_len, range_with_len}
 use Rattle.std.specs.Option.{option_map_or}
 use Rattle.std.specs.Str.{bytes_eq}
 use Rattle.std.proofs.lemmas.Bool.{cases_Bool, cases_lt, false≢true, or_cases, or_left, or_right, lt-ltb}
@@ -17,7 +17,7 @@ use Rattle.graph_meaning.specs.Heap.{Slot, Object, empty_slot, object_at, edge_o
 use Rattle.graph_meaning.specs.Reach.{has_id}
 use Rattle.graph_meaning.specs.Roles.{RoleTable, owner_in, AreRolesOf}
 use Rattle.object_table.specs.Placed.{Placed, id_in, object_in, slots_in, slot_in, IsPlaced, IsSound}
-use Rattle.scan_job.specs.Graphs.{StoppedGraph, IsWhole}
+use Rattle.scan_job.specs.Graphs.{IsWhole}
 use Rattle.scan_job.specs.Cells.{holds_id, cell_of, target_of, targets_of, kind_in, is_owned, is_owned_by, graph_of}
 use Rattle.scan_job.proofs.Numbers.{once-range, once-filter, in-range}
 use Rattle.scan_job.proofs.Reaching.{at-filter, filter-at}

@@ -1,5 +1,5 @@
 -- A scan under way: the first slots of a task's cell were met.
-use Rattle.std.proofs.Common.{◌≡◌, ℕ, zero, suc, ◌+◌, ◌<◌, ◌≤◌, ◌/◌, Bool, true, List, [], ◌∷◌, ◌++◌, length, take, get_or, sym, refl, ap, ◌∙◌, subst, arith, append_assoc, append-nil, length-append, length-take, Option, None, Some}
+use Rattle.std.proofs.Common.{◌≡◌, ℕ, ◌+◌, ◌<◌, ◌≤◌, ◌/◌, Bool, List, [], ◌∷◌, ◌++◌, length, take, get_or, sym, refl, ap, ◌∙◌, subst, arith, append_assoc, append-nil, length-append, length-take, Option, None, Some}
 use Rattle.std.specs.Prelude.{option_and_then, is_some}
 use Rattle.std.specs.List.{cons_option}
 use Rattle.std.proofs.Math.Seq.{take-length}
@@ -15,7 +15,7 @@ use Rattle.scan_job.specs.Scans.{Meeting, one_meeting, Meets, put_tasks, Works}
 use Rattle.scan_job.specs.States.{ScanState, IsWithinWins, room_of}
 use Rattle.scan_job.specs.Jobs.{IsReady, shared_graph}
 use Rattle.scan_job.proofs.Placing.{targets-more, length-targets, few-slots}
-use Rattle.scan_job.proofs.Meetings.{both_meetings, meets-none, meets-both, puts-both, length-puts, room-falls, won_of}
+use Rattle.scan_job.proofs.Meetings.{meets-none, meets-both, puts-both, length-puts, room-falls, won_of}
 
 -- A job and its outbox.
 pub record Worker : Type 0 where

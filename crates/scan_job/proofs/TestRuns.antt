@@ -1,15 +1,11 @@
 -- The tests' jobs may run in a crew.
-use Rattle.std.proofs.Common.{◌≡◌, ◌≢◌, ℕ, zero, suc, ◌+◌, ◌-◌, ◌*◌, ◌/◌, ◌^◌, ◌<◌, ◌≤◌, ⊎_elim, List, [], ◌∷◌, ◌++◌, length, get_or, set, replicate, sym, refl, ap, ◌∙◌, subst, arith, IsTrue}
-use Rattle.std.specs.Prelude.{IsSome}
-use Rattle.std.specs.List.{All, AllByRecursion, Contains}
+use Rattle.std.proofs.Common.{◌≡◌, ℕ, zero, suc, ◌+◌, ◌*◌, ◌<◌, ◌≤◌, ⊎_elim, List, [], ◌∷◌, ◌++◌, length, get_or, set, replicate, sym, refl, ap, ◌∙◌, subst, arith}
+use Rattle.std.specs.List.{All, Contains}
 use Rattle.std.proofs.lemmas.Bool.{cases_eq}
 use Rattle.std.proofs.lemmas.List.{length-replicate, length-set, get_or-set_same, get_or-set_other, get_or-replicate}
 use Rattle.heap_base.specs.declared.task.Task.{Task}
-use Rattle.heap_base.specs.declared.limits.TheConstants.{MOST_SLOTS, MOST_OBJECTS}
-use Rattle.heap_base.specs.Counting.{total}
 use Rattle.graph_meaning.specs.Roles.{AreRolesOf}
-use Rattle.header_rule.specs.Passes.{wins}
-use Rattle.object_table.specs.Placed.{Placed, IsPlaced, IsSound}
+use Rattle.object_table.specs.Placed.{IsPlaced, IsSound}
 use Rattle.steal_pool.specs.Hands.{blank}
 use Rattle.steal_pool.specs.Jobs.{AllFit}
 use Rattle.steal_pool.specs.Runs.{HaveRoom, most_tasks}
@@ -20,7 +16,7 @@ use Rattle.scan_job.specs.declared.shared.ScanShared.{ScanShared}
 use Rattle.scan_job.specs.Fit.{fit_tasks}
 use Rattle.scan_job.specs.Jobs.{shared_graph, IsReady, scan_meaning}
 use Rattle.scan_job.specs.States.{ScanState, room_of, turns_of}
-use Rattle.scan_job.specs.TestHeaps.{IsOnlyJob, IsNewJob, AreNewJobs}
+use Rattle.scan_job.specs.TestHeaps.{IsOnlyJob, AreNewJobs}
 use Rattle.scan_job.proofs.Fitting.{fit_tasks-is}
 use Rattle.scan_job.proofs.Placing.{is-whole, held-below, held-from_node}
 

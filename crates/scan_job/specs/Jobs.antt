@@ -1,5 +1,5 @@
 -- What a scan job means to a crew.
-use Rattle.std.specs.Prelude.{◌≡◌, ℕ, length}
+use Rattle.std.specs.Prelude.{◌≡◌, length}
 use Rattle.graph_meaning.specs.Roles.{AreRolesOf}
 use Rattle.header_rule.specs.Passes.{IsPassOf}
 use Rattle.object_table.specs.Placed.{IsPlaced, IsSound}

@@ -1,5 +1,5 @@
 -- What contracts see of a scan job.
-use Rattle.std.specs.Prelude.{◌≡◌, ℕ, ◌-◌, ◌/◌, ◌<◌, ◌≤◌, List, [], length, replicate, IsTrue, slice_index}
+use Rattle.std.specs.Prelude.{ℕ, ◌-◌, ◌/◌, ◌<◌, ◌≤◌, List, [], length, replicate, IsTrue, slice_index}
 use Rattle.heap_base.specs.declared.limits.TheConstants.{MOST_SLOTS}
 use Rattle.heap_base.specs.Counting.{IsOnce}
 use Rattle.graph_meaning.specs.Reach.{has_id}

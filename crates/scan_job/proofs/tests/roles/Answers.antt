@@ -1,7 +1,7 @@
-use Rattle.std.proofs.Common.{◌≡◌, ℕ, [], ◌∷◌, ◌++◌, length, set, sym, ap, ◌∙◌, subst}
+use Rattle.std.proofs.Common.{◌≡◌, [], ◌∷◌, ◌++◌, length, set, sym, ap, ◌∙◌, subst}
 use Rattle.graph_meaning.specs.declared.roles.OwnerRole.TheVariants.{OwnerCell, OwnerGone}
 use Rattle.graph_meaning.specs.Roles.{RoleTable, no_roles, AreRolesOf}
-use Rattle.scan_job.proofs.TestRoles.{test_roles, are-roles}
+use Rattle.scan_job.proofs.TestRoles.{are-roles}
 use Rattle.scan_job.proofs.tests.roles.Goals as goal
 
 pub returns : goal.returns

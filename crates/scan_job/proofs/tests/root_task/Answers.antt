@@ -1,4 +1,4 @@
-use Rattle.std.proofs.Common.{◌≡◌, ◌<◌, true, false, length, refl, ap, sym, ◌∙◌, not, arith}
+use Rattle.std.proofs.Common.{◌<◌, length, refl, ap, sym, ◌∙◌, not, arith}
 use Rattle.scan_job.specs.declared.mode.Mode.TheVariants.{Root}
 use Rattle.scan_job.specs.Jobs.{shared_graph}
 use Rattle.scan_job.proofs.Placing.{is-whole, root-there, held-from_node, held-below}

@@ -1,4 +1,4 @@
-use Rattle.std.proofs.Common.{◌≡◌, ◌≤◌, ℕ, List, sym, subst, arith}
+use Rattle.std.proofs.Common.{◌≤◌, List, sym, subst, arith}
 use Rattle.std.specs.List.{All}
 use Rattle.heap_base.specs.declared.task.Task.{Task}
 use Rattle.steal_pool.specs.Jobs.{AllFit}

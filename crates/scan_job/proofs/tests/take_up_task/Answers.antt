@@ -1,5 +1,4 @@
-use Rattle.std.proofs.Common.{◌≡◌, ◌-◌, ◌<◌, true, false, length, refl, ap, sym, ◌∙◌, not, arith}
-use Rattle.std.specs.Prelude.{is_some}
+use Rattle.std.proofs.Common.{◌-◌, ◌<◌, length, refl, ap, sym, ◌∙◌, not, arith}
 use Rattle.object_table.specs.Placed.{slots_in}
 use Rattle.scan_job.specs.declared.mode.Mode.TheVariants.{TakeUp}
 use Rattle.scan_job.specs.Jobs.{shared_graph}

@@ -1,4 +1,4 @@
-use Rattle.std.proofs.Common.{◌≡◌, ◌+◌, ◌≤◌, true, ◌∷◌, [], length, ap, arith, subst}
+use Rattle.std.proofs.Common.{length, ap, arith}
 use Rattle.scan_job.specs.Jobs.{shared_graph}
 use Rattle.scan_job.specs.Scans.{one_meeting}
 use Rattle.scan_job.proofs.Meetings.{room-falls}

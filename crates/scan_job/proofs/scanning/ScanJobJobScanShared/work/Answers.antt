@@ -1,4 +1,4 @@
-use Rattle.std.proofs.Common.{◌≡◌, ℕ, ◌<◌, ◌≤◌, length, subst, sym, ◌∙◌, arith}
+use Rattle.std.proofs.Common.{◌≡◌, ℕ, ◌<◌, length, subst, arith}
 use Rattle.object_table.specs.Placed.{slots_in}
 use Rattle.scan_job.specs.Scans.{put_tasks}
 use Rattle.scan_job.specs.Jobs.{shared_graph}
