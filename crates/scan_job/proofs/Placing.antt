@@ -1,9 +1,8 @@
 -- The graph of a table and its roles: cells that hold objects, and what slots lead to.
 use Rattle.std.proofs.Common.{◌≡◌, ℕ, zero, suc, ◌+◌, ◌<◌, ◌≤◌, Bool, true, false, cond, ⊎_elim, List, [], ◌∷◌, ◌++◌, length, get_or, take, sym, refl, ap, ◌∙◌, subst, arith, eqb, eqb-true, eq-eqb, Option, None, Some, ltb}
-use Rattle.std.specs.Prelude.{IfSome, is_some, option_and_then, position, slice_get}
+use Rattle.std.specs.Prelude.{IfSome, is_some, option_and_then, slice_get}
 use Rattle.std.specs.List.{filter_map, cons_option, sum_by, position_or_len, range_with_len}
 use Rattle.std.specs.Option.{option_map_or}
-use Rattle.std.specs.Str.{bytes_eq}
 use Rattle.std.proofs.lemmas.Bool.{cases_Bool, cases_lt, false≢true, or_cases, or_left, or_right, lt-ltb}
 use Rattle.std.proofs.lemmas.List.{take_more, get_or_past}
 use Rattle.std.proofs.lemmas.List.Elements.{filter_map-append}
@@ -16,9 +15,9 @@ use Rattle.graph_meaning.specs.declared.roles.OwnerRole.TheVariants.{NotOwned, O
 use Rattle.graph_meaning.specs.Heap.{Slot, Object, empty_slot, object_at, edge_of}
 use Rattle.graph_meaning.specs.Reach.{has_id}
 use Rattle.graph_meaning.specs.Roles.{RoleTable, owner_in, AreRolesOf}
-use Rattle.object_table.specs.Placed.{Placed, id_in, object_in, slots_in, slot_in, IsPlaced, IsSound}
+use Rattle.object_table.specs.Placed.{Placed, id_in, slots_in, slot_in, IsPlaced, IsSound}
 use Rattle.scan_job.specs.Graphs.{IsWhole}
-use Rattle.scan_job.specs.Cells.{holds_id, cell_of, target_of, targets_of, kind_in, is_owned, is_owned_by, graph_of}
+use Rattle.scan_job.specs.Cells.{holds_id, cell_of, target_of, targets_of, is_owned, is_owned_by, graph_of}
 use Rattle.scan_job.proofs.Numbers.{once-range, once-filter, in-range}
 use Rattle.scan_job.proofs.Reaching.{at-filter, filter-at}
 
@@ -110,25 +109,6 @@ module _ (p : Placed) where
       ap (targets_of p) (take_more xs i empty_slot within)
       ∙ filter_map-append (target_of p) (take i xs) (get_or xs i empty_slot ∷ [])
       ∙ ap (λ (t : Option ℕ). targets_of p (take i xs) ++ cons_option t []) (target-is placed (get_or xs i empty_slot) o e some)
-
-  -- ---- types
-
-  object-held : IsPlaced p → (cell : ℕ) → is_some (id_in p cell) ≡ true → is_some (object_in p cell) ≡ true
-  object-held placed cell held =
-      let id = some-held (id_in p cell) held in
-      ap (λ o. is_some (option_and_then (object_at p.table.objects) o)) id.1 ∙ placed.live cell id.0 id.1
-
-  pub kind-is : IsPlaced p → (cell kind : ℕ) → is_some (id_in p cell) ≡ true → IfSome (object_in p cell) (λ o. position (bytes_eq o.kind) p.table.kinds ≡ Some kind) → kind_in p cell ≡ Some kind
-  kind-is placed cell kind held is = go (object_in p cell) (object-held placed cell held) is
-    where
-      go : (o : Option Object) → is_some o ≡ true → IfSome o (λ o. position (bytes_eq o.kind) p.table.kinds ≡ Some kind) → option_and_then (λ o. position (bytes_eq o.kind) p.table.kinds) o ≡ Some kind
-      go None some is = absurd (false≢true some)
-      go (Some o) some is = is
-
-  pub kind-below : (cell kind : ℕ) → kind_in p cell ≡ Some kind → kind < length p.table.kinds
-  kind-below cell kind e =
-      option_and_then_some (λ o. position (bytes_eq o.kind) p.table.kinds) (object_in p cell) kind e
-      (λ o is there. (position-Some (bytes_eq o.kind) p.table.kinds kind [] there).0)
 
   -- ---- limits
 

@@ -4,4 +4,5 @@ pub mod States
 pub mod Scans
 pub mod Fit
 pub mod Jobs
+pub mod Laws
 pub mod TestHeaps

@@ -74,8 +74,12 @@ task_at tag cell = record { cell = cell; tag = tag }
 abbrev pub put_tasks : StoppedGraph → Mode → Meeting → List Task
 put_tasks g mode m = map (task_at m.tag) (filter (is_put g mode) m.won)
 
--- The job j met what the slots of the task's cell lead to, each slot once and in order, became k and put these tasks.
+-- the meeting with what the slots of the task's cell lead to, each slot once and in order
+abbrev pub scan_meeting : StoppedGraph → Task → List ℕ → Meeting
+scan_meeting g t won = record { tag = t.tag; cells = g.targets t.cell; won = won }
+
+-- The job j did the task, became k and put these tasks.
 pub record Works (g : StoppedGraph) (j : ScanState) (t : Task) (k : ScanState) (put : List Task) : Type 0 where
   pub won : List ℕ
-  pub meets : Meets g (record { tag = t.tag; cells = g.targets t.cell; won = won }) j k
-  pub puts : put ≡ put_tasks g j.mode (record { tag = t.tag; cells = g.targets t.cell; won = won })
+  pub meets : Meets g (scan_meeting g t won) j k
+  pub puts : put ≡ put_tasks g j.mode (scan_meeting g t won)

@@ -3,6 +3,7 @@
 #![tactic(auto)]
 
 mod job;
+mod laws;
 mod meeting;
 mod mode;
 mod scanning;
@@ -11,5 +12,9 @@ mod shared;
 mod tests;
 
 pub use job::ScanJob;
+pub use laws::{
+    a_table_with_roles_is_a_whole_graph, an_owner_finds_by_a_path, the_list_holds_the_fit_tasks,
+    under_owners_is_by_a_path,
+};
 pub use mode::Mode;
 pub use shared::ScanShared;
