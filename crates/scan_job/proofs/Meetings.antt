@@ -1,0 +1,92 @@
+-- A meeting with one cell, and meetings one after another.
+use Rattle.std.proofs.Common.{◌≡◌, ℕ, ◌+◌, ◌<◌, ◌≤◌, Bool, true, false, cond, ⊎_elim, List, [], ◌∷◌, ◌++◌, filter, map, length, sym, refl, ap, ◌∙◌, arith, eqb, eqb-true, append_assoc, append-nil, length-append, IsTrue}
+use Rattle.std.proofs.lemmas.Bool.{or_cases, false≢true}
+use Rattle.std.proofs.lemmas.List.{map-append, length-map}
+use Rattle.std.proofs.lemmas.List.Elements.{filter-append}
+use Rattle.std.proofs.lemmas.Grind.{flat_map-append}
+use Rattle.heap_base.specs.Counting.{bit}
+use Rattle.heap_base.proofs.Counting.{total-append}
+use Rattle.graph_meaning.specs.Reach.{has_id}
+use Rattle.graph_meaning.proofs.Membership.{has_id-append, length-filter_le}
+use Rattle.header_rule.specs.Passes.{adds, wins, marks}
+use Rattle.scan_job.specs.declared.mode.Mode.{Mode}
+use Rattle.scan_job.specs.Graphs.{StoppedGraph}
+use Rattle.scan_job.specs.Scans.{Meeting, is_held, is_put, marks_on, all_marks, Meets, task_at, put_tasks}
+use Rattle.scan_job.specs.States.{ScanState, IsWithinWins, room_of}
+use Rattle.scan_job.proofs.Numbers.{few-below}
+
+-- the cell, where it was won
+abbrev pub won_of : Bool → ℕ → List ℕ
+won_of won cell = cond won (cell ∷ []) []
+
+-- ---- one cell
+
+pub below-won : (ws : List ℕ) (cells cell : ℕ) (won : Bool) → ((x : ℕ) → IsTrue (has_id ws x) → x < cells) → cell < cells → (x : ℕ) → IsTrue (has_id (cond won (ws ++ cell ∷ []) ws) x) → x < cells
+below-won ws cells cell false below less x at = below x at
+below-won ws cells cell true below less x at =
+    ⊎_elim
+    (λ here. below x here)
+    (λ there. ⊎_elim (λ e. let same = eqb-true cell x e in omega arith) (λ e. absurd (false≢true e)) (or_cases _ _ there))
+    (or_cases _ _ (sym (has_id-append ws (cell ∷ []) x) ∙ at))
+
+pub few-wins : (j : ScanState) → IsWithinWins j → length (wins j.pass) ≤ j.cells
+few-wins j w = few-below j.cells (wins j.pass) w.once w.below
+
+-- ---- one after another
+
+abbrev pub both_meetings : Meeting → Meeting → Meeting
+both_meetings m n = record { tag = m.tag; cells = m.cells ++ n.cells; won = m.won ++ n.won }
+
+abbrev pub no_meeting : ℕ → Meeting
+no_meeting tag = record { tag = tag; cells = []; won = [] }
+
+module _ (g : StoppedGraph) where
+  pub meets-none : (j : ScanState) (tag : ℕ) → Meets g (no_meeting tag) j j
+  meets-none j tag = record {
+    mode = refl;
+    number = refl;
+    cells = refl;
+    kinds = refl;
+    adds = sym (append-nil _);
+    wins = sym (append-nil _);
+    among = λ f. omega arith;
+    marks = sym (append-nil _);
+    held = sym (append-nil _);
+    tally = λ n. omega arith;
+  }
+
+  pub meets-both : (m n : Meeting) (j i k : ScanState) → n.tag ≡ m.tag → Meets g m j i → Meets g n i k → Meets g (both_meetings m n) j k
+  meets-both m n j i k same p q = record {
+    mode = q.mode ∙ p.mode;
+    number = q.number ∙ p.number;
+    cells = q.cells ∙ p.cells;
+    kinds = q.kinds ∙ p.kinds;
+    adds = q.adds ∙ ap (λ zs. zs ++ n.cells) p.adds ∙ append_assoc (adds j.pass) m.cells n.cells;
+    wins = q.wins ∙ ap (λ zs. zs ++ n.won) p.wins ∙ append_assoc (wins j.pass) m.won n.won;
+    among = λ f. (let a = p.among f in let b = q.among f in let c = total-append f m.won n.won in let d = total-append f m.cells n.cells in omega arith);
+    marks = q.marks ∙ (λ x. p.marks x ++ all_marks g (p.mode x) (record { tag = same x; cells = n.cells; won = n.won })) ∙ append_assoc (marks j.pass) (all_marks g j.mode m) _ ∙ ap (λ zs. marks j.pass ++ zs) (sym (flat_map-append (marks_on g j.mode m.tag) m.cells n.cells));
+    held = q.held ∙ (λ x. p.held x ++ filter (is_held g (p.mode x)) n.won) ∙ append_assoc j.held (filter (is_held g j.mode) m.won) (filter (is_held g j.mode) n.won) ∙ ap (λ zs. j.held ++ zs) (sym (filter-append (is_held g j.mode) m.won n.won));
+    tally = λ kind. (let a = p.tally kind in let b = q.tally kind in let c = total-append (λ x. bit (eqb (g.kind x) kind)) m.won n.won in omega arith);
+  }
+
+  -- the tasks that come of both
+  pub puts-both : (mode : Mode) (m n : Meeting) → n.tag ≡ m.tag → put_tasks g mode (both_meetings m n) ≡ put_tasks g mode m ++ put_tasks g mode n
+  puts-both mode m n same =
+      ap (map (task_at m.tag)) (filter-append (is_put g mode) m.won n.won)
+      ∙ map-append (task_at m.tag) (filter (is_put g mode) m.won) (filter (is_put g mode) n.won)
+      ∙ (λ x. map (task_at m.tag) (filter (is_put g mode) m.won) ++ map (task_at (sym same x)) (filter (is_put g mode) n.won))
+
+  pub length-puts : (mode : Mode) (m : Meeting) → length (put_tasks g mode m) ≤ length m.won
+  length-puts mode m =
+      let a = length-map (filter (is_put g mode) m.won) (task_at m.tag) in
+      let b = length-filter_le (is_put g mode) m.won in
+      omega arith
+
+  -- each win leaves room for one fewer
+  pub room-falls : (m : Meeting) (j k : ScanState) → Meets g m j k → IsWithinWins k → room_of k + length m.won ≤ room_of j
+  room-falls m j k p w =
+      let few = few-wins k w in
+      let more = ap length p.wins in
+      let sum = length-append (wins j.pass) m.won in
+      let cells = p.cells in
+      omega arith

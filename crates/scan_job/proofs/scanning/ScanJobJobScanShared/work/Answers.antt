@@ -1,0 +1,72 @@
+use Rattle.std.proofs.Common.{◌≡◌, ℕ, ◌<◌, length, subst, arith}
+use Rattle.object_table.specs.Placed.{slots_in}
+use Rattle.scan_job.specs.Scans.{put_tasks}
+use Rattle.scan_job.specs.Jobs.{shared_graph}
+use Rattle.scan_job.proofs.Placing.{held-from_node, is-whole}
+use Rattle.scan_job.proofs.Fitting.{fit_tasks-is, fit-node, puts-fit}
+use Rattle.scan_job.proofs.SlotSteps.{HasScanned, scan-begins, room-left, left-for-slot, scan-passes, scan-meets, all_slots, scan-works, scan-room, scan-turns}
+use Rattle.scan_job.proofs.scanning.ScanJobJobScanShared.work.Goals as goal
+use Rattle.scan_job.proofs.scanning.ScanJobJobScanShared.work.Goals.{in-Some, in_default}
+
+pub slots_at-slot-end-requires : goal.slots_at-slot-end-requires
+slots_at-slot-end-requires c =
+    let s = c.args.shared.now in
+    let j = c.args.self.now in
+    let g = shared_graph s in
+    let whole = is-whole s.table.now s.roles.now c.requires.ready.roles in
+    let fits = (fit_tasks-is g whole j.mode c.args.task).0 c.requires.fit in
+    record { taken = held-from_node s.table.now s.roles.now c.args.task.cell (fit-node g whole j.mode c.args.task fits) }
+
+pub loop-slot-init : goal.loop-slot-init
+loop-slot-init c =
+    scan-begins c.args.shared.now c.args.task (record { job = c.args.self.now; out = c.args.out.now }) c.requires.ready
+
+pub meet_and_put-requires-clause-left : goal.meet_and_put-requires-clause-left
+meet_and_put-requires-clause-left c =
+    let within : c.loop-slot.slot < length (slots_in c.args.shared.now.table.now c.args.task.cell) = (let e = c.slots_at-slot-end.ensures.count in let t = c.loop-slot-test.true in omega arith) in
+    left-for-slot c.args.shared.now c.args.task c.loop-slot.slot _ _ c.loop-slot.invariant within c.requires.turns
+
+pub meet_and_put-requires-clause-spare : goal.meet_and_put-requires-clause-spare
+meet_and_put-requires-clause-spare c =
+    room-left c.args.shared.now c.args.task c.loop-slot.slot _ _ c.loop-slot.invariant c.requires.spare
+
+pub loop-slot-preserved : goal.loop-slot-preserved
+loop-slot-preserved c =
+    let s = c.args.shared.now in
+    let t = c.args.task in
+    let i : ℕ = c.loop-slot.slot in
+    let within : i < length (slots_in s.table.now t.cell) = (let e = c.slots_at-slot-end.ensures.count in let e2 = c.loop-slot-test.true in omega arith) in
+    elim c.match-slot_at.branch [
+      | in-Some w ↦
+          rw (w.self-is, w.out-is)
+          (scan-meets s t i (record { job = c.args.self.now; out = c.args.out.now }) (record { job = c.loop-slot.self; out = c.loop-slot.out }) c.loop-slot.invariant c.slot_at.result within c.slot_at.ensures.leads c.slot_at.ensures.in_a_cell w.in-Some.cell w.meet_and_put.result (record { job = w.meet_and_put.new.self; out = w.meet_and_put.new.out }) w.in-Some.is w.meet_and_put.ensures.meets w.meet_and_put.ensures.within_wins w.meet_and_put.ensures.ready w.meet_and_put.ensures.puts w.meet_and_put.ensures.outbox)
+      | in_default w ↦
+          rw (w.self-is, w.out-is)
+          (scan-passes s t i (record { job = c.args.self.now; out = c.args.out.now }) (record { job = c.loop-slot.self; out = c.loop-slot.out }) c.loop-slot.invariant c.slot_at.result within c.slot_at.ensures.leads c.slot_at.ensures.in_a_cell w.in_default.is)
+    ]
+
+pub returns-clause-puts : goal.returns-clause-puts
+returns-clause-puts c =
+    let s = c.args.shared.now in
+    let t = c.args.task in
+    let j = c.args.self.now in
+    let k = c.loop-slot.self in
+    let g = shared_graph s in
+    let done : c.loop-slot.slot ≡ length (slots_in s.table.now t.cell) = (let e = c.slots_at-slot-end.ensures.count in let e2 = c.loop-slot-test.false in let e3 = c.loop-slot.auto.slot-end in omega arith) in
+    let p = subst (λ (n : ℕ). HasScanned s t n (record { job = j; out = c.args.out.now }) (record { job = k; out = c.loop-slot.out })) done c.loop-slot.invariant in
+    let put = put_tasks g j.mode (all_slots s t _ _ p) in
+    let works = scan-works s t _ _ p in
+    record {
+      put = put;
+      tasks = p.tasks;
+      works = works;
+      are_fit = puts-fit g j t k put (is-whole s.table.now s.roles.now c.requires.ready.roles) works c.requires.fit;
+      room = scan-room s t _ _ p;
+    }
+
+pub returns-clause-turns : goal.returns-clause-turns
+returns-clause-turns c =
+    let s = c.args.shared.now in
+    let t = c.args.task in
+    let done : c.loop-slot.slot ≡ length (slots_in s.table.now t.cell) = (let e = c.slots_at-slot-end.ensures.count in let e2 = c.loop-slot-test.false in let e3 = c.loop-slot.auto.slot-end in omega arith) in
+    scan-turns s t (record { job = c.args.self.now; out = c.args.out.now }) (record { job = c.loop-slot.self; out = c.loop-slot.out }) (subst (λ (n : ℕ). HasScanned s t n (record { job = c.args.self.now; out = c.args.out.now }) (record { job = c.loop-slot.self; out = c.loop-slot.out })) done c.loop-slot.invariant)

@@ -1,0 +1,20 @@
+//! A scan: a job that meets what the slots of an object lead to, and counts, holds or puts what it wins, in three
+//! modes, one for each phase of a trace.
+#![tactic(auto)]
+
+mod job;
+mod laws;
+mod meeting;
+mod mode;
+mod scanning;
+mod shared;
+#[cfg(test)]
+mod tests;
+
+pub use job::ScanJob;
+pub use laws::{
+    a_table_with_roles_is_a_whole_graph, an_owner_finds_by_a_path, the_list_holds_the_fit_tasks,
+    under_owners_is_by_a_path,
+};
+pub use mode::Mode;
+pub use shared::ScanShared;
