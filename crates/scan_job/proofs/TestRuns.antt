@@ -6,7 +6,6 @@ use Rattle.std.proofs.lemmas.List.{length-replicate, length-set, get_or-set_same
 use Rattle.heap_base.specs.declared.task.Task.{Task}
 use Rattle.graph_meaning.specs.Roles.{AreRolesOf}
 use Rattle.object_table.specs.Placed.{IsPlaced, IsSound}
-use Rattle.steal_pool.specs.Hands.{blank}
 use Rattle.steal_pool.specs.Jobs.{AllFit}
 use Rattle.steal_pool.specs.Runs.{HaveRoom, most_tasks}
 use Rattle.steal_pool.specs.Runs as Runs
@@ -17,8 +16,6 @@ use Rattle.scan_job.specs.Fit.{fit_tasks}
 use Rattle.scan_job.specs.Jobs.{shared_graph, IsReady, scan_meaning}
 use Rattle.scan_job.specs.States.{ScanState, room_of, turns_of}
 use Rattle.scan_job.specs.TestHeaps.{IsOnlyJob, AreNewJobs}
-use Rattle.scan_job.proofs.Fitting.{fit_tasks-is}
-use Rattle.scan_job.proofs.Placing.{is-whole, held-below, held-from_node}
 
 -- one worker has a list, and the others have none
 all-first : {X : Type 0} (P : List X → Type 0) (n : ℕ) (x : List X) → P [] → P x → All P (set (replicate n []) 0 x)
@@ -82,14 +79,6 @@ module _ (s : ScanShared) (workers : ℕ) (js : List ScanState) (task : Task) (p
   runs-first_fit =
       subst (λ ts. All (AllFit ts) lists) (sym runs-fit_tasks)
       (all-first (AllFit (fit_tasks (shared_graph s) Owner)) workers (task ∷ []) tt (fit, tt))
-
-  pub runs-blank : Contains (Runs.fit_tasks scan_meaning s js) blank → ⊥
-  runs-blank c =
-      let whole = is-whole s.table.now s.roles.now roles in
-      let fits = (fit_tasks-is (shared_graph s) whole Owner blank).0 (subst (λ ts. Contains ts blank) runs-fit_tasks c) in
-      let low = held-below s.table.now 4294967295 (held-from_node s.table.now s.roles.now 4294967295 (whole.owners 4294967295 fits.0)) in
-      let most = placed.few in
-      absurd (omega arith)
 
   short : All (λ f. length f ≤ 1) lists
   short = all-first (λ f. length f ≤ 1) workers (task ∷ []) (omega arith) (omega arith)
