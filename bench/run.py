@@ -86,6 +86,42 @@ def names(n):
     yield '{"op":"collect"}\n'
 
 
+def long_names(n):
+    """65,000 types whose names are as long as a name may be, and differ in their last bytes only.
+
+    It is the worst for a map that goes by the order of names: each comparison reads two names to their ends.
+    """
+    prefix = "n" * (256 - 8)
+    for i in range(1, n + 1):
+        yield alloc(i, f"{prefix}{(i * 7919) % 65000:08}")
+    yield '{"op":"collect"}\n'
+
+
+def lone_roots(n):
+    """Root names set in rising order, of which 255 of each 256 are taken away again: few are left, far apart."""
+    yield alloc(1, "Shared", 0)
+    for i in range(n):
+        yield f'{{"op":"root","name":"name-{i:08}","to":1}}\n'
+        if i % 256:
+            yield f'{{"op":"root","name":"name-{i:08}","to":null}}\n'
+    yield '{"op":"collect"}\n'
+
+
+def service(n):
+    """Requests that come and go over a heap of 50,000 objects that stays; a collection after each 2,000 operations."""
+    stays = 50_000
+    yield alloc(1, "Node", 3)
+    yield '{"op":"root","name":"top","to":1}\n'
+    for i in range(2, stays + 1):
+        yield alloc(i, "Node", 3)
+        yield store(i // 2, i % 2, i)
+    for i in range(n // 2):
+        yield alloc(stays + 1 + i, f"Request{i % 50}", 1)
+        yield store(1 + i * 7919 % stays, 2, stays + 1 + i)
+        if i % 1_000 == 999:
+            yield '{"op":"collect"}\n'
+
+
 def watch_memory(child, peaks):
     """Appends the process's peak of resident memory, in KiB, every 2 ms until it ends.
 
@@ -139,7 +175,7 @@ def main():
     if plain is None:
         print("bench/plain_rust can't be built here: its column stays empty")
     scale = 10 if "--small" in sys.argv else 1
-    shapes = [(chain, 200_000), (tree, 250_000), (sparse, 250_000), (collections, 150_000), (roots, 250_000), (names, 250_000)]
+    shapes = [(chain, 200_000), (tree, 250_000), (sparse, 250_000), (collections, 150_000), (roots, 250_000), (names, 250_000), (long_names, 130_000), (lone_roots, 130_000), (service, 100_000)]
     print(f'{"trace":<12} {"lines":>9} {"MB":>6} {"lines/s":>10} {"MB/s":>6} {"peak MB":>8} {"x wc -l":>8} {"x plain Rust":>12} {"x only read":>11} {"twice":>6}  end')
     with tempfile.TemporaryDirectory() as folder:
         for shape, size in shapes:
