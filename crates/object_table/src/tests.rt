@@ -137,70 +137,6 @@ fn slots_lead_to_cells(rt: HostRuntime) -> Result<(), Fail> {
     Ok(())
 }
 
-/// What a slot holds, what it leads to, and whether it is weak.
-#[derive(Clone, Copy, Debug, PartialEq, Eq)]
-struct SeenSlot {
-    held: Option<u32>,
-    leads: Option<u32>,
-    weak: bool,
-}
-
-fn look_at(table: &ObjectTable, at: ObjId, slot: u32) -> Option<SeenSlot> {
-    let cell = table.cell_of(at)?;
-    if slot >= table.slots_at(cell) {
-        return None;
-    }
-    Some(SeenSlot {
-        held: table.held_at(cell, slot),
-        leads: table.slot_at(cell, slot),
-        weak: table.weak_at(cell, slot),
-    })
-}
-
-#[test]
-fn weak_slots_are_no_edges(rt: HostRuntime) -> Result<(), Fail> {
-    let mut table = table_of(rt.alloc(), &[1, 2], 1)?;
-    let (one, two) = (id(1)?, id(2)?);
-    let held = table.cell_of(two);
-    table.store(one, 0, Some(two))?;
-    for weak in [true, false, true] {
-        table.set_weak(one, 0, weak)?;
-        let leads = if weak { None } else { held };
-        assert_eq!(rt;
-            look_at(&table, one, 0),
-            Some(SeenSlot { held, leads, weak })
-        );
-    }
-    assert_eq!(rt; table.set_weak(one, 1, true), Err(Refusal::BadSlot(1)));
-    let three = id(3)?;
-    assert_eq!(rt; table.set_weak(three, 1, true), Err(Refusal::NotLive(3)));
-    Ok(())
-}
-
-// How many objects with the numbers below this one stand in a cell that holds them.
-fn placed(table: &ObjectTable, below: u32) -> Result<u32, Fail> {
-    let mut count = 0u32;
-    for number in 1..below {
-        let object = id(number)?;
-        if let Some(cell) = table.cell_of(object) {
-            count = count.saturating_add((table.id_at(cell) == Some(object)) as u32);
-        }
-    }
-    Ok(count)
-}
-
-#[test]
-fn objects_stand_in_many_pages(rt: HostRuntime) -> Result<(), Fail> {
-    let mut table = ObjectTable::make(rt.alloc())?;
-    let kind = name(rt.alloc(), "A")?;
-    for number in 1..3_001u32 {
-        table.alloc_object(id(number)?, &kind, 0)?;
-    }
-    assert_eq!(rt; placed(&table, 3_001)?, 3_000);
-    assert_eq!(rt; (table.live(), table.cells()), (3_000, 3_000));
-    Ok(())
-}
-
 #[test]
 fn roots_stand_by_their_bytes(rt: HostRuntime) -> Result<(), Fail> {
     let mut table = table_of(rt.alloc(), &[1], 0)?;
@@ -267,28 +203,5 @@ fn many_roots_stand_in_order(rt: HostRuntime) -> Result<(), Fail> {
         table.set_root(&numbered(rt.alloc(), scattered(2 * half + 1))?, None)?;
     }
     assert_eq!(rt; table.roots(), 0);
-    Ok(())
-}
-
-#[test]
-fn few_roots_of_many_stand_in_order(rt: HostRuntime) -> Result<(), Fail> {
-    let mut table = table_of(rt.alloc(), &[1, 2], 0)?;
-    for number in 0..4_096u32 {
-        let name = numbered(rt.alloc(), number)?;
-        table.set_root(&name, Some(id(1 + number % 2)?))?;
-    }
-    for number in 0..4_096u32 {
-        if number % 256 != 0 {
-            table.set_root(&numbered(rt.alloc(), number)?, None)?;
-        }
-    }
-    assert_eq!(rt; table.roots(), 16);
-    assert!(rt; stand_in_order(rt.alloc(), &table, 0, 256)?);
-    for number in 0..4_096u32 {
-        let name = numbered(rt.alloc(), number)?;
-        table.set_root(&name, Some(id(1 + number % 2)?))?;
-    }
-    assert_eq!(rt; table.roots(), 4_096);
-    assert!(rt; stand_in_order(rt.alloc(), &table, 0, 1)?);
     Ok(())
 }
