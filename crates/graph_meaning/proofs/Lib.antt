@@ -10,6 +10,7 @@ pub mod Membership
 pub mod Orders
 pub mod Reaching
 pub mod Rising
+pub mod Showing
 pub mod Tracing
 pub mod Ways
 pub mod Weak

@@ -9,9 +9,10 @@ use Rattle.graph_meaning.specs.declared.event.Event.TheVariants.{SetWeak}
 use Rattle.graph_meaning.specs.Heap.{Slot, Table, Heap, empty_heap, name_cmp, ids, is_live, slot_count, edges, targets}
 use Rattle.graph_meaning.specs.Reach.{has_id, IsPath, reached_nodes, distance}
 use Rattle.graph_meaning.specs.Assertions.{open_graph, object_graph, root_ids, is_owner, is_owned, is_border, finds, under_owners, root_traced, is_traced, is_met, references, reference_count}
-use Rattle.graph_meaning.specs.Paths.{Way, way_ends, root_ways, owner_ways, canonical_way, plain_way, unowned_way, IsWay}
+use Rattle.graph_meaning.specs.Paths.{Way, way_ends, root_ways, owner_ways, canonical_way, plain_way, unowned_way, view_of, IsWay}
 use Rattle.graph_meaning.specs.Collecting.{Rules, violating_dead, after_sweep, after_collection}
 use Rattle.graph_meaning.specs.Step.{step}
+use Rattle.graph_meaning.specs.Views.{heap_view, has_start, is_path}
 
 -- ---- in terms of paths
 
@@ -179,3 +180,11 @@ ForceCutsOff =
 abbrev pub RefsAreBounded : Type 0
 RefsAreBounded =
     (h : Heap) → IdsRise h.table → IsWithinLimits h.table → sum_by (reference_count h) (ids h.table) ≤ MOST_ROOTS + MOST_SLOTS
+
+-- ---- what is shown
+
+-- What a path through the table shows is a path through what is shown of the table, where it starts in it and all that
+-- slots hold is live.
+abbrev pub WaysAreShownAsPaths : Type 0
+WaysAreShownAsPaths =
+    (t : Table) (w : Way) → All (λ o. All (HoldsLive t) o.slots) t.objects → IsTrue (has_start (heap_view t) w.from) → IsWay t w → IsTrue (is_path (heap_view t) (view_of w))

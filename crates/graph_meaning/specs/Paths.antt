@@ -37,9 +37,13 @@ owner_way t x = record { from = Owner x (kind_at t x); steps = []; to = x }
 abbrev pub root_ways : Table → List Way
 root_ways t = map (root_way t) t.roots
 
+-- the edges of these objects, each object's by the slot: each edge as one step from its object
+abbrev pub ways_from : Table → List ℕ → List Way
+ways_from t owners = flat_map (λ o. map (way_by_edge t (owner_way t o)) (edges t o)) owners
+
 -- the edges of the owners, by the owner's id and then the slot
 abbrev pub owner_ways : Heap → List Way
-owner_ways h = flat_map (λ o. map (way_by_edge h.table (owner_way h.table o)) (edges h.table o)) (owner_ids h)
+owner_ways h = ways_from h.table (owner_ids h)
 
 -- ---- canonical paths
 

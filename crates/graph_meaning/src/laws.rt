@@ -1,4 +1,4 @@
-ghost use Rattle.graph_meaning.specs.Laws.{CanonicalExists, CanonicalIsShortest, CanonicalIsWay, FindsByPath, ForceCutsOff, HeapsAreOrdered, HeapsReferToLive, IdsAlwaysRise, KeepsEdges, KeepsTraced, LimitsAreKept, MetHasLevel, MetHasPath, PlainLeavesSwept, RefsAreBounded, RootTracedByPath, SourcesAreWays, TracedHasPath, TracedIsReached, TracedIsReferredTo, UnderOwnersByPath, WeakOnlyByOperation};
+ghost use Rattle.graph_meaning.specs.Laws.{CanonicalExists, CanonicalIsShortest, CanonicalIsWay, FindsByPath, ForceCutsOff, HeapsAreOrdered, HeapsReferToLive, IdsAlwaysRise, KeepsEdges, KeepsTraced, LimitsAreKept, MetHasLevel, MetHasPath, PlainLeavesSwept, RefsAreBounded, RootTracedByPath, SourcesAreWays, TracedHasPath, TracedIsReached, TracedIsReferredTo, UnderOwnersByPath, WaysAreShownAsPaths, WeakOnlyByOperation};
 ghost use Rattle.graph_meaning.specs.Reach.{DistanceIsShortest, ReachedByPath};
 
 /// What is computed round by round is what paths lead to.
@@ -119,4 +119,9 @@ pub fn without_force_the_sweep_is_left()
 /// A slot is weak only where an operation made it weak.
 pub fn slots_are_weak_only_by_an_operation()
     ensures { WeakOnlyByOperation }
+{}
+
+/// What is shown of a path through a table is a path through what is shown of the table.
+pub fn a_shown_path_is_a_path()
+    ensures { WaysAreShownAsPaths }
 {}

@@ -10,6 +10,7 @@ mod lists;
 mod paths;
 mod refusal;
 mod roles;
+mod shown_paths;
 #[cfg(test)]
 mod tests;
 mod views;
@@ -36,7 +37,7 @@ pub use laws::{
     a_canonical_path_is_a_path, a_canonical_path_is_a_shortest,
     a_canonical_path_is_there_where_there_is_a_path, a_collection_keeps_edges,
     a_collection_keeps_what_is_traced, a_distance_is_that_of_a_shortest_path, a_heap_is_in_order,
-    a_heap_is_within_its_limits, an_object_is_traced_by_owners_or_by_roots,
+    a_heap_is_within_its_limits, a_shown_path_is_a_path, an_object_is_traced_by_owners_or_by_roots,
     an_object_is_traced_where_it_has_references, an_ownee_is_met_where_it_has_a_level,
     an_owner_finds_by_a_path, force_leaves_no_reference, reached_is_reached_by_a_path,
     references_are_bounded, root_traced_is_by_a_path, slots_are_weak_only_by_an_operation,
@@ -48,4 +49,5 @@ pub use lists::Sequence;
 pub use paths::{PathFrom, PathStep, PathView, Shown, StepList};
 pub use refusal::{FieldName, Refusal, Stop};
 pub use roles::{OwnerRole, Roles};
+pub use shown_paths::is_path;
 pub use views::{HeapView, ObjectList, ObjectView, RootList, SlotList};
