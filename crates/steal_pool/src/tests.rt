@@ -17,6 +17,8 @@ enum Shape {
     Chain,
     /// Each two, as in a heap's array.
     Tree,
+    /// Each the next one up to this cell, from which on each two.
+    Opening(u32),
     /// The first all others.
     Fan,
 }
@@ -32,15 +34,29 @@ impl Cells {
     // The cells from the one up to the other.
     fn after(&self, cell: u32) -> (u32, u32) {
         match self.shape {
-            Shape::Chain => (cell.saturating_add(1), cell.saturating_add(2)),
-            Shape::Tree => (
-                cell.saturating_mul(2).saturating_add(1),
-                cell.saturating_mul(2).saturating_add(3),
-            ),
+            Shape::Chain => next(cell),
+            Shape::Tree => pair(0, cell),
+            Shape::Opening(last) if cell < last => next(cell),
+            Shape::Opening(last) => pair(last, cell),
             Shape::Fan if cell == 0 => (1, self.count),
             Shape::Fan => (0, 0),
         }
     }
+}
+
+// The next cell alone.
+fn next(cell: u32) -> (u32, u32) {
+    (cell.saturating_add(1), cell.saturating_add(2))
+}
+
+// The two cells below this one in a tree with this root.
+fn pair(root: u32, cell: u32) -> (u32, u32) {
+    let from = cell
+        .saturating_sub(root)
+        .saturating_mul(2)
+        .saturating_add(1)
+        .saturating_add(root);
+    (from, from.saturating_add(2))
 }
 
 /// Counts how often it did each cell.
@@ -175,24 +191,62 @@ fn are_seen(jobs: &[Counter], cells: u32, times: u64) -> bool {
     true
 }
 
-#[test]
-fn each_cell_is_done_once(rt: HostRuntime) -> Result<(), Fail> {
-    for shape in [Shape::Chain, Shape::Tree, Shape::Fan] {
-        for (count, workers) in [
-            (4, 1),
-            (4, 2),
-            (4, 16),
-            (100_000, 16),
-            (1_000_000, 1),
-            (1_000_000, 2),
-            (1_000_000, 4),
-        ] {
-            let cells = Cells { count, shape };
-            let mut crew = Crew::make(rt.alloc(), workers, count as u64 + 5)?;
-            let jobs = run_cells(&rt, rt.alloc(), &mut crew, &cells, &[(0, 0)], &OpenGate)?;
-            assert!(rt; are_seen(jobs.as_slice(), count, 1));
+// Whether each of so many cells is done once, from the first cell on, by so many workers.
+fn is_done_once<R: Threads + Sync>(
+    rt: &R,
+    alloc: Global,
+    shape: Shape,
+    count: u32,
+    workers: u32,
+) -> Result<bool, OutOfMemory>
+    requires some { 0 < workers }
+    requires few { workers ≤ 16 }
+    requires cells { count ≤ 1_000_000 }
+{
+    let cells = Cells { count, shape };
+    let mut crew = Crew::make(alloc, workers, count as u64 + 5)?;
+    let jobs = run_cells(rt, alloc, &mut crew, &cells, &[(0, 0)], &OpenGate)?;
+    Ok(are_seen(jobs.as_slice(), count, 1))
+}
+
+// Few and many cells, by few and many workers.
+fn are_done_once<R: Threads + Sync>(
+    rt: &R,
+    alloc: Global,
+    shape: Shape,
+) -> Result<bool, OutOfMemory> {
+    for workers in [1, 2, 4, 16] {
+        if !is_done_once(rt, alloc, shape, 4, workers)? {
+            return Ok(false);
+        }
+        if !is_done_once(rt, alloc, shape, 1_000_000, workers)? {
+            return Ok(false);
         }
     }
+    Ok(true)
+}
+
+#[test]
+fn each_cell_of_a_chain_is_done_once(rt: HostRuntime) -> Result<(), Fail> {
+    assert!(rt; are_done_once(&rt, rt.alloc(), Shape::Chain)?);
+    Ok(())
+}
+
+#[test]
+fn each_cell_of_a_tree_is_done_once(rt: HostRuntime) -> Result<(), Fail> {
+    assert!(rt; are_done_once(&rt, rt.alloc(), Shape::Tree)?);
+    Ok(())
+}
+
+#[test]
+fn each_cell_of_a_chain_that_opens_into_a_tree_is_done_once(rt: HostRuntime) -> Result<(), Fail> {
+    assert!(rt; are_done_once(&rt, rt.alloc(), Shape::Opening(10_000))?);
+    Ok(())
+}
+
+#[test]
+fn each_cell_that_the_first_puts_is_done_once(rt: HostRuntime) -> Result<(), Fail> {
+    assert!(rt; are_done_once(&rt, rt.alloc(), Shape::Fan)?);
     Ok(())
 }
 
