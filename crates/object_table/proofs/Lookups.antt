@@ -1,5 +1,5 @@
 -- Where a search for an id among the rising ids ends, and what it finds after a change.
-use Rattle.std.proofs.Common.{◌≡◌, ℕ, zero, suc, ◌<◌, ◌≤◌, ◌≢◌, List, [], ◌∷◌, length, get_or, Bool, true, false, cond, Option, Some, None, refl, sym, ◌∙◌, ap, arith}
+use Rattle.std.proofs.Common.{◌≡◌, ℕ, zero, suc, ◌+◌, ◌-◌, ◌<◌, ◌≤◌, ◌≢◌, List, [], ◌∷◌, length, take, drop, length-drop, get_or, Bool, true, false, cond, Option, Some, None, refl, sym, ◌∙◌, ap, subst, arith}
 use Rattle.std.specs.List.{All, HoldsAt}
 use Rattle.std.specs.List.Sorted.{IsNonDecreasingBy, IsPartitionPoint}
 use Rattle.std.specs.Ordering.{nat_cmp, ordering_index}
@@ -8,6 +8,7 @@ use Rattle.std.specs.Map.{lookup}
 use Rattle.std.specs.BTreeMap.{is_at}
 use Rattle.std.proofs.lemmas.Cmp.{ranked}
 use Rattle.std.proofs.lemmas.Bool.Decides.{nat_tests}
+use Rattle.std.proofs.lemmas.List.{get_or_default, get_or-take, get_or-drop, length-take}
 use Rattle.std.proofs.lemmas.Option.{same_Some}
 use Rattle.object_table.specs.Located.{RisesById}
 
@@ -32,6 +33,50 @@ found-none (e ∷ ids) id none =
     let apart : e.0 ≢ id = none 0 e (omega arith) in
     let rest : found ids id ≡ None = found-none ids id (λ k d h. none (suc k) d (omega arith)) in
     grind (arith, nat_tests)
+
+-- ---- a part of the list in which an id stands where it stands at all
+
+pub all_below : (ids : List (ℕ × ℕ)) (id place : ℕ) (x : ℕ × ℕ) → RisesById ids → 0 < place → place ≤ length ids → x ≡ get_or ids (place - 1) x → x.0 < id → All (λ e. e.0 < id) (take place ids)
+all_below ids id place x rises some h at below k d within =
+    let early : k < place = omega (arith, length-take place ids) in
+    let here : get_or (take place ids) k d ≡ get_or ids k x = get_or-take place ids k d early ∙ get_or_default ids k d x (omega arith) in
+    let last : (get_or ids (place - 1) x).0 < id = subst (λ (e : ℕ × ℕ). e.0 < id) at below in
+    grind (arith, here, last, rises k (place - 1) x, λ (same : k ≡ place - 1). ap (λ j. (get_or ids j x).0) same)
+
+pub all_above : (ids : List (ℕ × ℕ)) (id place : ℕ) (x : ℕ × ℕ) → RisesById ids → x ≡ get_or ids place x → id < x.0 → All (λ e. id < e.0) (drop place ids)
+all_above ids id place x rises at above k d within =
+    let inside : place + k < length ids = omega (arith, length-drop place ids) in
+    let here : get_or (drop place ids) k d ≡ get_or ids (place + k) x = get_or-drop place ids k d ∙ get_or_default ids (place + k) d x inside in
+    let first : id < (get_or ids place x).0 = subst (λ (e : ℕ × ℕ). id < e.0) at above in
+    grind (arith, here, first, rises place (place + k) x, λ (same : place ≡ place + k). ap (λ j. (get_or ids j x).0) same)
+
+found-after : (ids : List (ℕ × ℕ)) (id begin : ℕ) → All (λ e. e.0 < id) (take begin ids) → found (drop begin ids) id ≡ found ids id
+found-after [] id zero below = refl
+found-after [] id (suc begin) below = refl
+found-after (e ∷ ids) id zero below = refl
+found-after (e ∷ ids) id (suc begin) below =
+    let first : e.0 < id = below 0 e (omega arith) in
+    let rest : found (drop begin ids) id ≡ found ids id = found-after ids id begin (λ k d h. below (suc k) d (omega arith)) in
+    grind (arith, nat_tests)
+
+found-before : (ids : List (ℕ × ℕ)) (id end : ℕ) → All (λ e. id < e.0) (drop end ids) → found (take end ids) id ≡ found ids id
+found-before [] id zero above = refl
+found-before [] id (suc end) above = refl
+found-before (e ∷ ids) id zero above = sym (found-none (e ∷ ids) id (λ k d h same. let later = above k d h in omega arith))
+found-before (e ∷ ids) id (suc end) above = ap (cond (is_at (nat_cmp id) e.0) (Some e.1)) (found-before ids id end above)
+
+-- Where the ids before it are below and those behind it above, the part tells what the list does.
+pub found_within : (ids : List (ℕ × ℕ)) (id begin end : ℕ) → begin ≤ end → All (λ e. e.0 < id) (take begin ids) → All (λ e. id < e.0) (drop end ids) → found (take (end - begin) (drop begin ids)) id ≡ found ids id
+found_within ids id begin end order below above =
+    found-before (drop begin ids) id (end - begin) behind ∙ found-after ids id begin below
+  where
+    behind : All (λ e. id < e.0) (drop (end - begin) (drop begin ids))
+    behind k d h =
+        let long : k < length (drop end ids) = omega (arith, length-drop (end - begin) (drop begin ids), length-drop begin ids, length-drop end ids) in
+        let there : begin + ((end - begin) + k) ≡ end + k = omega arith in
+        let same : get_or (drop (end - begin) (drop begin ids)) k d ≡ get_or (drop end ids) k d =
+            get_or-drop (end - begin) (drop begin ids) k d ∙ get_or-drop begin ids ((end - begin) + k) d ∙ ap (λ j. get_or ids j d) there ∙ sym (get_or-drop end ids k d) in
+        subst (λ (e : ℕ × ℕ). id < e.0) (sym same) (above k d long)
 
 -- what is found stands in the list
 pub found-somewhere : (ids : List (ℕ × ℕ)) (id cell : ℕ) → found ids id ≡ Some cell → (i : ℕ) × (i < length ids) × ((d : ℕ × ℕ) → get_or ids i d ≡ (id, cell))

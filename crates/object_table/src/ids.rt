@@ -1,10 +1,11 @@
-ghost use Rattle.std.specs.Prelude.{◌≡◌, ◌-◌, ◌<◌, ◌++◌, ◌∷◌, [], length, take, filter, Some, OnOk, OnErr, IfSome, slice_get};
+ghost use Rattle.std.specs.Prelude.{◌≡◌, ◌-◌, ◌<◌, ◌≤◌, ◌++◌, ◌∷◌, [], All, length, take, drop, filter, Some, OnOk, OnErr, IfSome, slice_get};
 ghost use Rattle.std.specs.Map.{lookup};
 ghost use Rattle.std.specs.Ordering.{nat_cmp};
 ghost use Rattle.std.specs.BTreeMap.{is_at};
 ghost use Rattle.object_table.specs.Residents.{is_kept};
 ghost use Rattle.object_table.specs.Located.{RisesById};
 
+use crate::directory::Directory;
 use crate::slot::is_kept;
 use heap_base::{ObjId, OutOfMemory};
 use std::alloc::Global;
@@ -14,6 +15,7 @@ use std::marker::Model;
 #[derive(Drop)]
 pub struct Ids {
     entries: Vec<(ObjId, u32)>,
+    directory: Directory,
 }
 
 impl Model for Ids {
@@ -31,6 +33,7 @@ impl Ids {
     {
         Ids {
             entries: Vec::new(alloc),
+            directory: Directory::make(alloc),
         }
     }
 
@@ -46,12 +49,50 @@ impl Ids {
         requires { RisesById self.now }
         ensures { result ≡ lookup (is_at (nat_cmp id)) self.now }
     {
-        match self
-            .entries
-            .binary_search_by_key(&id.number(), |entry| entry.0.number())
-        {
-            Ok(place) => Some(self.entries[place].1),
+        let near = self.near(id);
+        match near.binary_search_by_key(&id.number(), |entry| entry.0.number()) {
+            Ok(place) => Some(near[place].1),
             Err(_) => None,
+        }
+    }
+
+    // A part of the list in which the id stands, where it stands in the list: mostly a short one.
+    fn near(&self, id: ObjId) -> &[(ObjId, u32)]
+        requires { RisesById self.now }
+        ensures rising { RisesById result.now }
+        ensures same { lookup (is_at (nat_cmp id)) result.now ≡ lookup (is_at (nat_cmp id)) self.now }
+    {
+        let (begin, end) = self.directory.guess(id, self.entries.len());
+        let begin = self.begin(begin, id);
+        let end = self.end(end, id);
+        &self.entries[begin..end]
+    }
+
+    // The place, or 0 where the id may stand before it.
+    fn begin(&self, place: usize, id: ObjId) -> usize
+        requires rising { RisesById self.now }
+        requires in_range { place ≤ length self.now }
+        ensures bound { result ≤ place }
+        ensures below { All (λ e. e.0 < id) (take result self.now) }
+    {
+        if place > 0 && self.entries[place - 1].0.number() >= id.number() {
+            0
+        } else {
+            place
+        }
+    }
+
+    // The place, or the end of the list where the id may stand from it on.
+    fn end(&self, place: usize, id: ObjId) -> usize
+        requires rising { RisesById self.now }
+        requires in_range { place ≤ length self.now }
+        ensures bound { (place ≤ result) × (result ≤ length self.now) }
+        ensures above { All (λ e. id < e.0) (drop result self.now) }
+    {
+        if place < self.entries.len() && self.entries[place].0.number() <= id.number() {
+            self.entries.len()
+        } else {
+            place
         }
     }
 
@@ -68,6 +109,7 @@ impl Ids {
         ensures last { OnOk result (self.new ≡ self.old ++ (id, cell) ∷ []) }
         ensures err { OnErr result (self.new ≡ self.old) }
     {
+        self.directory.add(id, &self.entries)?;
         Ok(self.entries.push((id, cell))?)
     }
 
@@ -83,5 +125,6 @@ impl Ids {
         ensures { self.new ≡ filter (λ e. is_kept kept.now e.1) self.old }
     {
         self.entries.retain(|entry| is_kept(kept, entry.1));
+        self.directory.keep(&self.entries);
     }
 }

@@ -5,6 +5,7 @@ mod block;
 mod blocks;
 mod cell;
 mod cells;
+mod directory;
 mod ids;
 mod kinds;
 mod object;
