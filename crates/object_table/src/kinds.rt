@@ -73,7 +73,19 @@ impl Kinds {
         ensures seen { OnOk result (self.new ≡ with_kind self.old name.now) }
         ensures err { OnErr result (self.new ≡ self.old) }
     {
-        match self.find(name) {
+        let found = self.find(name);
+        self.learn(name, found)
+    }
+
+    /// The place of the name, as `number` gives it, where `find` has looked for it already.
+    pub fn learn(&mut self, name: &Name, found: Option<u32>) -> Result<u32, OutOfMemory>
+        requires found { found ≡ position (bytes_eq name.now) self.old }
+        requires room { is_seen self.old name.now ≡ false → length self.old < MOST_KINDS }
+        ensures number { IfOk result (λ n. position (bytes_eq name.now) self.new ≡ Some n) }
+        ensures seen { OnOk result (self.new ≡ with_kind self.old name.now) }
+        ensures err { OnErr result (self.new ≡ self.old) }
+    {
+        match found {
             Some(number) => Ok(number),
             None => self.add(name),
         }

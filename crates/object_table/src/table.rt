@@ -383,11 +383,12 @@ impl ObjectTable {
         ensures cells { OnOk result (TakesCell self.old self.new id) }
         ensures err { OnErr result (self.new ≡ self.old) }
     {
-        let number = self.kinds.find(kind).unwrap_or(self.kinds.len());
+        let found = self.kinds.find(kind);
+        let number = found.unwrap_or(self.kinds.len());
         let object = Object::make(self.alloc, id, number, slots)?;
         self.cells.reserve()?;
         self.ids.push(id, self.cells.next())?;
-        let Ok(_) = self.kinds.number(kind) else {
+        let Ok(_) = self.kinds.learn(kind, found) else {
             self.ids.pop();
             return Err(OutOfMemory);
         };
