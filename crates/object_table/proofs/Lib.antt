@@ -13,5 +13,6 @@ pub mod Parts
 pub mod Positions
 pub mod Refusals
 pub mod Searches
+pub mod Shown
 pub mod Sound
 pub mod Tables

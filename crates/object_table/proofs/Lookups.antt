@@ -75,7 +75,7 @@ found_within ids id begin end order below above =
         let long : k < length (drop end ids) = omega (arith, length-drop (end - begin) (drop begin ids), length-drop begin ids, length-drop end ids) in
         let there : begin + ((end - begin) + k) ≡ end + k = omega arith in
         let same : get_or (drop (end - begin) (drop begin ids)) k d ≡ get_or (drop end ids) k d =
-            get_or-drop (end - begin) (drop begin ids) k d ∙ get_or-drop begin ids ((end - begin) + k) d ∙ ap (λ j. get_or ids j d) there ∙ sym (get_or-drop end ids k d) in
+        get_or-drop (end - begin) (drop begin ids) k d ∙ get_or-drop begin ids ((end - begin) + k) d ∙ ap (λ j. get_or ids j d) there ∙ sym (get_or-drop end ids k d) in
         subst (λ (e : ℕ × ℕ). id < e.0) (sym same) (above k d long)
 
 -- what is found stands in the list

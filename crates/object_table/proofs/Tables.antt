@@ -277,7 +277,7 @@ module _ (cells : List (Option Resident)) (ids : List (ℕ × ℕ)) (place : ℕ
   counted_fits d = omega (arith, counted_more d, sum_by-take-le (λ (e : ℕ × ℕ). slots_at_cell cells e.1) ids (place + 1))
 
 module _ (cells : List (Option Resident)) (ids : List (ℕ × ℕ)) (place cell : ℕ) (h : place < length ids) (is : IfSome (slice_get ids place) (λ e. cell ≡ e.1)) where
-  place_cell : (d : ℕ × ℕ) → cell ≡ (get_or ids place d).1
+  pub place_cell : (d : ℕ × ℕ) → cell ≡ (get_or ids place d).1
   place_cell d = rw (slice_get-get_or ids place d h) at is
 
   pub place_taken : All (λ e. IsTrue (is_taken cells e.1)) ids → IsSome (held_at cells cell)

@@ -17,5 +17,6 @@ mod slot;
 mod table;
 #[cfg(test)]
 mod tests;
+mod views;
 
 pub use table::ObjectTable;

@@ -6,6 +6,7 @@ ghost use Rattle.graph_meaning.specs.Answers.{RefusesBy};
 ghost use Rattle.graph_meaning.specs.Heap.{edge_of, is_live};
 ghost use Rattle.graph_meaning.specs.Collecting.{with_only};
 ghost use Rattle.graph_meaning.specs.Step.{alloc_refusal, with_object, not_live, slot_refusal, target_refusal, store_refusal, with_changed_slot, slot_holding, slot_made_weak, root_refusal, with_root, is_root, kind_refusal, with_kind};
+ghost use Rattle.graph_meaning.specs.Views.{heap_view};
 ghost use Rattle.object_table.specs.Placed.{nothing_placed, id_in, object_in, slots_in, slot_in, IsPlaced, IsSound, TakesCell, KeepsCells, kept_ids, LeadsToKept};
 ghost use Rattle.object_table.specs.Residents.{is_taken};
 ghost use Rattle.object_table.specs.Parts.{slots_at_cell};
@@ -16,7 +17,8 @@ use crate::kinds::Kinds;
 use crate::object::Object;
 use crate::roots::Roots;
 use crate::slot::Slot;
-use graph_meaning::{Refusal, Stop};
+use crate::views::{objects_view, roots_view};
+use graph_meaning::{HeapView, Refusal, Stop};
 use heap_base::{MOST_KINDS, MOST_OBJECTS, MOST_ROOTS, MOST_SLOTS, Name, ObjId, OutOfMemory};
 use std::alloc::Global;
 use std::marker::Model;
@@ -282,6 +284,15 @@ impl ObjectTable {
             Some(cell) => cell,
             None => unreachable!(),
         }
+    }
+
+    /// The heap as it is shown: the objects by id and the roots by name, with a weak slot as an empty one.
+    pub fn view(&self) -> Result<HeapView, OutOfMemory>
+        ensures view { IfOk result (λ v. v ≡ heap_view self.now.table) }
+    {
+        let objects = objects_view(self.alloc, &self.ids, &self.cells, &self.kinds)?;
+        let roots = roots_view(self.alloc, &self.roots)?;
+        Ok(HeapView { objects, roots })
     }
 
     /// Frees every object whose cell is not kept. Each kept object keeps its cell; a slot that held a freed one is
