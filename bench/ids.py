@@ -30,53 +30,64 @@ PROGRAM = {
 mod ids;
 mod lookups;
 
+use crate::lookups::{Built, look_up};
+use heap_base::ObjId;
+use std::alloc::Global;
 use std::env;
-use std::time::Instant;
+use std::io;
+use std::time::{Clock, Instant};
 
 fn main(rt: HostRuntime) -> anyhow::Result<()> {
-    let mut words = env::args(&rt)?;
-    words.next();
-    let Some(what) = words.next() else { return Ok(()) };
-    let kind = words.next().map_or(0, |word| word.parse::<u32>().unwrap_or(0));
-    let size = words.next().map_or(0, |word| word.parse::<u32>().unwrap_or(0));
-    let rising = words.next().is_some();
-    let ids = ids::list(rt.alloc(), kind, size)?;
-    if what.as_str() == "none" {
-        return Ok(());
+    let mut numbers = [0u32; 4];
+    for (place, word) in env::args(&rt)?.enumerate() {
+        if place < 4 {
+            numbers[place] = word.parse().unwrap_or(0);
+        }
     }
-    if what.as_str() == "table" {
-        let table = ids::table(rt.alloc(), ids.as_slice())?;
-        println!(rt; "{}", table.live())?;
-        return Ok(());
+    let [_, what, kind, size] = numbers;
+    if what < 3 {
+        alone(rt.alloc(), what, kind, size)
+    } else {
+        let built = ids::built(rt.alloc(), kind, size)?;
+        let asked = ids::asked(rt.alloc(), &built, what == 4)?;
+        for _ in 0..5 {
+            let (same, [halves, table, hash, interpolation]) = turn(&rt, &built, asked.as_slice())?;
+            println!(rt; "{same} {halves} {table} {hash} {interpolation}")?;
+        }
+        Ok(())
     }
-    if what.as_str() == "hash" {
-        let map = ids::map(rt.alloc(), ids.as_slice())?;
-        println!(rt; "{}", map.len())?;
-        return Ok(());
-    }
-    let table = ids::table(rt.alloc(), ids.as_slice())?;
-    let map = ids::map(rt.alloc(), ids.as_slice())?;
-    let asked = ids::asked(rt.alloc(), ids.as_slice(), rising)?;
-    for _ in 0..5 {
-        let start = Instant::now(&rt)?;
-        let halves = lookups::by_halves(ids.as_slice(), asked.as_slice());
-        let by_halves = start.elapsed(&rt)?.as_nanos();
-        let start = Instant::now(&rt)?;
-        let cells = lookups::by_table(&table, asked.as_slice());
-        let by_table = start.elapsed(&rt)?.as_nanos();
-        let start = Instant::now(&rt)?;
-        let hashed = lookups::by_hash(&map, asked.as_slice());
-        let by_hash = start.elapsed(&rt)?.as_nanos();
-        let start = Instant::now(&rt)?;
-        let interpolated = lookups::by_interpolation(ids.as_slice(), asked.as_slice());
-        let by_interpolation = start.elapsed(&rt)?.as_nanos();
-        let same = cells == halves && hashed == halves && interpolated == halves;
-        println!(rt; "{same} {by_halves} {by_table} {by_hash} {by_interpolation}")?;
+}
+
+// One structure alone: the list, the table or the map.
+fn alone(alloc: Global, what: u32, kind: u32, size: u32) -> anyhow::Result<()> {
+    let ids = ids::list(alloc, kind, size)?;
+    if what == 1 {
+        let _table = ids::table(alloc, ids.as_slice())?;
+    } else if what == 2 {
+        let _map = ids::map(alloc, ids.as_slice())?;
     }
     Ok(())
 }
+
+// Whether all ways found the same, and how many nanoseconds each took.
+fn turn<C: Clock>(clock: &C, built: &Built, asked: &[ObjId]) -> io::Result<(bool, [u128; 4])> {
+    let mut took = [0u128; 4];
+    let mut same = true;
+    let mut found = 0u64;
+    for way in 0..4usize {
+        let start = Instant::now(clock)?;
+        let sum = look_up(way, built, asked);
+        took[way] = start.elapsed(clock)?.as_nanos();
+        if way == 0 {
+            found = sum;
+        }
+        same = same && sum == found;
+    }
+    Ok((same, took))
+}
 ''',
-    "src/ids.rt": '''use heap_base::{Name, ObjId};
+    "src/ids.rt": '''use crate::lookups::Built;
+use heap_base::{Name, ObjId};
 use object_table::ObjectTable;
 use std::alloc::Global;
 use std::collections::HashMap;
@@ -134,12 +145,20 @@ pub fn map(alloc: Global, ids: &[(ObjId, u32)]) -> anyhow::Result<HashMap<u32, u
     Ok(map)
 }
 
+/// The three structures with the same ids.
+pub fn built(alloc: Global, kind: u32, size: u32) -> anyhow::Result<Built> {
+    let ids = list(alloc, kind, size)?;
+    let table = table(alloc, ids.as_slice())?;
+    let map = map(alloc, ids.as_slice())?;
+    Ok(Built { ids, table, map })
+}
+
 /// The ids that are looked up, in rising order or at random.
-pub fn asked(alloc: Global, ids: &[(ObjId, u32)], rising: bool) -> anyhow::Result<Vec<ObjId>> {
+pub fn asked(alloc: Global, built: &Built, rising: bool) -> anyhow::Result<Vec<ObjId>> {
     let mut asked = Vec::new(alloc);
     for n in 0..ASKED {
         let place = if rising { n } else { mixed(n as u64) as usize };
-        if let Some(entry) = place.checked_rem(ids.len()).and_then(|place| ids.get(place)) {
+        if let Some(entry) = place.checked_rem(built.ids.len()).and_then(|place| built.ids.get(place)) {
             asked.push(entry.0)?;
         }
     }
@@ -150,8 +169,26 @@ pub fn asked(alloc: Global, ids: &[(ObjId, u32)], rising: bool) -> anyhow::Resul
 use object_table::ObjectTable;
 use std::collections::HashMap;
 
-/// The sum of the cells that a binary search finds.
-pub fn by_halves(ids: &[(ObjId, u32)], asked: &[ObjId]) -> u64 {
+/// A list of ids with their cells, a table with objects of these ids, and a hash map.
+#[derive(Drop)]
+pub struct Built {
+    pub ids: Vec<(ObjId, u32)>,
+    pub table: ObjectTable,
+    pub map: HashMap<u32, u32>,
+}
+
+/// The sum of the cells that are found by halves, by the table, by the map or by interpolation.
+pub fn look_up(way: usize, built: &Built, asked: &[ObjId]) -> u64 {
+    match way {
+        0 => by_halves(built.ids.as_slice(), asked),
+        1 => by_table(&built.table, asked),
+        2 => by_hash(&built.map, asked),
+        _ => by_interpolation(built.ids.as_slice(), asked),
+    }
+}
+
+// The sum of the cells that a binary search finds.
+fn by_halves(ids: &[(ObjId, u32)], asked: &[ObjId]) -> u64 {
     let mut sum = 0u64;
     for id in asked {
         if let Ok(place) = ids.binary_search_by_key(&id.number(), |entry| entry.0.number()) {
@@ -161,8 +198,8 @@ pub fn by_halves(ids: &[(ObjId, u32)], asked: &[ObjId]) -> u64 {
     sum
 }
 
-/// The sum of the cells that the table gives.
-pub fn by_table(table: &ObjectTable, asked: &[ObjId]) -> u64 {
+// The sum of the cells that the table gives.
+fn by_table(table: &ObjectTable, asked: &[ObjId]) -> u64 {
     let mut sum = 0u64;
     for id in asked {
         sum = sum.wrapping_add(table.cell_of(*id).unwrap_or(0) as u64);
@@ -170,8 +207,8 @@ pub fn by_table(table: &ObjectTable, asked: &[ObjId]) -> u64 {
     sum
 }
 
-/// The sum of the cells that the map gives.
-pub fn by_hash(map: &HashMap<u32, u32>, asked: &[ObjId]) -> u64 {
+// The sum of the cells that the map gives.
+fn by_hash(map: &HashMap<u32, u32>, asked: &[ObjId]) -> u64 {
     let mut sum = 0u64;
     for id in asked {
         sum = sum.wrapping_add(map.get(&id.number()).copied().unwrap_or(0) as u64);
@@ -179,8 +216,8 @@ pub fn by_hash(map: &HashMap<u32, u32>, asked: &[ObjId]) -> u64 {
     sum
 }
 
-/// The sum of the cells that a search by interpolation finds.
-pub fn by_interpolation(ids: &[(ObjId, u32)], asked: &[ObjId]) -> u64 {
+// The sum of the cells that a search by interpolation finds.
+fn by_interpolation(ids: &[(ObjId, u32)], asked: &[ObjId]) -> u64 {
     let mut sum = 0u64;
     for id in asked {
         sum = sum.wrapping_add(interpolated(ids, id.number()).unwrap_or(0) as u64);
@@ -249,7 +286,7 @@ def lay_out(folder):
 
 def times(built, kind, size, rising):
     """Nanoseconds a look-up by each way, the binary search first: the least of the turns."""
-    words = [built, "times", str(kind), str(size)] + (["rising"] if rising else [])
+    words = [built, "4" if rising else "3", str(kind), str(size)]
     rows = [row.split() for row in subprocess.run(words, capture_output=True, text=True, check=True).stdout.splitlines()]
     if not rows or any(row[0] != "true" for row in rows):
         sys.exit("the ways don't find the same")
@@ -272,7 +309,7 @@ def main():
                     print(f"{name:<22} {size:>9} {order:>7} {halves:>10.1f}" + "".join(f" {other / halves:>13.2f}" for other in others), flush=True)
         print(f'{"bytes an object":<22}' + "".join(f" {what:>13}" for what in ("table", "hash")))
         for size in (524_289, 1_000_000, 1_048_576):
-            peaks = [timed([built, what, "0", str(size)], "/dev/null")[1] for what in ("none", "table", "hash")]
+            peaks = [timed([built, what, "0", str(size)], "/dev/null")[1] for what in ("0", "1", "2")]
             print(f"{size:<22}" + "".join(f" {1024 * (peak - peaks[0]) / size:>13.1f}" for peak in peaks[1:]), flush=True)
 
 
