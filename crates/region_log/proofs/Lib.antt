@@ -1,0 +1,7 @@
+pub mod Above
+pub mod Fronts
+pub mod Noted
+pub mod Stacks
+pub mod Steps
+pub mod Tables
+pub mod Threads

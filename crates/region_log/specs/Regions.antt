@@ -1,0 +1,99 @@
+-- Open regions: of one thread, and of all threads.
+use Rattle.std.specs.Prelude.{◌≡◌, ◌<◌, ◌≤◌, ◌-◌, ◌==◌, ℕ, List, [], ◌∷◌, ◌++◌, length, map, drop, replicate, All, AllPairs, Bool, false, IsTrue, nat_le, Option, slice_set, slice_index_or}
+use Rattle.heap_base.specs.declared.limits.TheConstants.{MOST_THREADS, MOST_REGIONS}
+use Rattle.graph_meaning.specs.declared.refusal.Refusal.{Refusal}
+use Rattle.graph_meaning.specs.declared.refusal.Refusal.TheVariants.{TooDeep, NoRegion}
+use Rattle.graph_meaning.specs.Heap.{no_regions, regions_of}
+use Rattle.graph_meaning.specs.Step.{refusal_where}
+
+-- ---- what is seen of them
+
+-- A region: the ids of its objects, and for how many more there is memory.
+pub record Members : Type 0 where
+  pub ids : List ℕ
+  pub room : ℕ
+
+-- The open regions of a thread, the innermost first, each the ids of its objects; and whether the thread is reserved.
+pub record ThreadRegions : Type 0 where
+  pub regions : List (List ℕ)
+  pub reserved : Bool
+
+-- The open regions of each thread, as a heap has them; and for each thread, at the place of its number, whether it is
+-- reserved: whether memory was taken for its next object.
+pub record RegionTable : Type 0 where
+  pub regions : List (List (List ℕ))
+  pub reserved : List Bool
+
+-- no region is open, and no thread reserved
+abbrev pub no_open_regions : RegionTable
+no_open_regions = record { regions = no_regions; reserved = replicate MOST_THREADS false }
+
+abbrev pub is_reserved : RegionTable → ℕ → Bool
+is_reserved r thread = slice_index_or r.reserved thread false
+
+-- ---- why an operation is refused
+
+-- the thread has as many open regions as it may have
+abbrev pub start_refusal : List (List (List ℕ)) → ℕ → Option Refusal
+start_refusal regions thread = refusal_where (nat_le MOST_REGIONS (length (regions_of regions thread))) (TooDeep thread)
+
+-- the thread has no open region
+abbrev pub end_refusal : List (List (List ℕ)) → ℕ → Option Refusal
+end_refusal regions thread = refusal_where (length (regions_of regions thread) == 0) (NoRegion thread)
+
+-- ---- what an operation leaves
+
+-- a region more of the thread is open, which is its innermost, and has no object
+abbrev pub with_region : List (List (List ℕ)) → ℕ → List (List (List ℕ))
+with_region regions thread = slice_set regions thread ([] ∷ regions_of regions thread)
+
+-- the innermost region of the thread is open no longer
+abbrev pub without_innermost : List (List (List ℕ)) → ℕ → List (List (List ℕ))
+without_innermost regions thread = slice_set regions thread (drop 1 (regions_of regions thread))
+
+-- the ids in the innermost region of the thread
+abbrev pub innermost : List (List (List ℕ)) → ℕ → List ℕ
+innermost regions thread = slice_index_or (regions_of regions thread) 0 []
+
+-- the id is above all that are in a region
+abbrev pub IsAbove : ℕ → List (List ℕ) → Type 0
+IsAbove id regions = All (All (λ other. other < id)) regions
+
+-- ---- what is true of them
+
+-- No more regions than a thread may have, and in each the ids rise.
+pub record AreRegions (regions : List (List ℕ)) : Type 0 where
+  pub few : length regions ≤ MOST_REGIONS
+  pub rising : All (AllPairs (λ a b. a < b)) regions
+
+-- There are regions, and a reservation or none, of each thread.
+pub record IsRegionTable (r : RegionTable) : Type 0 where
+  pub each : length r.regions ≡ MOST_THREADS
+  pub reservations : length r.reserved ≡ MOST_THREADS
+  pub regions : All AreRegions r.regions
+
+-- ---- how they are kept
+
+-- a reserved thread has memory for one object more in each of its regions
+abbrev pub HasRoom : List Members → Bool → Type 0
+HasRoom regions reserved = IsTrue reserved → All (λ r. 0 < r.room) regions
+
+-- a thread of which nothing was asked yet
+abbrev pub unused_thread : ThreadRegions
+unused_thread = record { regions = []; reserved = false }
+
+-- a list with an element for each thread: the last ones that are missing are this
+abbrev pub for_each_thread : {X : Type 0} → X → List X → List X
+for_each_thread x xs = xs ++ replicate (MOST_THREADS - length xs) x
+
+-- the regions of the first threads, where nothing was asked of the others
+abbrev pub region_table : List ThreadRegions → RegionTable
+region_table threads = record {
+  regions = map (λ t. t.regions) (for_each_thread unused_thread threads);
+  reserved = map (λ t. t.reserved) (for_each_thread unused_thread threads);
+}
+
+-- There are no more than there may be threads, and each has its regions in order.
+pub record AreThreads (threads : List ThreadRegions) : Type 0 where
+  pub few : length threads ≤ MOST_THREADS
+  pub each : All (λ t. AreRegions t.regions) threads

@@ -1,0 +1,10 @@
+//! The regions that the threads of a trace have open, and the objects in them.
+#![tactic(auto)]
+
+mod log;
+mod region;
+mod stack;
+#[cfg(test)]
+mod tests;
+
+pub use log::RegionLog;
