@@ -1,0 +1,9 @@
+pub mod Adding
+pub mod ByHeap
+pub mod ByName
+pub mod Inserting
+pub mod Kept
+pub mod Marking
+pub mod Owners
+pub mod Rising
+pub mod RolesOfTable

@@ -1,0 +1,66 @@
+use Rattle.std.proofs.Common.{◌≡◌, ◌||◌, false, List, None, Some, IsTrue, length, get_or, map, replicate, sym, ap, subst, ◌∙◌}
+use Rattle.std.specs.List.{All}
+use Rattle.std.specs.Map.{values_of}
+use Rattle.std.proofs.lemmas.List.Elements.{All-weaker, All-filter}
+use Rattle.graph_meaning.specs.declared.roles.OwnerRole.{OwnerRole}
+use Rattle.graph_meaning.specs.declared.roles.OwnerRole.TheVariants.{NotOwned}
+use Rattle.graph_meaning.specs.Heap.{ids, is_live}
+use Rattle.graph_meaning.specs.Reach.{has_id}
+use Rattle.graph_meaning.specs.Roles.{RoleTable}
+use Rattle.graph_meaning.proofs.HeapLemmas.{has_id-ids}
+use Rattle.graph_meaning.proofs.Membership.{All-has_id}
+use Rattle.assert_registry.specs.Assertions.{AreConsistent}
+use Rattle.assert_registry.specs.ByCell.{IsRoleBy, holds_one_of, owner_at}
+use Rattle.assert_registry.proofs.Marking.{get_or-replicate_same}
+use Rattle.assert_registry.proofs.RolesOfTable.{roles_of_table}
+use Rattle.assert_registry.proofs.registry.AssertRegistry.roles.Goals as goal
+
+pub add_owners-requires-clause-live : goal.add_owners-requires-clause-live
+add_owners-requires-clause-live c =
+    let t = c.args.table.now.table in
+    let owners = c.self.inside.owners.entries in
+    let live : All (λ x. IsTrue (is_live t x)) (ids t) = All-weaker (λ x. IsTrue (has_id (ids t) x)) (λ x. IsTrue (is_live t x)) (λ x at. sym (has_id-ids t x) ∙ at) (ids t) (All-has_id (ids t)) in
+    rw c.in_ok-live.ensures (All-filter (has_id (values_of owners)) (λ x. IsTrue (is_live t x)) (ids t) live)
+
+-- The roles were set part by part: no later step changed what an earlier one set.
+module _ (c : goal.After-drop-live) where
+  dead_set : c.add_owners.new.roles.dead ≡ c.set_dead.new.roles.dead
+  dead_set =
+      ap (λ (r : RoleTable). r.dead) c.add_owners.ensures.rest
+      ∙ ap (λ (r : RoleTable). r.dead) c.set_owners.ensures.rest
+      ∙ ap (λ (r : RoleTable). r.dead) c.set_limits.ensures.rest
+      ∙ ap (λ (r : RoleTable). r.dead) c.set_unshared.ensures.rest
+
+  unshared_set : c.add_owners.new.roles.unshared ≡ c.set_unshared.new.roles.unshared
+  unshared_set =
+      ap (λ (r : RoleTable). r.unshared) c.add_owners.ensures.rest
+      ∙ ap (λ (r : RoleTable). r.unshared) c.set_owners.ensures.rest
+      ∙ ap (λ (r : RoleTable). r.unshared) c.set_limits.ensures.rest
+
+  limits_set : c.add_owners.new.roles.limits ≡ c.set_limits.new.roles.limits
+  limits_set =
+      ap (λ (r : RoleTable). r.limits) c.add_owners.ensures.rest ∙ ap (λ (r : RoleTable). r.limits) c.set_owners.ensures.rest
+
+  none_before : c.set_dead.new.roles.unshared ≡ replicate c.cells.result false
+  none_before =
+      ap (λ (r : RoleTable). r.unshared) c.set_dead.ensures.rest ∙ ap (λ (r : RoleTable). r.unshared) c.in_ok-roles.ensures
+
+pub returns-clause-by_assertions : goal.returns-clause-by_assertions
+returns-clause-by_assertions c =
+    let p = c.args.table.now in
+    let dead = c.self.inside.dead.keys in
+    let unshared = c.self.inside.unshared.keys in
+    rw (← c.self.view_is) (record {
+      dead = λ cell. ap (λ fs. get_or fs cell false) (dead_set c) ∙ c.set_dead.ensures.set cell ∙ ap (λ (r : RoleTable). get_or r.dead cell false || holds_one_of p dead cell) c.in_ok-roles.ensures ∙ ap (λ b. b || holds_one_of p dead cell) (get_or-replicate_same c.cells.result cell false);
+      unshared = λ cell. ap (λ fs. get_or fs cell false) (unshared_set c) ∙ c.set_unshared.ensures.set cell ∙ ap (λ fs. get_or fs cell false || holds_one_of p unshared cell) (none_before c) ∙ ap (λ b. b || holds_one_of p unshared cell) (get_or-replicate_same c.cells.result cell false);
+      ownees = λ cell. subst (λ (rs : List OwnerRole). IsRoleBy p (owner_at p c.self.inside.owners.entries cell) (get_or rs cell NotOwned)) (sym (ap (λ (r : RoleTable). r.ownees) c.add_owners.ensures.rest)) (c.set_owners.ensures.set cell);
+      limits = λ kind. ap (λ ls. get_or ls kind None) (limits_set c) ∙ c.set_limits.ensures.set kind ∙ ap (λ ls. get_or ls kind None) c.deref.ensures.value;
+      owners = c.add_owners.ensures.added ∙ ap (map Some) c.in_ok-live.ensures;
+    })
+
+pub returns-clause-of_table : goal.returns-clause-of_table
+returns-clause-of_table c =
+    let consistent : AreConsistent c.args.self.now = rw (← c.self.view_is) c.self.invariant.0 in
+    roles_of_table c.args.self.now c.args.table.now c.add_owners.new.roles c.cells.ensures.placed c.cells.ensures.sound.ids consistent c.requires (returns-clause-by_assertions c)
+    (ap length (dead_set c) ∙ c.set_dead.ensures.cells.dead)
+    (ap length (limits_set c) ∙ c.set_limits.ensures.kinds ∙ c.kinds-2.ensures.count)

@@ -1,0 +1,16 @@
+//! The assertions of a trace: which objects are to be dead, unshared or owned, and how many objects of a type there may
+//! be.
+#![tactic(auto)]
+
+mod ids;
+mod laws;
+mod registry;
+mod roles;
+#[cfg(test)]
+mod tests;
+
+pub use laws::{
+    a_limit_by_number_is_a_limit_by_name, a_new_type_has_no_limit, more_room_changes_no_limit,
+    roles_say_what_a_heap_says,
+};
+pub use registry::AssertRegistry;
