@@ -1,0 +1,8 @@
+//! The sweep that ends a collection: what was not reached is freed, and forgotten by all that speaks of it.
+#![tactic(auto)]
+
+mod sweeping;
+#[cfg(test)]
+mod tests;
+
+pub use sweeping::sweep;
