@@ -1,0 +1,46 @@
+-- What is said by cell, by ids; and the owners that roles name.
+use Rattle.std.proofs.Common.{◌≡◌, ℕ, ◌<◌, Bool, true, false, cond, ⊎_elim, List, length, get_or, sym, refl, ap, ◌∙◌, subst, arith, eqb-true, eq-eqb, Option, None, Some, ltb}
+use Rattle.std.specs.Prelude.{IsSome}
+use Rattle.std.specs.List.{All, position_or_len}
+use Rattle.std.specs.Option.{option_map_or}
+use Rattle.std.proofs.lemmas.Bool.{cases_Bool, false≢true, lt-ltb}
+use Rattle.std.proofs.lemmas.List.Quantifiers.{position-Some}
+use Rattle.std.proofs.lemmas.List.Sums.{position_or_len_is}
+use Rattle.graph_meaning.specs.Roles.{RoleTable, AreRolesOf}
+use Rattle.graph_meaning.proofs.Membership.{All-has_id}
+use Rattle.object_table.specs.Placed.{Placed, id_in, IsPlaced}
+use Rattle.path_cert.specs.Cells.{holds_id, cell_of, by_id}
+use Rattle.path_cert.proofs.HeldObjects.{held-within}
+
+holds_id-true : (id : ℕ) (o : Option ℕ) → holds_id id o ≡ true → o ≡ Some id
+holds_id-true id None e = absurd (false≢true e)
+holds_id-true id (Some x) e = ap Some (eqb-true x id e)
+
+-- the cell that holds an object is the one that is given for it
+pub cell_of-held : (p : Placed) → IsPlaced p → (cell id : ℕ) → id_in p cell ≡ Some id → cell_of p id ≡ Some cell
+cell_of-held p placed cell id held =
+    let within = held-within p cell id held in
+    let before : (k : ℕ) → k < cell → holds_id id (get_or p.cells k None) ≡ false = λ k less.
+    ⊎_elim
+    (λ same. absurd (let e = placed.once k cell id (holds_id-true id (id_in p k) same) held in omega arith))
+    (λ other. other)
+    (cases_Bool (holds_id id (get_or p.cells k None))) in
+    let here : holds_id id (get_or p.cells cell None) ≡ true = ap (holds_id id) held ∙ eq-eqb id id refl in
+    let is : position_or_len (holds_id id) p.cells ≡ cell = position_or_len_is (holds_id id) p.cells cell None (omega arith) before (λ _. here) in
+    ap (λ n. cond (ltb n (length p.cells)) (Some n) None) is ∙ ap (λ b. cond b (Some cell) None) (lt-ltb cell (length p.cells) within)
+
+-- a test by cell, at the object that a cell holds
+pub by_id-held : (p : Placed) → IsPlaced p → (test : ℕ → Bool) (cell id : ℕ) → id_in p cell ≡ Some id → by_id p test id ≡ test cell
+by_id-held p placed test cell id held = ap (λ o. option_map_or test o false) (cell_of-held p placed cell id held)
+
+-- a cell with the object passes, where the test passes it
+pub by_id-true : (p : Placed) (test : ℕ → Bool) (id : ℕ) → by_id p test id ≡ true → (cell : ℕ) × (id_in p cell ≡ Some id) × (test cell ≡ true)
+by_id-true p test id is = go (cell_of p id) refl is
+  where
+    go : (o : Option ℕ) → cell_of p id ≡ o → option_map_or test o false ≡ true → (cell : ℕ) × (id_in p cell ≡ Some id) × (test cell ≡ true)
+    go None at is = absurd (false≢true is)
+    go (Some cell) at is = (cell, holds_id-true id (id_in p cell) (position-Some (holds_id id) p.cells cell None at).1, is)
+
+-- the cells of owners hold objects
+pub owners-held : (cells : List (Option ℕ)) (kinds : ℕ) (r : RoleTable) (owners : List ℕ) → owners ≡ r.owners → AreRolesOf cells kinds r → All (λ owner. IsSome (get_or cells owner None)) owners
+owners-held cells kinds r owners same roles = subst (All (λ owner. IsSome (get_or cells owner None))) (sym same) (λ k d within. (let named = (roles.are_owners (get_or r.owners k d)).0 (All-has_id r.owners k d within) in (roles.by_others named.0 (get_or r.owners k d) named.1).1))

@@ -1,0 +1,15 @@
+pub mod HeldObjects
+pub mod ShownSteps
+pub mod EdgesByCell
+pub mod Growing
+pub mod NextLevel
+pub mod Rounds
+pub mod LeastHolders
+pub mod LevelSteps
+pub mod FirstLevel
+pub mod ByIds
+pub mod CellsLeft
+pub mod QuestSteps
+pub mod Walking
+pub mod ShownPaths
+pub mod TestOwners

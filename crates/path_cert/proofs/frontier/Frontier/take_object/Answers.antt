@@ -1,0 +1,65 @@
+use Rattle.std.proofs.Common.{◌<◌, [], length, take, sym, ap, subst, ◌∙◌, arith}
+use Rattle.std.specs.Option.{is_some}
+use Rattle.graph_meaning.specs.Heap.{edges_of, edge_of}
+use Rattle.graph_meaning.specs.Roles.{id_at}
+use Rattle.object_table.specs.Placed.{slots_in, slot_in}
+use Rattle.path_cert.specs.Frontiers.{Round, by_edges}
+use Rattle.path_cert.specs.Levels.{arrival_in}
+use Rattle.path_cert.specs.Fronts.{front_of}
+use Rattle.path_cert.proofs.EdgesByCell.{edges-cell, edges-edge, edges-none, edges-all, target-held, no-edge}
+use Rattle.path_cert.proofs.Growing.{Grows-trans}
+use Rattle.path_cert.proofs.HeldObjects.{held-id, held-within}
+use Rattle.path_cert.proofs.NextLevel.{AreBy, next, next-grows, next-under_way, next-by}
+use Rattle.path_cert.proofs.frontier.Frontier.take_object.Goals as goal
+use Rattle.path_cert.proofs.frontier.Frontier.take_object.Goals.{in-Some, in_default}
+
+pub arrive-requires-clause-cell : goal.arrive-requires-clause-cell
+arrive-requires-clause-cell c =
+    let p = c.args.table.now in
+    let held = target-held p c.in-Some.target (edge_of (slot_in p c.args.cell c.loop-slot.slot)) c.in-Some.ensures.leads c.in-Some.ensures.in_a_cell in
+    let within : c.in-Some.target < length p.cells = held-within p c.in-Some.target held.0 held.1 in
+    subst (λ n. c.in-Some.target < n) (sym c.loop-slot.invariant.safe.up_to.each) within
+
+pub loop-slot-preserved : goal.loop-slot-preserved
+loop-slot-preserved c =
+    let p = c.args.table.now in
+    let r : Round = record { placed = c.args.table.now; shut = []; level = c.args.level } in
+    let x = c.args.cell in
+    let slot = c.loop-slot.slot in
+    let slots = slots_in c.args.table.now c.args.cell in
+    let positive : 0 < c.args.level = omega arith in
+    let slot_within : c.loop-slot.slot < length (slots_in c.args.table.now c.args.cell) = omega arith in
+    let f = front_of c.loop-slot.self in
+    let f_old = front_of c.args.self.now in
+    let before = f_old.arrivals in
+    let was = c.loop-slot.invariant in
+    elim c.match-slot_at.branch [
+      | in-Some w ↦
+          let held = target-held p w.in-Some.target (edge_of (slot_in p x slot)) w.in-Some.ensures.leads w.in-Some.ensures.in_a_cell in
+          let within = subst (λ n. w.in-Some.target < n) (sym was.safe.up_to.each) (held-within p w.in-Some.target held.0 held.1) in
+          let grows = next-grows r c.requires.placed x positive c.requires.cell f w.in-Some.target held.0 slot held.1 was.safe within in
+          let safe = next-under_way r c.requires.placed x positive c.requires.cell f w.in-Some.target held.0 slot held.1 was.safe within in
+          let by = next-by r c.requires.placed x positive c.requires.cell f w.in-Some.target held.0 slot held.1 was.safe within (edges_of (take slot slots)) before was.arrivals in
+          let after = next r c.requires.placed x positive c.requires.cell f w.in-Some.target held.0 slot held.1 was.safe in
+          rw (w.self-is, w.arrive.ensures.arrivals, w.arrive.ensures.order) (record {
+            safe = safe;
+            arrivals = subst (λ es. AreBy r x es before after.arrivals) (sym (edges-edge slots slot held.0 slot_within held.2)) by;
+            grows = Grows-trans p (front_of c.args.self.now) f after was.grows grows;
+          })
+      | in_default w ↦
+          let none = no-edge (edge_of (slot_in p x slot)) (sym (sym (ap is_some w.in_default.is) ∙ c.slot_at.ensures.in_a_cell)) in
+          rw w.self-is (record {
+            safe = was.safe;
+            arrivals = subst (λ es. AreBy r x es before f.arrivals) (sym (edges-none slots slot slot_within none)) was.arrivals;
+            grows = was.grows;
+          })
+    ]
+
+pub returns-clause-arrivals : goal.returns-clause-arrivals
+returns-clause-arrivals c to id at_to =
+    let p = c.args.table.now in
+    let slots = slots_in c.args.table.now c.args.cell in
+    let r : Round = record { placed = c.args.table.now; shut = []; level = c.args.level } in
+    let known = arrival_in c.args.self.now.arrivals.items to in
+    let all = edges-all slots c.loop-slot.slot (omega arith) (omega arith) ∙ sym (edges-cell p c.args.cell (id_at p.cells c.args.cell) (held-id p c.args.cell c.requires.cell)) in
+    c.loop-slot.invariant.arrivals to id at_to ∙ ap (λ es. by_edges r c.args.cell es known id) all

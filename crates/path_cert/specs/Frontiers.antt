@@ -1,0 +1,99 @@
+-- What holds while a search by levels is under way.
+use Rattle.std.specs.Prelude.{◌≡◌, ◌==◌, ◌≤◌, ℕ, suc, List, [], ◌∷◌, ◌++◌, length, drop, find, Bool, false, not, ◌||◌, ◌&&◌, if◌then◌else◌, IsTrue, None, Some, IsSome, nat_lt, slice_index_or}
+use Rattle.std.specs.Option.{option_map_or}
+use Rattle.graph_meaning.specs.Heap.{edges}
+use Rattle.graph_meaning.specs.Reach.{has_id, within, level}
+use Rattle.graph_meaning.specs.Paths.{Way, IsWay}
+use Rattle.graph_meaning.specs.Roles.{id_at}
+use Rattle.object_table.specs.Placed.{Placed, id_in}
+use Rattle.path_cert.specs.declared.start.Start.{Start}
+use Rattle.path_cert.specs.declared.arrival.Arrival.{Arrival}
+use Rattle.path_cert.specs.Levels.{Search, graph_of, ends_of, arrival_in, is_new, source_way, Arrives}
+
+-- How the search arrives at the object of each cell, and the cells with a level in the order in which they got it.
+pub record Front : Type 0 where
+  pub arrivals : List Arrival
+  pub order : List ℕ
+
+-- the level of the object in a cell so far, and 0 where it has none
+abbrev pub level_at : Front → ℕ → ℕ
+level_at f cell = (arrival_in f.arrivals cell).level
+
+-- Each cell that got a level was put into the order, and holds an object.
+pub record Grows (p : Placed) (before after : Front) : Type 0 where
+  pub each : length after.arrivals ≡ length before.arrivals
+  pub fresh : List ℕ
+  pub order : after.order ≡ before.order ++ fresh
+  pub stays : (cell : ℕ) → IsTrue (is_new (arrival_in after.arrivals cell)) → IsTrue (is_new (arrival_in before.arrivals cell))
+  pub new : (cell : ℕ) → has_id fresh cell ≡ (is_new (arrival_in before.arrivals cell) && not (is_new (arrival_in after.arrivals cell)))
+  pub held : (cell : ℕ) → IsTrue (has_id fresh cell) → IsSome (id_in p cell)
+
+-- ---- the first level
+
+-- The path arrives by the first of these source references that leads to the object, where one does.
+pub record ComesFirst (p : Placed) (start : Start) (ways : List Way) (a : Arrival) (id : ℕ) : Type 0 where
+  pub level : a.level ≤ 1
+  pub none : a.level ≡ 0 → find (λ w. w.to == id) ways ≡ None
+  pub some : a.level ≡ 1 → (w : Way) × (find (λ w. w.to == id) ways ≡ Some w) × (source_way p start a id ≡ Some w) × IsWay p.table w
+
+-- These source references were taken.
+pub record HasTaken (p : Placed) (start : Start) (ways : List Way) (f : Front) : Type 0 where
+  pub each : length f.arrivals ≡ length p.cells
+  pub arrivals : (cell id : ℕ) → id_in p cell ≡ Some id → ComesFirst p start ways (arrival_in f.arrivals cell) id
+  pub low : (cell : ℕ) → level_at f cell ≤ 1
+
+-- ---- one level after another
+
+-- A round that goes on to a level, where for each cell it is said whether its object is shut.
+pub record Round : Type 0 where
+  pub placed : Placed
+  pub shut : List Bool
+  pub level : ℕ
+
+-- the arrival that is kept: of two at one level the one from the object with the lower id, and else the known one
+abbrev pub better : Placed → Arrival → Arrival → Arrival
+better p known a =
+    if is_new known || ((known.level == a.level) && nat_lt (id_at p.cells a.from) (id_at p.cells known.from)) then a else known
+
+-- the arrival by an edge from the object in the cell x
+abbrev pub by_edge : Round → ℕ → Arrival → ℕ × ℕ → Arrival
+by_edge r x known e = better r.placed known (record { level = r.level; from = x; slot = e.0 })
+
+-- the arrival at the object of an id after these edges of the object in the cell x
+abbrev pub by_edges : Round → ℕ → List (ℕ × ℕ) → Arrival → ℕ → Arrival
+by_edges r x es known id = option_map_or (by_edge r x known) (find (λ e. e.1 == id) es) known
+
+-- after all edges of the object in the cell x
+abbrev pub by_object : Round → ℕ → Arrival → ℕ → Arrival
+by_object r x known id = by_edges r x (edges r.placed.table (id_at r.placed.cells x)) known id
+
+-- after all edges of the objects in these cells that aren't shut
+abbrev pub by_objects : Round → List ℕ → Arrival → ℕ → Arrival
+by_objects r [] known id = known
+by_objects r (x ∷ xs) known id = by_objects r xs (if slice_index_or r.shut x false then known else by_object r x known id) id
+
+-- No level is above this one, and what is in the order are objects.
+pub record GoesUpTo (p : Placed) (level : ℕ) (f : Front) : Type 0 where
+  pub each : length f.arrivals ≡ length p.cells
+  pub held : (cell : ℕ) → IsTrue (has_id f.order cell) → IsSome (id_in p cell)
+  pub low : (cell : ℕ) → level_at f cell ≤ level
+
+-- What arrives at this level comes from an object.
+pub record IsUnderWay (p : Placed) (level : ℕ) (f : Front) : Type 0 where
+  pub up_to : GoesUpTo p level f
+  pub from : (cell : ℕ) → level_at f cell ≡ level → IsSome (id_in p (arrival_in f.arrivals cell).from)
+
+-- After so many steps the object of an id has its level and its arrival, if so many steps lead to it.
+pub record IsSettled (p : Placed) (s : Search) (steps : ℕ) (a : Arrival) (id : ℕ) : Type 0 where
+  pub none : a.level ≡ 0 → has_id (within (graph_of p s) (ends_of s) steps) id ≡ false
+  pub some : (m : ℕ) → a.level ≡ suc m → (m ≤ steps) × IsTrue (has_id (level (graph_of p s) (ends_of s) m) id)
+  pub arrives : Arrives p s a id
+
+-- it is said by cell which objects are shut
+abbrev pub ShutByCell : Placed → Search → List Bool → Type 0
+ShutByCell p s shut = (cell id : ℕ) → id_in p cell ≡ Some id → s.is_shut id ≡ slice_index_or shut cell false
+
+-- All objects that so many steps lead to are settled, and those that no fewer lead to stand in the order from this place on.
+pub record IsAtLevel (p : Placed) (s : Search) (steps : ℕ) (f : Front) (place : ℕ) : Type 0 where
+  pub settled : (cell id : ℕ) → id_in p cell ≡ Some id → IsSettled p s steps (arrival_in f.arrivals cell) id
+  pub last : (cell id : ℕ) → id_in p cell ≡ Some id → has_id (drop place f.order) cell ≡ (level_at f cell == suc steps)

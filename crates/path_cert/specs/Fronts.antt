@@ -1,0 +1,6 @@
+-- What contracts see of a search by levels.
+use Rattle.path_cert.specs.declared.frontier.Frontier.{Frontier}
+use Rattle.path_cert.specs.Frontiers.{Front}
+
+abbrev pub front_of : Frontier → Front
+front_of f = record { arrivals = f.arrivals.items; order = f.order.items }

@@ -1,0 +1,9 @@
+pub mod Cells
+pub mod Steps
+pub mod Levels
+pub mod Frontiers
+pub mod Fronts
+pub mod Trails
+pub mod Finds
+pub mod Quests
+pub mod Searches

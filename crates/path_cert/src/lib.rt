@@ -1,0 +1,20 @@
+//! Levels and canonical paths through the heap of a table, and what an owner finds.
+#![tactic(auto)]
+
+mod arrival;
+mod finding;
+mod frontier;
+mod level_table;
+mod objects;
+mod references;
+mod searching;
+mod start;
+#[cfg(test)]
+mod tests;
+mod trail;
+
+pub use finding::finds;
+pub use level_table::Levels;
+pub use references::{owner_step, root_path};
+pub use searching::levels;
+pub use start::Start;
