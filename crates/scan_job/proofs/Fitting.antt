@@ -153,7 +153,7 @@ all-tagged P tag p (x ∷ xs) each =
 
 -- ---- what is among other cells
 
-times-at : (x : ℕ) (xs : List ℕ) → has_id xs x ≡ true → 0 < times x xs
+pub times-at : (x : ℕ) (xs : List ℕ) → has_id xs x ≡ true → 0 < times x xs
 times-at x [] at = absurd (false≢true at)
 times-at x (y ∷ ys) at =
     ⊎_elim
@@ -161,7 +161,7 @@ times-at x (y ∷ ys) at =
     (λ later. let r = times-at x ys later in omega arith)
     (or_cases _ _ at)
 
-at-times : (x : ℕ) (xs : List ℕ) → 0 < times x xs → has_id xs x ≡ true
+pub at-times : (x : ℕ) (xs : List ℕ) → 0 < times x xs → has_id xs x ≡ true
 at-times x [] l = absurd (omega arith)
 at-times x (y ∷ ys) l =
     ⊎_elim

@@ -4,5 +4,15 @@ pub mod Reaching
 pub mod Fitting
 pub mod Meetings
 pub mod SlotSteps
+pub mod Idle
+pub mod Dealing
+pub mod Scanned
+pub mod PhaseGains
+pub mod OwnerCells
+pub mod Starting
+pub mod Gaining
+pub mod PhaseRuns
+pub mod RoleSteps
 pub mod TestRoles
 pub mod TestRuns
+pub mod TestPhases

@@ -144,11 +144,23 @@ pub target-there : (p : Placed) (r : RoleTable) (cell slot target : ℕ) → IsP
 target-there p r cell slot target placed within leads some =
     has_id-filter_map (target_of p) (slots_in p cell) slot empty_slot target within (target-is p placed (slot_in p cell slot) (Some target) leads some)
 
+-- the cell that is given for a root is that of the object which it names
+root-cell : (p : Placed) (root cell : ℕ) → IsPlaced p → root < length p.table.roots → IfSome (slice_get p.table.roots root) (λ n. id_in p cell ≡ Some n.1) → cell_of p (get_or p.table.roots root ([], 0)).1 ≡ Some cell
+root-cell p root cell placed within names =
+    let held = subst (λ o. IfSome o (λ n. id_in p cell ≡ Some n.1)) (slice_get-get_or p.table.roots root ([], 0) within) names in
+    cell-from_held p placed cell (get_or p.table.roots root ([], 0)).1 held
+
 -- the cell that a root names is among the roots
 pub root-there : (p : Placed) (r : RoleTable) (root cell : ℕ) → IsPlaced p → root < length p.table.roots → IfSome (slice_get p.table.roots root) (λ n. id_in p cell ≡ Some n.1) → has_id (graph_of p r).roots cell ≡ true
 root-there p r root cell placed within names =
-    let held = subst (λ o. IfSome o (λ n. id_in p cell ≡ Some n.1)) (slice_get-get_or p.table.roots root ([], 0) within) names in
-    has_id-filter_map (λ n. cell_of p n.1) p.table.roots root ([], 0) cell within (cell-from_held p placed cell (get_or p.table.roots root ([], 0)).1 held)
+    has_id-filter_map (λ n. cell_of p n.1) p.table.roots root ([], 0) cell within (root-cell p root cell placed within names)
+
+-- the cells that the first roots name, and one root more
+pub roots-more : (p : Placed) (root cell : ℕ) → IsPlaced p → root < length p.table.roots → IfSome (slice_get p.table.roots root) (λ n. id_in p cell ≡ Some n.1) → filter_map (λ n. cell_of p n.1) (take (root + 1) p.table.roots) ≡ filter_map (λ n. cell_of p n.1) (take root p.table.roots) ++ cell ∷ []
+roots-more p root cell placed within names =
+    ap (filter_map (λ n. cell_of p n.1)) (take_more p.table.roots root ([], 0) within)
+    ∙ filter_map-append (λ n. cell_of p n.1) (take root p.table.roots) (get_or p.table.roots root ([], 0) ∷ [])
+    ∙ ap (λ (o : Option ℕ). filter_map (λ n. cell_of p n.1) (take root p.table.roots) ++ cons_option o []) (root-cell p root cell placed within names)
 
 -- ---- the whole graph
 

@@ -4,8 +4,8 @@ use Rattle.std.specs.List.{flat_map}
 use Rattle.std.proofs.lemmas.Bool.{false≢true, or_cases, or_left, or_right, and_parts, and_from}
 use Rattle.graph_meaning.specs.Reach.{has_id}
 use Rattle.graph_meaning.proofs.Membership.{has_id-filter, has_id-append}
-use Rattle.graph_meaning.proofs.Reaching.{reached_nodes-closed, reached_is_reachable}
-use Rattle.scan_job.specs.Graphs.{StoppedGraph, IsWhole, whole_graph, inner_graph, owners, all_targets, is_under_owners, is_reached_by_roots}
+use Rattle.graph_meaning.proofs.Reaching.{reached_nodes-closed, IsClosed-reachable, reached_is_reachable}
+use Rattle.scan_job.specs.Graphs.{StoppedGraph, IsWhole, whole_graph, inner_graph, owners, all_targets, is_under_owners, is_found_from, is_reached_by_roots}
 use Rattle.scan_job.specs.Laws.{FoundByPath, UnderOwnersByPath}
 
 pub has_id-flat_map : (f : ℕ → List ℕ) (xs : List ℕ) (x y : ℕ) → has_id xs x ≡ true → has_id (f x) y ≡ true → has_id (flat_map f xs) y ≡ true
@@ -50,6 +50,11 @@ module _ (g : StoppedGraph) (w : IsWhole g) where
   pub root-step : (x y : ℕ) → is_reached_by_roots g x ≡ true → has_id (g.targets x) y ≡ true → is_reached_by_roots g y ≡ true
   root-step x y reached at =
       (reached_nodes-closed (whole_graph g) g.roots).along_edges x y reached refl (at, w.edges x y at)
+
+  -- what an owner finds is under owners
+  pub found-under : (o x : ℕ) → g.is_owner o ≡ true → is_found_from g o x ≡ true → is_under_owners g x ≡ true
+  found-under o x owner at =
+      IsClosed-reachable (inner_graph g) (g.targets o) (is_under_owners g) (record { from_sources = λ y leads node. under-owner o y owner leads; along_edges = λ y z under passes edge. under-step y z under edge.0 }) x ((reached_is_reachable (inner_graph g) (g.targets o) x).0 at)
 
 -- ---- in terms of paths
 

@@ -4,5 +4,7 @@ pub mod States
 pub mod Scans
 pub mod Fit
 pub mod Jobs
+pub mod Gains
+pub mod Phases
 pub mod Laws
 pub mod TestHeaps

@@ -1,7 +1,8 @@
 -- What the tests know of the jobs that they make.
-use Rattle.std.specs.Prelude.{◌≡◌, ℕ, List, [], ◌∷◌, length}
+use Rattle.std.specs.Prelude.{◌≡◌, ℕ, List, [], ◌∷◌, length, map}
 use Rattle.std.specs.List.{All}
 use Rattle.header_rule.specs.declared.headers.Headers.{Headers}
+use Rattle.header_rule.specs.declared.pass.Pass.{Pass}
 use Rattle.header_rule.specs.Passes.{IsFresh, IsPassOf, ArePassesOf}
 use Rattle.object_table.specs.Placed.{Placed}
 use Rattle.scan_job.specs.States.{ScanState, new_state}
@@ -29,3 +30,13 @@ pub record AreNewJobs (workers : ℕ) (p : Placed) (h : Headers) (js : List Scan
 -- each job counts the table's types
 abbrev pub CountKinds : Placed → List ScanState → Type 0
 CountKinds p js = All (λ j. length j.tally ≡ length p.table.kinds) js
+
+abbrev pub passes_of : List ScanState → List Pass
+passes_of js = map (λ (j : ScanState). j.pass) js
+
+-- So many new jobs, which have all passes of the headers, in order; these were made for the table's cells.
+pub record AreAllJobs (workers : ℕ) (p : Placed) (h : Headers) (js : List ScanState) : Type 0 where
+  pub headers : h.cells ≡ length p.cells
+  pub count : length js ≡ workers
+  pub each : All (IsNewJob p h) js
+  pub passes : ArePassesOf h (passes_of js)

@@ -6,6 +6,7 @@ mod job;
 mod laws;
 mod meeting;
 mod mode;
+mod phase;
 mod scanning;
 mod shared;
 #[cfg(test)]
@@ -17,4 +18,5 @@ pub use laws::{
     under_owners_is_by_a_path,
 };
 pub use mode::Mode;
+pub use phase::{begin_phase, run_scans};
 pub use shared::ScanShared;

@@ -1,0 +1,160 @@
+-- From the run of a phase to what its jobs gain.
+use Rattle.std.proofs.Common.{◌≡◌, ℕ, zero, suc, ◌+◌, ◌<◌, ◌≤◌, true, not, ◌&&◌, inl, List, [], ◌∷◌, ◌++◌, length, filter, get_or, set, map, sym, refl, ap, ◌∙◌, subst, arith, IsTrue, eqb}
+use Rattle.std.specs.List.{All, AllByRecursion, Contains, flat_map}
+use Rattle.std.proofs.lemmas.Bool.{or_right, and_parts}
+use Rattle.heap_base.specs.declared.task.Task.{Task}
+use Rattle.heap_base.specs.Counting.{bit, total, AsOften}
+use Rattle.heap_base.proofs.Counting.{total-map}
+use Rattle.graph_meaning.specs.Reach.{has_id}
+use Rattle.graph_meaning.specs.Roles.{RoleTable}
+use Rattle.graph_meaning.proofs.Membership.{has_id-head}
+use Rattle.steal_pool.specs.Jobs.{AllFit}
+use Rattle.steal_pool.specs.Lists.{Each}
+use Rattle.steal_pool.specs.Runs.{Run, all_first, AreReady}
+use Rattle.scan_job.specs.declared.mode.Mode.{Mode}
+use Rattle.scan_job.specs.declared.mode.Mode.TheVariants.{Owner, TakeUp, Root}
+use Rattle.scan_job.specs.declared.shared.ScanShared.{ScanShared}
+use Rattle.scan_job.specs.Fit.{fit_tasks, no_owners}
+use Rattle.scan_job.specs.Gains.{Gain, all_gains, Grows, Gained}
+use Rattle.scan_job.specs.Graphs.{StoppedGraph, IsWhole, owners}
+use Rattle.scan_job.specs.Jobs.{shared_graph, IsReady, scan_meaning}
+use Rattle.scan_job.specs.Phases.{AreIn, all_held, AreUnderOwners, begun, dealt, owner_firsts, held_firsts, root_firsts, OwnerGains, TakeUpGains, RootGains}
+use Rattle.scan_job.specs.Scans.{Meeting, AreAmong, Meets, task_at}
+use Rattle.scan_job.specs.States.{ScanState}
+use Rattle.scan_job.proofs.Dealing.{dealt-as_often}
+use Rattle.scan_job.proofs.Fitting.{fit_tasks-is, times-at, at-times, among-at, all-tagged}
+use Rattle.scan_job.proofs.OwnerCells.{owners-as_often}
+use Rattle.scan_job.proofs.PhaseGains.{owner-gains, take_up-gains, root-gains}
+use Rattle.scan_job.proofs.Reaching.{filter-at, root-reached}
+use Rattle.scan_job.proofs.Scanned.{Extends, RanScans, both_gains, both_gains-assoc, gain_of, extends-both, meets-extends, run-scans, begun-grows}
+use Rattle.scan_job.proofs.Starting.{all-cons, all-tail, all-map, first-ready, graph-whole, begun-modes}
+
+-- ---- jobs that grew
+
+-- the jobs hold what they gained
+pub held-gained : (g : StoppedGraph) (js : List ScanState) (gains : List Gain) (ks : List ScanState) → Each (Grows g) js gains ks → all_held ks ≡ (all_gains gains).held
+held-gained g [] gains ks e =
+    ap all_held e.1 ∙ ap (λ (others : List Gain). (all_gains others).held) (sym e.0)
+held-gained g (j ∷ js) [] ks e = absurd e
+held-gained g (j ∷ js) (a ∷ gains) [] e = absurd e
+held-gained g (j ∷ js) (a ∷ gains) (k ∷ ks) e = λ i. e.0.held i ++ held-gained g js gains ks e.1 i
+
+-- jobs keep their mode
+same-modes : (g : StoppedGraph) (mode : Mode) (js : List ScanState) (gains : List Gain) (ks : List ScanState) → Each (Extends g) js gains ks → AreIn mode js → AreIn mode ks
+same-modes g mode [] gains ks e are = subst (AreIn mode) (sym e.1) are
+same-modes g mode (j ∷ js) [] ks e are = absurd e
+same-modes g mode (j ∷ js) (a ∷ gains) [] e are = absurd e
+same-modes g mode (j ∷ js) (a ∷ gains) (k ∷ ks) e are =
+    all-cons (λ i. i.mode ≡ mode) k ks (e.0.mode ∙ are 0 j (omega arith)) (same-modes g mode js gains ks e.1 (all-tail (λ i. i.mode ≡ mode) j js are))
+
+pub run-modes : (s : ScanShared) (mode : Mode) (fs : List (List Task)) (js ks : List ScanState) → 0 < length js → AreIn mode js → Run scan_meaning s fs js ks → AreIn mode ks
+run-modes s mode fs js ks some are run =
+    let r = run-scans s mode fs js ks some are run in same-modes (shared_graph s) mode js r.gains ks r.each are
+
+-- a task of each element is fit where each is
+all-tasks : (P : Task → Type 0) (tag : ℕ → ℕ) (xs : List ℕ) → ((x : ℕ) → has_id xs x ≡ true → P (task_at (tag x) x)) → AllByRecursion P (map (λ x. task_at (tag x) x) xs)
+all-tasks P tag [] each = tt
+all-tasks P tag (x ∷ xs) each = (each x (has_id-head xs x), all-tasks P tag xs (λ y at. each y (or_right _ _ at)))
+
+map-some : (mode : Mode) (js : List ScanState) → 0 < length js → 0 < length (map (begun mode) js)
+map-some mode [] some = absurd (omega arith)
+map-some mode (j ∷ js) some = omega arith
+
+-- what is first dealt is what is to be done
+first-often : (n : ℕ) (fs : List (List Task)) (ts : List Task) → 0 < n → fs ≡ dealt n ts → AsOften (all_first fs) ts
+first-often n fs ts some lists h =
+    ap (λ (hs : List (List Task)). total h (all_first hs)) lists ∙ dealt-as_often n ts some h
+
+module _ (s : ScanShared) (js : List ScanState) (some_jobs : 0 < length js) (ready : AreReady scan_meaning s js) where
+  abbrev g : StoppedGraph
+  g = shared_graph s
+
+  whole : IsWhole g
+  whole = graph-whole s js some_jobs ready
+
+  -- ---- the first tasks are fit
+
+  pub owners-fit : AllFit (fit_tasks g Owner) (owner_firsts s.roles.now)
+  owners-fit =
+      all-tasks (Contains (fit_tasks g Owner)) (λ o. o) s.roles.now.owners (λ o at. (fit_tasks-is g whole Owner (task_at o o)).1 (at, inl refl))
+
+  pub held-fit : AreUnderOwners g (all_held js) → AllFit (fit_tasks g TakeUp) (held_firsts js)
+  held-fit under =
+      all-tasks (Contains (fit_tasks g TakeUp)) (λ _. 0) (all_held js) (λ x at. (fit_tasks-is g whole TakeUp (task_at 0 x)).1 (refl, (under x at).0, (under x at).1))
+
+  -- ---- what the run gains
+
+  module _ (ks : List ScanState) (fs : List (List Task)) (n : ℕ) (some_workers : 0 < n) where
+    pub owner-phase : fs ≡ dealt n (owner_firsts s.roles.now) → Run scan_meaning s fs (map (begun Owner) js) ks → Gained g (OwnerGains g) js ks
+    owner-phase lists run =
+        let r = run-scans s Owner fs (map (begun Owner) js) ks (map-some Owner js some_jobs) (begun-modes s Owner js) run in
+        record {
+          gains = r.gains;
+          each = begun-grows g Owner js r.gains ks r.each;
+          all = owner-gains g whole r.done r.put (all_first fs) (all_gains r.gains) r.scanned r.are_fit r.as_often
+              (λ h.
+              let a = first-often n fs (owner_firsts s.roles.now) some_workers lists h in
+              let b = total-map h (λ o. task_at o o) s.roles.now.owners in
+              let c = total-map h (λ o. task_at o o) (owners g) in
+              let d = owners-as_often s.table.now s.roles.now (first-ready s js some_jobs ready).1.roles (λ o. h (task_at o o)) in
+              omega arith);
+        }
+
+    pub take_up-phase : fs ≡ dealt n (held_firsts js) → Run scan_meaning s fs (map (begun TakeUp) js) ks → Gained g (TakeUpGains g (all_held js)) js ks
+    take_up-phase lists run =
+        let r = run-scans s TakeUp fs (map (begun TakeUp) js) ks (map-some TakeUp js some_jobs) (begun-modes s TakeUp js) run in
+        record {
+          gains = r.gains;
+          each = begun-grows g TakeUp js r.gains ks r.each;
+          all = take_up-gains g whole r.done r.put (all_first fs) (all_gains r.gains) r.scanned r.are_fit r.as_often (all_held js) (first-often n fs (held_firsts js) some_workers lists);
+        }
+
+-- ---- the roots, which the first job met before the run
+
+-- what the first job gained before the run is the first of what all gained
+first-gains : (g : StoppedGraph) (mode : Mode) (j : ScanState) (js : List ScanState) (k : ScanState) (gains : List Gain) (ks : List ScanState) (a : Gain) → Extends g (begun mode j) a k → Each (Extends g) (k ∷ map (begun mode) js) gains ks → (all : List Gain) × Each (Extends g) (map (begun mode) (j ∷ js)) all ks × (all_gains all ≡ both_gains a (all_gains gains))
+first-gains g mode j js k [] ks a p e = absurd e
+first-gains g mode j js k (b ∷ gains) [] a p e = absurd e
+first-gains g mode j js k (b ∷ gains) (l ∷ ks) a p e =
+    (both_gains a b ∷ gains, (extends-both g (begun mode j) k l a b p e.0, e.1), both_gains-assoc a b (all_gains gains))
+
+-- the meeting with the roots
+abbrev pub root_meeting : StoppedGraph → List ℕ → Meeting
+root_meeting g won = record { tag = 0; cells = g.roots; won = won }
+
+pub roots-fit : (g : StoppedGraph) → IsWhole g → (won : List ℕ) → AreAmong won g.roots → AllFit (fit_tasks g Root) (root_firsts g won)
+roots-fit g whole won among =
+    all-tagged (Contains (fit_tasks g Root)) 0 (λ x. not (g.is_owner x)) won (λ x at free. (fit_tasks-is g whole Root (task_at 0 x)).1 (refl, free, root-reached g whole x (among-at won g.roots among x at)))
+
+root-jobs : (s : ScanShared) (j : ScanState) (js ks : List ScanState) (k : ScanState) (won : List ℕ) (fs : List (List Task)) (n : ℕ) → 0 < n → IsWhole (shared_graph s) → Meets (shared_graph s) (root_meeting (shared_graph s) won) (begun Root j) k → fs ≡ dealt n (root_firsts (shared_graph s) won) → Run scan_meaning s fs (k ∷ map (begun Root) js) ks → Gained (shared_graph s) (RootGains (shared_graph s)) (j ∷ js) ks
+root-jobs s j js ks k won fs n some whole met lists run =
+    let g = shared_graph s in
+    let modes : AreIn Root (k ∷ map (begun Root) js) = all-cons (λ i. i.mode ≡ Root) k (map (begun Root) js) met.mode (begun-modes s Root js) in
+    let r = run-scans s Root fs (k ∷ map (begun Root) js) ks (omega arith) modes run in
+    let a = gain_of g Root (root_meeting g won) in
+    let f = first-gains g Root j js k r.gains ks a (meets-extends g (begun Root j) k (root_meeting g won) met) r.each in
+    record {
+      gains = f.0;
+      each = begun-grows g Root (j ∷ js) f.0 ks f.1;
+      all = subst (RootGains g) (sym f.2) (root-gains g whole r.done r.put (all_first fs) (all_gains r.gains) r.scanned r.are_fit r.as_often won met.among (first-often n fs (root_firsts g won) some lists));
+    }
+
+-- the first of the jobs that have begun met the roots and became k
+pub root-phase : (s : ScanShared) (js ks : List ScanState) (j k : ScanState) (won : List ℕ) (fs : List (List Task)) (n : ℕ) → 0 < length js → 0 < n → IsWhole (shared_graph s) → j ≡ get_or (map (begun Root) js) 0 j → Meets (shared_graph s) (root_meeting (shared_graph s) won) j k → fs ≡ dealt n (root_firsts (shared_graph s) won) → Run scan_meaning s fs (set (map (begun Root) js) 0 k) ks → Gained (shared_graph s) (RootGains (shared_graph s)) js ks
+root-phase s [] ks j k won fs n some_jobs some_workers whole is met lists run = absurd (omega arith)
+root-phase s (i ∷ js) ks j k won fs n some_jobs some_workers whole is met lists run =
+    root-jobs s i js ks k won fs n some_workers whole (subst (λ z. Meets (shared_graph s) (root_meeting (shared_graph s) won) z k) is met) lists run
+
+-- What the owner phase holds can be taken up.
+pub held-under : (g : StoppedGraph) (js ks : List ScanState) → Gained g (OwnerGains g) js ks → AreUnderOwners g (all_held ks)
+held-under g js ks gained x at =
+    let a = times-at x (all_held ks) at in
+    let b = ap (total (λ y. bit (eqb y x))) (held-gained g js gained.gains ks gained.each) in
+    let c = gained.all.held (λ y. bit (eqb y x)) in
+    let kept = λ (z : ℕ). g.is_ownee z && not (g.is_owner z) in
+    let f = filter-at kept (all_gains gained.gains).wins x (at-times x (filter kept (all_gains gained.gains).wins) (omega arith)) in
+    ((and_parts (g.is_ownee x) (not (g.is_owner x)) f.0).1, gained.all.wins x f.1)
+
+-- Take-up leaves nothing held.
+pub none-held : (g : StoppedGraph) (js ks : List ScanState) (P : Gain → Type 0) (gained : Gained g P js ks) → (all_gains gained.gains).held ≡ [] → all_held ks ≡ []
+none-held g js ks P gained none = held-gained g js gained.gains ks gained.each ∙ none

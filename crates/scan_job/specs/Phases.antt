@@ -1,0 +1,131 @@
+-- The three phases of a trace: what each asks, and what its jobs gain together.
+use Rattle.std.specs.Prelude.{◌≡◌, ℕ, ◌+◌, ◌*◌, ◌^◌, ◌%◌, ◌<◌, ◌≤◌, List, [], ◌∷◌, ◌++◌, length, filter, map, replicate, slice_index_or, slice_set, Bool, false, not, ◌&&◌, IsTrue}
+use Rattle.std.specs.List.{All, flat_map}
+use Rattle.heap_base.specs.declared.task.Task.{Task}
+use Rattle.heap_base.specs.Counting.{AsOften}
+use Rattle.graph_meaning.specs.Reach.{has_id}
+use Rattle.graph_meaning.specs.Roles.{RoleTable}
+use Rattle.header_rule.specs.declared.mark.Mark.{Mark}
+use Rattle.header_rule.specs.declared.mark.Mark.TheVariants.{Found, MetByRoots}
+use Rattle.steal_pool.specs.declared.crew.Crew.{Crew}
+use Rattle.steal_pool.specs.FirstLists.{FirstLists}
+use Rattle.steal_pool.specs.Runs.{workers_of, most_tasks, AreReady, ShareFit, HaveRoom, HaveTurns}
+use Rattle.steal_pool.specs.Jobs.{AllFit}
+use Rattle.steal_pool.specs.Runs as Runs
+use Rattle.scan_job.specs.declared.mode.Mode.{Mode}
+use Rattle.scan_job.specs.declared.shared.ScanShared.{ScanShared}
+use Rattle.scan_job.specs.Graphs.{StoppedGraph, is_border, owners, all_targets, is_under_owners, is_found_from, is_reached_by_roots}
+use Rattle.scan_job.specs.Fit.{no_owners}
+use Rattle.scan_job.specs.Gains.{Gain, is_marked}
+use Rattle.scan_job.specs.Jobs.{shared_graph, scan_meaning}
+use Rattle.scan_job.specs.Scans.{AreAmong, task_at}
+use Rattle.scan_job.specs.States.{ScanState, turns_of}
+
+abbrev pub cells_in : ScanShared → ℕ
+cells_in s = length s.table.now.cells
+
+-- What each phase asks of the jobs, the crew and the first tasks: every job is ready and has turns for as many tasks as a
+-- phase may have; there is a job and a list of first tasks for each worker; and lists and crew have room.
+pub record CanScan (s : ScanShared) (js : List ScanState) (crew : Crew ScanState) (first : FirstLists) : Type 0 where
+  pub ready : AreReady scan_meaning s js
+  pub turns : All (λ j. 2 ^ 25 < turns_of j) js
+  pub jobs : length js ≡ workers_of crew
+  pub lists : length first.lists ≡ workers_of crew
+  pub list_room : cells_in s ≤ first.room
+  pub room : 2 * cells_in s < Runs.room_of crew
+
+-- what all jobs hold, in the order of the jobs
+abbrev pub all_held : List ScanState → List ℕ
+all_held js = flat_map (λ (j : ScanState). j.held) js
+
+abbrev pub AreIn : Mode → List ScanState → Type 0
+AreIn mode js = All (λ j. j.mode ≡ mode) js
+
+-- The cells of this list are under owners, and no owners.
+abbrev pub AreUnderOwners : StoppedGraph → List ℕ → Type 0
+AreUnderOwners g xs = (x : ℕ) → IsTrue (has_id xs x) → IsTrue (not (g.is_owner x)) × IsTrue (is_under_owners g x)
+
+-- the job as it begins a phase
+abbrev pub begun : Mode → ScanState → ScanState
+begun mode j = record j { mode = mode; held = [] }
+
+-- What the crew's run asks: there is a job and a list of first tasks for each worker; the jobs are ready and have the same fit
+-- tasks; the first tasks are fit; and there are room and turns for all that may be put.
+pub record CanRun (s : ScanShared) (js : List ScanState) (crew : Crew ScanState) (fs : List (List Task)) : Type 0 where
+  pub jobs : length js ≡ workers_of crew
+  pub lists : length fs ≡ workers_of crew
+  pub ready : AreReady scan_meaning s js
+  pub same_fit : ShareFit scan_meaning s (Runs.fit_tasks scan_meaning s js) js
+  pub fit : All (AllFit (Runs.fit_tasks scan_meaning s js)) fs
+  pub room : HaveRoom scan_meaning (Runs.room_of crew) js fs
+  pub turns : HaveTurns scan_meaning (most_tasks scan_meaning js fs) js
+
+-- ---- first tasks
+
+-- the lists after the task was put last in the list of this worker
+abbrev pub put_last : List (List Task) → ℕ → Task → List (List Task)
+put_last fs worker t = slice_set fs worker (slice_index_or fs worker [] ++ t ∷ [])
+
+-- the lists after these tasks, numbered from k on, were put last each in the list of the worker of its number modulo the
+-- number of workers
+abbrev pub deal : ℕ → ℕ → List (List Task) → List Task → List (List Task)
+deal workers k fs [] = fs
+deal workers k fs (t ∷ ts) = deal workers (k + 1) (put_last fs (k % workers) t) ts
+
+-- a list for each worker: task number k stands in that of the worker k modulo the number of workers
+abbrev pub dealt : ℕ → List Task → List (List Task)
+dealt workers ts = deal workers 0 (replicate workers []) ts
+
+-- the first tasks of the owner phase
+abbrev pub owner_firsts : RoleTable → List Task
+owner_firsts r = map (λ o. task_at o o) r.owners
+
+-- those of take-up
+abbrev pub held_firsts : List ScanState → List Task
+held_firsts js = map (task_at 0) (all_held js)
+
+-- those of the root phase, where the first job won these of what the roots name
+abbrev pub root_firsts : StoppedGraph → List ℕ → List Task
+root_firsts g won = map (task_at 0) (no_owners g won)
+
+-- The lists are those of the root phase, where the first job won some of what the roots name.
+pub record BeginsAtRoots (g : StoppedGraph) (workers : ℕ) (fs : List (List Task)) : Type 0 where
+  pub won : List ℕ
+  pub among : AreAmong won g.roots
+  pub lists : fs ≡ dealt workers (root_firsts g won)
+
+-- ---- what the jobs gain together
+
+-- the scans from the owners
+-- adds: what is met is what the slots of the owners lead to, and those of the wins that are no border objects
+-- wins: each win is under owners
+-- held: what is held is the wins that are ownees and no owners
+-- found: whatever is marked found is found by its owner
+-- marked: an ownee in a slot of its owner is marked found
+-- unmet: nothing is marked as met by roots
+pub record OwnerGains (g : StoppedGraph) (a : Gain) : Type 0 where
+  pub adds : AsOften a.adds (all_targets g (owners g) ++ all_targets g (filter (λ x. not (is_border g x)) a.wins))
+  pub wins : (x : ℕ) → IsTrue (has_id a.wins x) → IsTrue (is_under_owners g x)
+  pub held : AsOften a.held (filter (λ x. g.is_ownee x && not (g.is_owner x)) a.wins)
+  pub found : (e : ℕ) → IsTrue (is_marked Found e a.marks) → (o : ℕ) × IsTrue (g.owns o e) × IsTrue (is_found_from g o e)
+  pub marked : (o e : ℕ) → IsTrue (g.owns o e) → IsTrue (has_id (g.targets o) e) → IsTrue (is_marked Found e a.marks)
+  pub unmet : (e : ℕ) → is_marked MetByRoots e a.marks ≡ false
+
+-- the scans from what was held
+-- adds: what is met is what the slots of what was held lead to, and those of the wins that are no owners
+-- wins: each win is under owners
+pub record TakeUpGains (g : StoppedGraph) (held : List ℕ) (a : Gain) : Type 0 where
+  pub adds : AsOften a.adds (all_targets g held ++ all_targets g (no_owners g a.wins))
+  pub wins : (x : ℕ) → IsTrue (has_id a.wins x) → IsTrue (is_under_owners g x)
+  pub none_held : a.held ≡ []
+  pub no_marks : a.marks ≡ []
+
+-- the scans from the roots
+-- adds: what is met is what the roots name, and what the slots of the wins that are no owners lead to
+-- wins: each win is reached by a root
+-- marks: the ownees that are met are marked as met by roots, each as often as it is met, and no other mark is set
+pub record RootGains (g : StoppedGraph) (a : Gain) : Type 0 where
+  pub adds : AsOften a.adds (g.roots ++ all_targets g (no_owners g a.wins))
+  pub wins : (x : ℕ) → IsTrue (has_id a.wins x) → IsTrue (is_reached_by_roots g x)
+  pub none_held : a.held ≡ []
+  pub marks : AsOften a.marks (map (λ e. (e, MetByRoots)) (filter g.is_ownee a.adds))

@@ -1,0 +1,58 @@
+//! How each phase of a trace begins, and its run.
+ghost use Rattle.std.specs.Prelude.{◌≡◌, [], length, map};
+ghost use Rattle.std.specs.Bool.{OnTrue};
+ghost use Rattle.std.specs.List.{All};
+ghost use Rattle.steal_pool.specs.Runs.{workers_of, room_of, most_tasks, AreReady, TurnsLast, Run};
+ghost use Rattle.scan_job.specs.Jobs.{scan_meaning};
+ghost use Rattle.scan_job.specs.Phases.{CanRun, begun};
+
+use crate::job::ScanJob;
+use crate::mode::Mode;
+use crate::shared::ScanShared;
+use heap_base::Gate;
+use std::thread::Threads;
+use steal_pool::{Crew, FirstTasks};
+
+/// Sets the mode of each job, and takes the held cells away.
+pub fn begin_phase(jobs: &mut Vec<ScanJob>, mode: Mode)
+    ensures { jobs.new.items ≡ map (begun mode) jobs.old.items }
+{
+    for job in jobs.iter_mut() {
+        job.set_mode(mode);
+        job.clear_held();
+    }
+}
+
+// Whether no list has a task.
+fn are_empty(first: &FirstTasks, workers: u32) -> bool
+    requires { workers ≡ length first.now.lists }
+    ensures { OnTrue result (All (λ f. f ≡ []) first.now.lists) }
+{
+    for worker in 0..workers {
+        if !first.of(worker).is_empty() {
+            return false;
+        }
+    }
+    true
+}
+
+/// The crew's run from the first tasks. Where there is none, nothing is to be done, and no thread is started.
+pub fn run_scans<R: Threads + Sync, G: Gate>(
+    rt: &R,
+    crew: &mut Crew<ScanJob>,
+    shared: &ScanShared<'_>,
+    jobs: &mut Vec<ScanJob>,
+    first: &FirstTasks,
+    gate: &G,
+)
+    requires { CanRun shared.now jobs.old.items crew.old first.now.lists }
+    ensures ran { Run scan_meaning shared.now first.now.lists jobs.old.items jobs.new.items }
+    ensures ready { AreReady scan_meaning shared.now jobs.new.items }
+    ensures turns { TurnsLast scan_meaning (most_tasks scan_meaning jobs.old.items first.now.lists) jobs.old.items jobs.new.items }
+    ensures room { room_of crew.new ≡ room_of crew.old }
+    ensures workers { workers_of crew.new ≡ workers_of crew.old }
+{
+    if !are_empty(first, crew.workers()) {
+        crew.run(rt, shared, jobs, first, gate);
+    }
+}
