@@ -1,0 +1,62 @@
+//! The scans from the owners.
+ghost use Rattle.std.specs.Prelude.{◌≡◌, ◌+◌, ◌<◌, ◌≤◌, ◌^◌, [], length, map, replicate};
+ghost use Rattle.heap_base.specs.declared.limits.TheConstants.{MOST_OBJECTS};
+ghost use Rattle.steal_pool.specs.Runs.{workers_of, room_of, AreReady, TurnsLast};
+ghost use Rattle.scan_job.specs.declared.mode.Mode.TheVariants.{Owner};
+ghost use Rattle.scan_job.specs.Gains.{Gained};
+ghost use Rattle.scan_job.specs.Jobs.{shared_graph, scan_meaning};
+ghost use Rattle.scan_job.specs.Phases.{CanScan, AreIn, dealt, owner_firsts, OwnerGains};
+ghost use Rattle.scan_job.specs.Scans.{task_at};
+
+use heap_base::{Gate, Task};
+use scan_job::{Mode, ScanJob, ScanShared, begin_phase, run_scans};
+use std::thread::Threads;
+use steal_pool::{Crew, FirstTasks};
+
+// Deals a task of each owner to the workers in turn.
+fn add_owners(owners: &[u32], first: &mut FirstTasks, workers: u32)
+    requires some { 0 < workers }
+    requires lists { first.old.lists ≡ replicate workers [] }
+    requires room { length owners.now ≤ first.old.room }
+    requires few { length owners.now ≤ MOST_OBJECTS }
+    ensures lists { first.new.lists ≡ dealt workers (map (λ o. task_at o o) owners.now) }
+    ensures room { first.new.room ≡ first.old.room }
+{
+    for (number, owner) in owners.iter().enumerate() {
+        first.add(
+            number as u32 % workers,
+            Task {
+                cell: *owner,
+                tag: *owner,
+            },
+        );
+    }
+}
+
+/// Scans from every owner. Owner number k, from 0, goes first to worker k modulo the number of workers, in the order
+/// of the roles; the lists stay in `first`. What the jobs held before is taken away. Afterwards they hold the ownees
+/// at which the scans stopped, and all is as `take_up` asks. It takes no memory; where there is no owner no thread is
+/// started.
+pub fn owner_phase<R: Threads + Sync, G: Gate>(
+    rt: &R,
+    crew: &mut Crew<ScanJob>,
+    shared: &ScanShared<'_>,
+    jobs: &mut Vec<ScanJob>,
+    first: &mut FirstTasks,
+    gate: &G,
+)
+    requires { CanScan shared.now jobs.old.items crew.old first.old }
+    ensures gains { Gained (shared_graph shared.now) (OwnerGains (shared_graph shared.now)) jobs.old.items jobs.new.items }
+    ensures first { first.new.lists ≡ dealt (workers_of crew.old) (owner_firsts shared.now.roles.now) }
+    ensures first_room { first.new.room ≡ first.old.room }
+    ensures ready { AreReady scan_meaning shared.now jobs.new.items }
+    ensures modes { AreIn Owner jobs.new.items }
+    ensures turns { TurnsLast scan_meaning (2 ^ 25 + 1) jobs.old.items jobs.new.items }
+    ensures room { room_of crew.new ≡ room_of crew.old }
+    ensures workers { workers_of crew.new ≡ workers_of crew.old }
+{
+    first.clear();
+    add_owners(shared.roles.owners(), first, crew.workers());
+    begin_phase(jobs, Mode::Owner);
+    run_scans(rt, crew, shared, jobs, first, gate);
+}
