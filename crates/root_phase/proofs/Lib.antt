@@ -1,0 +1,2 @@
+pub mod RootMeetings
+pub mod RootRuns

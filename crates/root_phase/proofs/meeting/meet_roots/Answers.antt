@@ -1,0 +1,100 @@
+use Rattle.std.proofs.Common.{◌≡◌, ◌<◌, ◌≤◌, Bool, true, false, length, refl, sym, ap, ◌∙◌, arith}
+use Rattle.std.proofs.lemmas.List.{length-replicate}
+use Rattle.scan_job.specs.Phases.{cells_in}
+use Rattle.scan_job.proofs.Placing.{is-whole, root-there, held-from_node}
+use Rattle.root_phase.specs.Roots.{JobAndLists}
+use Rattle.root_phase.proofs.RootMeetings.{NextRoot, meets-no_roots, turns-left, passed-by, below, has-room, goes-on}
+use Rattle.root_phase.proofs.meeting.meet_roots.Goals as goal
+use Rattle.root_phase.proofs.meeting.meet_roots.Goals.{then-meet_one, else-meet_one}
+
+pub loop-root-init : goal.loop-root-init
+loop-root-init c =
+    let first = meets-no_roots c.args.shared.now c.args.workers c.args.job.now c.args.first.now.lists c.requires.lists in
+    record { met = first.0; number = first.1; ready = c.requires.ready; room = refl }
+
+pub meet_one-requires-clause-turns : goal.meet_one-requires-clause-turns
+meet_one-requires-clause-turns c =
+    let roots = c.requires.ready.sound.limits.roots in
+    let count = c.roots-root-end.ensures.count in
+    let within = c.loop-root-test.true in
+    let t = turns-left c.args.shared.now c.loop-root.root (record { job = c.args.job.now; lists = c.args.first.now.lists }) (record { job = c.loop-root.job; lists = c.loop-root.first.lists }) c.loop-root.invariant.met (omega arith) in
+    omega arith
+
+pub meet_one-requires-clause-cell : goal.meet_one-requires-clause-cell
+meet_one-requires-clause-cell c =
+    let p = c.args.shared.now.table.now in
+    let r = c.args.shared.now.roles.now in
+    let within : c.loop-root.root < length p.table.roots = (let e = c.roots-root-end.ensures.count in let l = c.loop-root-test.true in omega arith) in
+    let there = root-there p r c.loop-root.root c.root_cell-cell.result c.requires.ready.placed within c.root_cell-cell.ensures.cell in
+    held-from_node p r c.root_cell-cell.result ((is-whole p r c.requires.ready.roles).named c.root_cell-cell.result there)
+
+pub add-requires-clause-worker : goal.add-requires-clause-worker
+add-requires-clause-worker c =
+    let s = c.args.shared.now in
+    let next : NextRoot s c.loop-root.root c.root_cell-cell.result c.meet_one.result c.loop-root.job c.meet_one.new.job = record {
+      within = (let e = c.roots-root-end.ensures.count in let l = c.loop-root-test.true in omega arith);
+      names = c.root_cell-cell.ensures.cell;
+      meets = c.meet_one.ensures.meets;
+      ready = c.meet_one.ensures.ready;
+      within_wins = c.meet_one.ensures.within_wins;
+    } in
+    let workers : c.args.workers ≡ length c.args.first.now.lists = (sym (ap length c.requires.lists ∙ length-replicate c.args.workers _)) in
+    let old : JobAndLists = record { job = c.args.job.now; lists = c.args.first.now.lists } in
+    let now : JobAndLists = record { job = c.loop-root.job; lists = c.loop-root.first.lists } in
+    (has-room s c.loop-root.root c.root_cell-cell.result c.meet_one.result old now c.meet_one.new.job c.loop-root.invariant.met next c.args.workers c.loop-root.number workers c.loop-root.invariant.number c.if-meet_one.true c.args.first.now.room c.requires.some c.requires.room).0
+
+pub add-requires-clause-room : goal.add-requires-clause-room
+add-requires-clause-room c =
+    let s = c.args.shared.now in
+    let next : NextRoot s c.loop-root.root c.root_cell-cell.result c.meet_one.result c.loop-root.job c.meet_one.new.job = record {
+      within = (let e = c.roots-root-end.ensures.count in let l = c.loop-root-test.true in omega arith);
+      names = c.root_cell-cell.ensures.cell;
+      meets = c.meet_one.ensures.meets;
+      ready = c.meet_one.ensures.ready;
+      within_wins = c.meet_one.ensures.within_wins;
+    } in
+    let workers : c.args.workers ≡ length c.args.first.now.lists = (sym (ap length c.requires.lists ∙ length-replicate c.args.workers _)) in
+    let old : JobAndLists = record { job = c.args.job.now; lists = c.args.first.now.lists } in
+    let now : JobAndLists = record { job = c.loop-root.job; lists = c.loop-root.first.lists } in
+    let r = (has-room s c.loop-root.root c.root_cell-cell.result c.meet_one.result old now c.meet_one.new.job c.loop-root.invariant.met next c.args.workers c.loop-root.number workers c.loop-root.invariant.number c.if-meet_one.true c.args.first.now.room c.requires.some c.requires.room).1 in
+    let e = c.loop-root.invariant.room in
+    omega arith
+
+pub overflow_add-number : goal.overflow_add-number
+overflow_add-number c =
+    let s = c.args.shared.now in
+    let next : NextRoot s c.loop-root.root c.root_cell-cell.result c.meet_one.result c.loop-root.job c.meet_one.new.job = record {
+      within = (let e = c.roots-root-end.ensures.count in let l = c.loop-root-test.true in omega arith);
+      names = c.root_cell-cell.ensures.cell;
+      meets = c.meet_one.ensures.meets;
+      ready = c.meet_one.ensures.ready;
+      within_wins = c.meet_one.ensures.within_wins;
+    } in
+    let workers : c.args.workers ≡ length c.args.first.now.lists = (sym (ap length c.requires.lists ∙ length-replicate c.args.workers _)) in
+    let old : JobAndLists = record { job = c.args.job.now; lists = c.args.first.now.lists } in
+    let now : JobAndLists = record { job = c.loop-root.job; lists = c.loop-root.first.lists } in
+    let l = below s c.loop-root.root c.root_cell-cell.result c.meet_one.result old now c.meet_one.new.job c.loop-root.invariant.met next c.args.workers c.loop-root.number workers c.loop-root.invariant.number c.if-meet_one.true in
+    let few = c.requires.ready.placed.few in
+    omega arith
+
+pub loop-root-preserved : goal.loop-root-preserved
+loop-root-preserved c =
+    let s = c.args.shared.now in
+    let next : NextRoot s c.loop-root.root c.root_cell-cell.result c.meet_one.result c.loop-root.job c.meet_one.new.job = record {
+      within = (let e = c.roots-root-end.ensures.count in let l = c.loop-root-test.true in omega arith);
+      names = c.root_cell-cell.ensures.cell;
+      meets = c.meet_one.ensures.meets;
+      ready = c.meet_one.ensures.ready;
+      within_wins = c.meet_one.ensures.within_wins;
+    } in
+    let workers : c.args.workers ≡ length c.args.first.now.lists = (sym (ap length c.requires.lists ∙ length-replicate c.args.workers _)) in
+    let old : JobAndLists = record { job = c.args.job.now; lists = c.args.first.now.lists } in
+    let now : JobAndLists = record { job = c.loop-root.job; lists = c.loop-root.first.lists } in
+    elim c.if-meet_one.branch [
+      | then-meet_one w ↦
+          let r = goes-on s c.loop-root.root c.root_cell-cell.result c.meet_one.result old now c.meet_one.new.job c.loop-root.invariant.met next c.args.workers c.loop-root.number workers c.loop-root.invariant.number w.if-meet_one.true w.add.new.self.lists w.add.ensures.lists in
+          rw (w.first-is, w.number-is) (record { met = r.0; number = r.1; ready = c.meet_one.ensures.ready; room = w.add.ensures.room ∙ c.loop-root.invariant.room })
+      | else-meet_one w ↦
+          let r = passed-by s c.loop-root.root c.root_cell-cell.result c.meet_one.result old now c.meet_one.new.job c.loop-root.invariant.met next c.args.workers c.loop-root.number workers c.loop-root.invariant.number w.if-meet_one.false in
+          rw (w.first-is, w.number-is) (record { met = r.0; number = r.1; ready = c.meet_one.ensures.ready; room = c.loop-root.invariant.room })
+    ]

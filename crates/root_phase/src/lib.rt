@@ -1,0 +1,7 @@
+//! The root phase: the scans from what the roots name.
+#![tactic(auto)]
+
+mod meeting;
+mod roots;
+
+pub use roots::root_phase;

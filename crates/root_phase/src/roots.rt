@@ -1,0 +1,42 @@
+//! The scans from the roots.
+ghost use Rattle.std.specs.Prelude.{◌≡◌, ◌+◌, ◌^◌, [], length};
+ghost use Rattle.steal_pool.specs.Runs.{workers_of, room_of, AreReady, TurnsLast};
+ghost use Rattle.scan_job.specs.declared.mode.Mode.TheVariants.{Root};
+ghost use Rattle.scan_job.specs.Gains.{Gained};
+ghost use Rattle.scan_job.specs.Jobs.{shared_graph, scan_meaning};
+ghost use Rattle.scan_job.specs.Phases.{CanScan, AreIn, all_held, BeginsAtRoots, RootGains};
+
+use crate::meeting::meet_roots;
+use heap_base::Gate;
+use scan_job::{Mode, ScanJob, ScanShared, begin_phase, run_scans};
+use std::thread::Threads;
+use steal_pool::{Crew, FirstTasks};
+
+/// Meets every root once, in order, by the first job, and scans from those of its wins that are no owners. Such a win
+/// number k, from 0, goes first to worker k modulo the number of workers; the lists stay in `first`. What the jobs
+/// held before is taken away, and nothing is held afterwards. It takes no memory; where no win is to be scanned no
+/// thread is started.
+pub fn root_phase<R: Threads + Sync, G: Gate>(
+    rt: &R,
+    crew: &mut Crew<ScanJob>,
+    shared: &ScanShared<'_>,
+    jobs: &mut Vec<ScanJob>,
+    first: &mut FirstTasks,
+    gate: &G,
+)
+    requires { CanScan shared.now jobs.old.items crew.old first.old }
+    ensures gains { Gained (shared_graph shared.now) (RootGains (shared_graph shared.now)) jobs.old.items jobs.new.items }
+    ensures none_held { all_held jobs.new.items ≡ [] }
+    ensures first { BeginsAtRoots (shared_graph shared.now) (workers_of crew.old) first.new.lists }
+    ensures first_room { first.new.room ≡ first.old.room }
+    ensures ready { AreReady scan_meaning shared.now jobs.new.items }
+    ensures modes { AreIn Root jobs.new.items }
+    ensures turns { TurnsLast scan_meaning (2 ^ 25 + 1) jobs.old.items jobs.new.items }
+    ensures room { room_of crew.new ≡ room_of crew.old }
+    ensures workers { workers_of crew.new ≡ workers_of crew.old }
+{
+    first.clear();
+    begin_phase(jobs, Mode::Root);
+    meet_roots(shared, &mut jobs[0], first, crew.workers());
+    run_scans(rt, crew, shared, jobs, first, gate);
+}
