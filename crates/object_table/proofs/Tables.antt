@@ -8,10 +8,10 @@ use Rattle.std.specs.BTreeMap.{insert_entry, is_at}
 use Rattle.std.proofs.lemmas.Bool.{cases_lt}
 use Rattle.std.proofs.lemmas.List.{length-map, get_or-map, take_more, take_all}
 use Rattle.std.proofs.lemmas.List.Sums.{sum_by-cons, sum_by-append, sum_by-take-le}
-use Rattle.std.proofs.lemmas.Option.{same_Some, slice_get_within, get_or_from_slice_get, slice_get-get_or}
+use Rattle.std.proofs.lemmas.Option.{same_Some, slice_get_within, get_or_from_slice_get, slice_get-get_or, slice_get-map}
 use Rattle.heap_base.specs.declared.limits.TheConstants.{MOST_OBJECTS, MOST_SLOTS}
 use Rattle.graph_meaning.specs.declared.refusal.Refusal.TheVariants.{NotLive}
-use Rattle.graph_meaning.specs.Heap.{Slot, Object, name_cmp, edge_of, is_live, slot_count}
+use Rattle.graph_meaning.specs.Heap.{Slot, Object, name_cmp, ids, edge_of, is_live, slot_count}
 use Rattle.graph_meaning.specs.Step.{not_live, slots_of, alloc_refusal, store_refusal, slot_refusal, root_refusal, kind_refusal, with_kind, with_changed_slot, slot_holding, slot_made_weak, with_root}
 use Rattle.object_table.specs.declared.slot.Slot.{Slot as CellSlot}
 use Rattle.object_table.specs.declared.table.ObjectTable.TheInside.{Inside}
@@ -119,6 +119,23 @@ module _ (p : Parts) (is : IsTable p) where
   pub root_in : (cell id : ℕ) (o : Option (List ℕ × ℕ)) → found p.ids id ≡ Some cell → IfSome o (λ r. id ≡ r.1) → IfSome o (λ r. id_in (placed_of p) cell ≡ Some r.1)
   root_in cell id None at named = tt
   root_in cell id (Some r) at named = id_in-held p is.laid cell ∙ stands_found p is.laid id cell at ∙ ap Some named
+
+  pub nth_within : (number : ℕ) → number < length (placed_of p).table.objects → number < length p.ids
+  nth_within number h = rw (length-map p.ids (λ e. object_at_cell p.kinds p.cells e.1)) at h
+
+  -- the objects by id stand in the order in which their ids are kept
+  pub nth_in : (number cell : ℕ) → number < length p.ids → IfSome (slice_get p.ids number) (λ e. cell ≡ e.1) → id_in (placed_of p) cell ≡ slice_get (ids (placed_of p).table) number
+  nth_in number cell h at =
+      let d : ℕ × ℕ = (0, 0) in
+      let e : ℕ × ℕ = get_or p.ids number d in
+      let here : slice_get p.ids number ≡ Some e = slice_get-get_or p.ids number d h in
+      let there : cell ≡ e.1 = rw here at at in
+      let stands : id_held p.cells e.1 ≡ Some e.0 = is.laid.stands number d h in
+      let (o, held, same) = held_with_id p.cells e.1 e.0 stands in
+      let objects : List Object = map (λ x. object_at_cell p.kinds p.cells x.1) p.ids in
+      let listed : slice_get (ids (placed_of p).table) number ≡ Some (object_at_cell p.kinds p.cells e.1).id =
+      slice_get-map (λ (q : Object). q.id) objects number ∙ ap (option_map (λ (q : Object). q.id)) (slice_get-map (λ (x : ℕ × ℕ). object_at_cell p.kinds p.cells x.1) p.ids number ∙ ap (option_map (λ (x : ℕ × ℕ). object_at_cell p.kinds p.cells x.1)) here) in
+      id_in-held p is.laid cell ∙ ap (id_held p.cells) there ∙ stands ∙ sym (listed ∙ ap Some (ap (λ q. (unwrap_or q nobody).id) held ∙ same))
 
 -- ---- a table after a call
 

@@ -1,5 +1,5 @@
 -- A table with the places of its objects: each cell holds one object or is empty.
-use Rattle.std.specs.Prelude.{◌≡◌, ◌==◌, ℕ, ◌+◌, ◌≤◌, List, [], ◌∷◌, length, All, Bool, true, false, IsTrue, if◌then◌else◌, Option, None, Some, option_and_then, slice_index_or}
+use Rattle.std.specs.Prelude.{◌≡◌, ◌==◌, ℕ, ◌+◌, ◌≤◌, List, [], ◌∷◌, length, All, Bool, true, false, IsTrue, if◌then◌else◌, Option, None, Some, option_and_then, position, slice_index_or}
 use Rattle.std.specs.Option.{option_map_or}
 use Rattle.std.specs.List.{cons_option, IsDistinct}
 use Rattle.std.specs.List.Sorted.{IsStrictlySortedBy}
@@ -22,6 +22,14 @@ nothing_placed = record { table = empty_table; cells = [] }
 -- the id of the object that a cell holds
 abbrev pub id_in : Placed → ℕ → Option ℕ
 id_in p cell = slice_index_or p.cells cell None
+
+-- whether a cell holds the object with this id
+abbrev pub holds_id : ℕ → Option ℕ → Bool
+holds_id id cell = option_map_or (λ x. x == id) cell false
+
+-- the cell of the object with this id
+abbrev pub cell_of : Placed → ℕ → Option ℕ
+cell_of p id = position (holds_id id) p.cells
 
 -- the object that a cell holds
 abbrev pub object_in : Placed → ℕ → Option Object

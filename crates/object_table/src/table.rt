@@ -3,7 +3,7 @@ ghost use Rattle.std.specs.Result.{result_err};
 ghost use Rattle.std.specs.Str.{bytes_eq};
 ghost use Rattle.heap_base.specs.declared.limits.TheConstants.{MOST_SLOTS};
 ghost use Rattle.graph_meaning.specs.Answers.{RefusesBy};
-ghost use Rattle.graph_meaning.specs.Heap.{edge_of, is_live};
+ghost use Rattle.graph_meaning.specs.Heap.{edge_of, ids, is_live};
 ghost use Rattle.graph_meaning.specs.Collecting.{with_only};
 ghost use Rattle.graph_meaning.specs.Step.{alloc_refusal, with_object, not_live, slot_refusal, target_refusal, store_refusal, with_changed_slot, slot_holding, slot_made_weak, root_refusal, with_root, is_root, kind_refusal, with_kind};
 ghost use Rattle.graph_meaning.specs.Views.{heap_view};
@@ -211,6 +211,14 @@ impl ObjectTable {
         ensures id { result ≡ id_in self.now cell }
     {
         self.cells.id_at(cell)
+    }
+
+    /// The cell of the object that is this number, from 0, among all objects by their ids.
+    pub fn nth_cell(&self, number: u32) -> u32
+        requires in_range { number < length self.now.table.objects }
+        ensures cell { id_in self.now result ≡ slice_get (ids self.now.table) number }
+    {
+        self.ids.cell(number as usize)
     }
 
     /// The number of the type of the object in a cell.

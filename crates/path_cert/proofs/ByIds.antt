@@ -8,8 +8,8 @@ use Rattle.std.proofs.lemmas.List.Quantifiers.{position-Some}
 use Rattle.std.proofs.lemmas.List.Sums.{position_or_len_is}
 use Rattle.graph_meaning.specs.Roles.{RoleTable, AreRolesOf}
 use Rattle.graph_meaning.proofs.Membership.{All-has_id}
-use Rattle.object_table.specs.Placed.{Placed, id_in, IsPlaced}
-use Rattle.path_cert.specs.Cells.{holds_id, cell_of, by_id}
+use Rattle.object_table.specs.Placed.{Placed, id_in, IsPlaced, cell_of, holds_id}
+use Rattle.path_cert.specs.Cells.{by_id}
 use Rattle.path_cert.proofs.HeldObjects.{held-within}
 
 holds_id-true : (id : ℕ) (o : Option ℕ) → holds_id id o ≡ true → o ≡ Some id

@@ -7,10 +7,9 @@ use Rattle.std.proofs.lemmas.List.Elements.{filter-append}
 use Rattle.heap_base.specs.declared.limits.TheConstants.{MOST_SLOTS, MOST_ROOTS}
 use Rattle.heap_base.specs.declared.task.Task.{Task}
 use Rattle.graph_meaning.proofs.Membership.{length-filter_le}
-use Rattle.object_table.specs.Placed.{id_in}
+use Rattle.object_table.specs.Placed.{id_in, cell_of}
 use Rattle.header_rule.specs.Passes.{adds, wins}
 use Rattle.scan_job.specs.declared.shared.ScanShared.{ScanShared}
-use Rattle.scan_job.specs.Cells.{cell_of}
 use Rattle.scan_job.specs.Fit.{no_owners}
 use Rattle.scan_job.specs.Graphs.{StoppedGraph}
 use Rattle.scan_job.specs.Jobs.{shared_graph, IsReady}

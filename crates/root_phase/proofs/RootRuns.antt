@@ -11,7 +11,7 @@ use Rattle.steal_pool.specs.Lists.{Pairs}
 use Rattle.steal_pool.specs.Runs.{workers_of, most_tasks, Run, AreReady, TurnsLast}
 use Rattle.scan_job.specs.declared.mode.Mode.TheVariants.{Root}
 use Rattle.scan_job.specs.declared.shared.ScanShared.{ScanShared}
-use Rattle.scan_job.specs.Cells.{cell_of}
+use Rattle.object_table.specs.Placed.{cell_of}
 use Rattle.scan_job.specs.Fit.{no_owners}
 use Rattle.scan_job.specs.Gains.{Gained}
 use Rattle.scan_job.specs.Graphs.{StoppedGraph, IsWhole}

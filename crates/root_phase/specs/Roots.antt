@@ -2,9 +2,8 @@
 use Rattle.std.specs.Prelude.{◌≡◌, ℕ, ◌≤◌, List, length, Bool, not, ◌&&◌, take}
 use Rattle.std.specs.List.{filter_map}
 use Rattle.heap_base.specs.declared.task.Task.{Task}
-use Rattle.object_table.specs.Placed.{Placed}
+use Rattle.object_table.specs.Placed.{Placed, cell_of}
 use Rattle.scan_job.specs.declared.shared.ScanShared.{ScanShared}
-use Rattle.scan_job.specs.Cells.{cell_of}
 use Rattle.scan_job.specs.Jobs.{shared_graph}
 use Rattle.scan_job.specs.Phases.{cells_in, dealt, root_firsts}
 use Rattle.scan_job.specs.Scans.{Meeting, one_meeting, Meets}

@@ -15,9 +15,9 @@ use Rattle.graph_meaning.specs.declared.roles.OwnerRole.TheVariants.{NotOwned, O
 use Rattle.graph_meaning.specs.Heap.{Slot, Object, empty_slot, object_at, edge_of}
 use Rattle.graph_meaning.specs.Reach.{has_id}
 use Rattle.graph_meaning.specs.Roles.{RoleTable, owner_in, AreRolesOf}
-use Rattle.object_table.specs.Placed.{Placed, id_in, slots_in, slot_in, IsPlaced, IsSound}
+use Rattle.object_table.specs.Placed.{Placed, id_in, slots_in, slot_in, IsPlaced, IsSound, cell_of, holds_id}
 use Rattle.scan_job.specs.Graphs.{IsWhole}
-use Rattle.scan_job.specs.Cells.{holds_id, cell_of, target_of, targets_of, is_owned, is_owned_by, graph_of}
+use Rattle.scan_job.specs.Cells.{target_of, targets_of, is_owned, is_owned_by, graph_of}
 use Rattle.scan_job.proofs.Numbers.{once-range, once-filter, in-range}
 use Rattle.scan_job.proofs.Reaching.{at-filter, filter-at}
 

@@ -1,23 +1,14 @@
 -- The graph that a table and the roles of its objects stand for, by cells.
 use Rattle.std.specs.Prelude.{ℕ, ◌==◌, List, length, filter, position, Bool, true, false, Option, option_and_then, is_some, unwrap_or}
 use Rattle.std.specs.List.{filter_map, range_with_len}
-use Rattle.std.specs.Option.{option_map_or}
 use Rattle.std.specs.Str.{bytes_eq}
 use Rattle.graph_meaning.specs.declared.roles.OwnerRole.{OwnerRole}
 use Rattle.graph_meaning.specs.declared.roles.OwnerRole.TheVariants.{NotOwned, OwnerCell, OwnerGone}
 use Rattle.graph_meaning.specs.Heap.{Slot, edge_of}
 use Rattle.graph_meaning.specs.Reach.{has_id}
 use Rattle.graph_meaning.specs.Roles.{RoleTable, owner_in}
-use Rattle.object_table.specs.Placed.{Placed, id_in, object_in, slots_in}
+use Rattle.object_table.specs.Placed.{Placed, id_in, cell_of, object_in, slots_in}
 use Rattle.scan_job.specs.Graphs.{StoppedGraph}
-
--- whether a cell holds the object with this id
-abbrev pub holds_id : ℕ → Option ℕ → Bool
-holds_id id cell = option_map_or (λ x. x == id) cell false
-
--- the cell of the object with this id
-abbrev pub cell_of : Placed → ℕ → Option ℕ
-cell_of p id = position (holds_id id) p.cells
 
 -- the cell of what a slot leads to, if it is an edge
 abbrev pub target_of : Placed → Slot → Option ℕ
