@@ -1,24 +1,28 @@
 -- What roles say by cell is what a heap says by id.
-use Rattle.std.proofs.Common.{◌≡◌, ℕ, Bool, true, false, List, get_or, Option, Some, sym, ap, refl, subst, ◌∙◌, arith}
+use Rattle.std.proofs.Common.{◌≡◌, ℕ, Bool, true, false, List, [], map, get_or, slice_get, Option, Some, position, sym, ap, refl, subst, ◌∙◌, arith}
 use Rattle.std.specs.Prelude.{◌==◌, ◌↔◌}
 use Rattle.std.specs.BTreeMap.{is_at}
 use Rattle.std.specs.Cmp.{both_ways}
+use Rattle.std.specs.List.{IsDistinct}
 use Rattle.std.specs.Map.{keys_of, values_of}
 use Rattle.std.specs.Option.{is_some, option_and_then, option_map_or}
 use Rattle.std.specs.Ordering.{nat_cmp}
+use Rattle.std.specs.Str.{bytes_eq}
 use Rattle.std.proofs.lemmas.Bool.{false≢true, and_from}
 use Rattle.std.proofs.lemmas.Bool.Decides.{nat_tests}
 use Rattle.std.proofs.lemmas.Map.Made.{is_some-lookup}
+use Rattle.std.proofs.lemmas.Option.{get_or_from_slice_get, slice_get_within}
 use Rattle.graph_meaning.specs.declared.roles.OwnerRole.{OwnerRole}
 use Rattle.graph_meaning.specs.declared.roles.OwnerRole.TheVariants.{NotOwned, OwnerCell, OwnerGone}
-use Rattle.graph_meaning.specs.Heap.{is_live}
+use Rattle.graph_meaning.specs.Heap.{Heap, is_live}
 use Rattle.graph_meaning.specs.Reach.{has_id}
 use Rattle.graph_meaning.specs.Roles.{RoleTable, owner_in}
 use Rattle.graph_meaning.proofs.Membership.{list_any_agree}
 use Rattle.object_table.specs.Placed.{Placed, IsPlaced, id_in}
-use Rattle.assert_registry.specs.Assertions.{Assertions, owner_of}
-use Rattle.assert_registry.specs.ByCell.{AreRolesBy, IsRoleBy, holds_one_of, live_owners}
-use Rattle.assert_registry.specs.Laws.{RolesSayOfHeap}
+use Rattle.object_table.proofs.Positions.{position_distinct}
+use Rattle.assert_registry.specs.Assertions.{Assertions, limit_of, owner_of}
+use Rattle.assert_registry.specs.ByCell.{AreRolesBy, IsRoleBy, holds_one_of, owner_at, live_owners}
+use Rattle.assert_registry.specs.Laws.{StandFor, RolesStandForHeap, RolesSayOfHeap}
 use Rattle.assert_registry.proofs.RolesOfTable.{held_by, holder_of, is_live_owner, and_parts, role-cell}
 
 -- an object is an ownee where a look-up finds its owner
@@ -67,11 +71,39 @@ module _ (a : Assertions) (p : Placed) (r : RoleTable) (placed : IsPlaced p) (by
     λ owned. role-cell p placed owner other (owner_in r cell) held_there (subst (λ o. IsRoleBy p o (owner_in r cell)) owned (role_by cell id held)),
   )
 
+-- the assertions of a heap, with its limits by number as the roles have them
+abbrev assertions_in : Heap → RoleTable → Assertions
+assertions_in h r = record { dead = h.dead; unshared = h.unshared; limits = r.limits; owners = h.owners }
+
+are_roles_by : (h : Heap) (p : Placed) (r : RoleTable) → StandFor p r h → AreRolesBy (assertions_in h r) p r
+are_roles_by h p r stand = record { dead = stand.dead; unshared = stand.unshared; ownees = stand.ownees; limits = λ kind. refl; owners = stand.owners }
+
 pub roles_say_of_heap : RolesSayOfHeap
-roles_say_of_heap h a p r has placed by = record {
-  dead = λ cell id held. flag a p r placed by r.dead a.dead by.dead cell id held ∙ ap (λ ids. has_id ids id) (sym has.dead);
-  unshared = λ cell id held. flag a p r placed by r.unshared a.unshared by.unshared cell id held ∙ ap (λ ids. has_id ids id) (sym has.unshared);
-  owners = λ cell id held. is_owner-cell a p r placed by cell id held ∙ ap (λ owners. has_id (values_of owners) id) (sym has.owners);
-  ownees = λ cell id held. subst (λ (owners : List (ℕ × ℕ)). (owner_in r cell ≡ NotOwned) ↔ (has_id (keys_of owners) id ≡ false)) (sym has.owners) (is_ownee-cell a p r placed by cell id held);
-  owns = λ cell id owner other held held_there. subst (λ (owners : List (ℕ × ℕ)). (owner_in r cell ≡ OwnerCell owner) ↔ (owner_of owners id ≡ Some other)) (sym has.owners) (owns-cell a p r placed by cell id owner other held held_there);
+roles_say_of_heap h p r placed stand =
+    let a : Assertions = assertions_in h r in
+    let by : AreRolesBy a p r = are_roles_by h p r stand in
+    record {
+      dead = flag a p r placed by r.dead h.dead by.dead;
+      unshared = flag a p r placed by r.unshared h.unshared by.unshared;
+      owners = is_owner-cell a p r placed by;
+      ownees = is_ownee-cell a p r placed by;
+      owns = owns-cell a p r placed by;
+    }
+
+-- a type that is seen has the place of its name
+position_named : (names : List (List ℕ)) (k : ℕ) (name : List ℕ) → IsDistinct bytes_eq names → slice_get names k ≡ Some name → position (bytes_eq name) names ≡ Some k
+position_named names k name distinct at =
+    let same : get_or names k [] ≡ name = get_or_from_slice_get names k name [] at in
+    subst (λ n. position (bytes_eq n) names ≡ Some k) same (position_distinct names k distinct (slice_get_within names k name at))
+
+pub roles_stand_for_heap : RolesStandForHeap
+roles_stand_for_heap h a p r refers ordered has table distinct by = record {
+  refers = refers;
+  ordered = ordered;
+  table = table;
+  dead = λ cell. by.dead cell ∙ ap (λ ids. holds_one_of p ids cell) (sym has.dead);
+  unshared = λ cell. by.unshared cell ∙ ap (λ ids. holds_one_of p ids cell) (sym has.unshared);
+  ownees = λ cell. subst (λ owners. IsRoleBy p (owner_at p owners cell) (owner_in r cell)) (sym has.owners) (by.ownees cell);
+  owners = by.owners ∙ ap (λ owners. map Some (live_owners p.table owners)) (sym has.owners);
+  limits = λ kind name at. by.limits kind ∙ sym (has.limits name ∙ ap (λ t. option_and_then (limit_of a.limits) (position (bytes_eq name) t.kinds)) table ∙ ap (option_and_then (limit_of a.limits)) (position_named p.table.kinds kind name distinct at));
 }

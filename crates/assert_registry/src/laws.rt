@@ -1,7 +1,12 @@
 //! What the definitions of the contracts say of one another. These functions do nothing; each is proved to have its law.
-ghost use Rattle.assert_registry.specs.Laws.{RolesSayOfHeap, NewTypeHasNoLimit, RoomChangesNoLimit, LimitIsSet};
+ghost use Rattle.assert_registry.specs.Laws.{RolesStandForHeap, RolesSayOfHeap, NewTypeHasNoLimit, RoomChangesNoLimit, LimitIsSet};
 
-/// The roles that a registry gives say by cell what a heap with its assertions says by id.
+/// The roles that a registry gives stand for every heap with its assertions and the table.
+pub fn roles_stand_for_a_heap()
+    ensures { RolesStandForHeap }
+{}
+
+/// Roles that stand for a heap say by cell what it says by id.
 pub fn roles_say_what_a_heap_says()
     ensures { RolesSayOfHeap }
 {}

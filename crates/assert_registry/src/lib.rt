@@ -11,6 +11,6 @@ mod tests;
 
 pub use laws::{
     a_limit_by_number_is_a_limit_by_name, a_new_type_has_no_limit, more_room_changes_no_limit,
-    roles_say_what_a_heap_says,
+    roles_say_what_a_heap_says, roles_stand_for_a_heap,
 };
 pub use registry::AssertRegistry;
