@@ -3,5 +3,7 @@
 
 mod meeting;
 mod roots;
+#[cfg(test)]
+mod tests;
 
 pub use roots::root_phase;
