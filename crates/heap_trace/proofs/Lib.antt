@@ -1,0 +1,12 @@
+pub mod HeapGraphs
+pub mod HeapTraces
+pub mod MergedTallies
+pub mod NewJobs
+pub mod NextPhase
+pub mod OwnersAgree
+pub mod PhaseTotals
+pub mod Renaming
+pub mod RootTraced
+pub mod ThreePhases
+pub mod TracedWords
+pub mod WholeTrace

@@ -1,0 +1,10 @@
+use Rattle.std.proofs.Common.{◌≡◌}
+use Rattle.std.specs.List.{All}
+use Rattle.heap_trace.specs.TracedCells.{passes_of, IsNewFor}
+use Rattle.heap_trace.proofs.preparing.make_jobs.Given as goal
+
+abbrev pub invariant-loop-pass : goal.invariant-loop-pass
+invariant-loop-pass l = record {
+  passes : passes_of l.jobs.items ≡ l.yielded;
+  are_new : All (IsNewFor l.cells l.kinds) l.jobs.items;
+}

@@ -1,0 +1,9 @@
+-- For how many cells and types a kit was made.
+use Rattle.std.specs.Prelude.{ℕ, length}
+use Rattle.heap_trace.specs.declared.kit.Kit.{Kit}
+
+abbrev pub cells_of : Kit → ℕ
+cells_of k = k.headers.cells
+
+abbrev pub kinds_of : Kit → ℕ
+kinds_of k = length k.tally

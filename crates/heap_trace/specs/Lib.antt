@@ -1,0 +1,5 @@
+pub mod Kits
+pub mod Results
+pub mod TracedCells
+pub mod TracedHeaps
+pub mod Traces

@@ -1,0 +1,32 @@
+//! The three phases of a trace, one after another.
+ghost use Rattle.std.specs.Prelude.{◌+◌, ◌*◌, ◌^◌, ◌<◌};
+ghost use Rattle.std.specs.List.{All};
+ghost use Rattle.steal_pool.specs.Runs.{AreReady};
+ghost use Rattle.scan_job.specs.Jobs.{shared_graph, scan_meaning};
+ghost use Rattle.scan_job.specs.Phases.{CanScan};
+ghost use Rattle.scan_job.specs.States.{turns_of};
+ghost use Rattle.heap_trace.specs.TracedCells.{ThreePhases};
+
+use heap_base::Gate;
+use scan_job::{ScanJob, ScanShared};
+use std::thread::Threads;
+use steal_pool::{Crew, FirstTasks};
+
+/// Scans from the owners, then from what that left held, and then from the roots. It takes no memory.
+pub(crate) fn run_phases<R: Threads + Sync, G: Gate>(
+    rt: &R,
+    crew: &mut Crew<ScanJob>,
+    shared: &ScanShared<'_>,
+    jobs: &mut Vec<ScanJob>,
+    first: &mut FirstTasks,
+    gate: &G,
+)
+    requires scan { CanScan shared.now jobs.old.items crew.old first.old }
+    requires turns { All (λ j. 3 * 2 ^ 25 + 3 < turns_of j) jobs.old.items }
+    ensures phases { ThreePhases (shared_graph shared.now) jobs.old.items jobs.new.items }
+    ensures ready { AreReady scan_meaning shared.now jobs.new.items }
+{
+    owner_phase::owner_phase(rt, crew, shared, jobs, first, gate);
+    owner_phase::take_up(rt, crew, shared, jobs, first, gate);
+    root_phase::root_phase(rt, crew, shared, jobs, first, gate);
+}

@@ -1,0 +1,62 @@
+//! How the memory of a trace is taken.
+ghost use Rattle.std.specs.Prelude.{◌≡◌, ◌<◌, ◌≤◌, IfOk};
+ghost use Rattle.std.specs.List.{All};
+ghost use Rattle.heap_base.specs.declared.limits.TheConstants.{MOST_OBJECTS, MOST_WORKERS};
+ghost use Rattle.header_rule.specs.Passes.{IsFresh};
+ghost use Rattle.heap_trace.specs.Kits.{cells_of, kinds_of};
+ghost use Rattle.heap_trace.specs.TracedCells.{passes_of, IsNewFor};
+
+use crate::kit::Kit;
+use header_rule::{Headers, Pass};
+use heap_base::OutOfMemory;
+use instance_ledger::Tally;
+use scan_job::ScanJob;
+use std::alloc::Global;
+use steal_pool::{Crew, FirstTasks};
+
+// A job for each pass, in order.
+fn make_jobs(
+    alloc: Global,
+    passes: Vec<Pass>,
+    cells: u32,
+    kinds: u32,
+) -> Result<Vec<ScanJob>, OutOfMemory>
+    requires fresh { All IsFresh passes.items }
+    ensures passes { IfOk result (λ js. passes_of js.items ≡ passes.items) }
+    ensures new { IfOk result (λ js. All (IsNewFor cells kinds) js.items) }
+{
+    let mut jobs = Vec::new(alloc);
+    for pass in passes {
+        jobs.push(ScanJob::make(alloc, pass, cells, kinds)?)?;
+    }
+    Ok(jobs)
+}
+
+impl Kit {
+    /// The memory of a trace of so many cells and types by 1 to 16 workers. A cell costs at most 64 bytes with one
+    /// worker. Answers `OutOfMemory` where memory is wanting.
+    pub fn prepare(alloc: Global, cells: u32, kinds: u32, workers: u32) -> Result<Kit, OutOfMemory>
+        requires cells { cells ≤ MOST_OBJECTS }
+        requires workers { (0 < workers) × (workers ≤ MOST_WORKERS) }
+        ensures cells { IfOk result (λ k. cells_of k ≡ cells) }
+        ensures kinds { IfOk result (λ k. kinds_of k ≡ kinds) }
+    {
+        let (headers, passes) = Headers::make(alloc, cells, workers)?;
+        let jobs = make_jobs(alloc, passes, cells, kinds)?;
+        // A worker has at most as many first tasks as there are cells, and puts each cell that it wins once.
+        let crew = Crew::make(alloc, workers, 2 * cells as u64 + 1)?;
+        let first = FirstTasks::make(alloc, workers, cells)?;
+        let passes = Vec::with_capacity(alloc, workers as usize)?;
+        let tally = Tally::make(alloc, kinds)?;
+        let kept = Vec::with_capacity(alloc, cells as usize)?;
+        Ok(Kit {
+            headers,
+            jobs,
+            crew,
+            first,
+            passes,
+            tally,
+            kept,
+        })
+    }
+}
