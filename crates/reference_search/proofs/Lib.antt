@@ -1,0 +1,4 @@
+pub mod Places
+pub mod Edges
+pub mod Listing
+pub mod Puts

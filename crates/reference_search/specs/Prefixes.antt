@@ -1,0 +1,46 @@
+-- What a search for first references has found so far.
+use Rattle.std.specs.Prelude.{◌≡◌, ℕ, ◌==◌, ◌||◌, List, [], ◌∷◌, ◌++◌, length, Bool, false, if◌then◌else◌, Option, None, Some, IsSome, IfSome, slice_get, slice_index_or}
+use Rattle.std.specs.Option.{option_map}
+use Rattle.graph_meaning.specs.Assertions.{Reference}
+use Rattle.graph_meaning.specs.Reach.{has_id}
+use Rattle.graph_meaning.specs.Roles.{RoleTable, id_at}
+use Rattle.object_table.specs.Placed.{Placed, id_in}
+use Rattle.reference_search.specs.declared.cell_reference.CellReference.{CellReference}
+use Rattle.reference_search.specs.declared.cell_reference.FirstReferences.{FirstReferences}
+use Rattle.reference_search.specs.References.{reference_of, RefersTo}
+
+-- This is the wanted reference to the object with this id, and nothing where none is wanted.
+pub record IsWanted (p : Placed) (id : ℕ) (wanted : Option Reference) (r : Option CellReference) : Type 0 where
+  pub is : option_map (reference_of p) r ≡ wanted
+  pub refers : IfSome r (λ r. RefersTo p r id)
+
+-- The list of references to the object with this id starts with these two, or has fewer.
+pub record StartList (p : Placed) (id : ℕ) (references : List Reference) (found : FirstReferences) : Type 0 where
+  pub first : IsWanted p id (slice_get references 0) found.first
+  pub second : IsWanted p id (slice_get references 1) found.second
+
+-- For each cell the place of its object among the asked ones, if it is one; and for each of these the first references so far.
+pub record Finding : Type 0 where
+  pub places : List (Option ℕ)
+  pub found : List FirstReferences
+
+-- The places are those of the asked cells, and there is an entry for each of these.
+pub record AreAsked (p : Placed) (asked : List ℕ) (f : Finding) : Type 0 where
+  pub held : (n cell : ℕ) → slice_get asked n ≡ Some cell → IsSome (id_in p cell)
+  pub placed : (n cell : ℕ) → slice_get asked n ≡ Some cell → slice_index_or f.places cell None ≡ Some n
+  pub only : (n cell : ℕ) → slice_index_or f.places cell None ≡ Some n → slice_get asked n ≡ Some cell
+  pub each : length f.found ≡ length asked
+
+-- The first references to each asked object were found, of those in its list.
+pub record FindsFirst (p : Placed) (asked : List ℕ) (lists : ℕ → List Reference) (f : Finding) : Type 0 where
+  pub are : AreAsked p asked f
+  pub first : (n cell : ℕ) (r : FirstReferences) → slice_get asked n ≡ Some cell → slice_get f.found n ≡ Some r → StartList p (id_at p.cells cell) (lists (id_at p.cells cell)) r
+
+-- The lists after are those before, with this reference more in the list of the object with this id.
+abbrev pub IsOneMore : ℕ → Reference → (ℕ → List Reference) → (ℕ → List Reference) → Type 0
+IsOneMore id r before after = (x : ℕ) → after x ≡ before x ++ (if id == x then r ∷ [] else [])
+
+-- It is said by cell which objects are scanned: those that are kept, and the owners.
+abbrev pub ScannedByCell : Placed → RoleTable → List Bool → (ℕ → Bool) → Type 0
+ScannedByCell p r kept is_scanned =
+    (cell id : ℕ) → id_in p cell ≡ Some id → is_scanned id ≡ (slice_index_or kept cell false || has_id r.owners cell)

@@ -1,0 +1,11 @@
+//! The first references to objects.
+#![tactic(auto)]
+
+mod cell_reference;
+mod first;
+mod search;
+#[cfg(test)]
+mod tests;
+
+pub use cell_reference::{CellReference, FirstReferences};
+pub use first::first_references;

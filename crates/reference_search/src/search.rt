@@ -1,0 +1,131 @@
+//! The search for first references under way.
+ghost use Rattle.std.specs.Prelude.{◌≡◌, ◌<◌, ◌||◌, ◌++◌, ◌∷◌, [], ℕ, List, Bool, false, length, filter, All, IfOk, IsSome, IfSome, None, Some, slice_get, slice_index_or};
+ghost use Rattle.std.specs.List.{flat_map};
+ghost use Rattle.heap_base.specs.Counting.{IsOnce};
+ghost use Rattle.graph_meaning.specs.Assertions.{Reference, roots_to, slots_to};
+ghost use Rattle.graph_meaning.specs.Heap.{ids};
+ghost use Rattle.graph_meaning.specs.Reach.{has_id};
+ghost use Rattle.graph_meaning.specs.Roles.{cells_of, id_at};
+ghost use Rattle.object_table.specs.Placed.{Placed, id_in, IsPlaced};
+ghost use Rattle.reference_search.specs.References.{reference_of, RefersTo};
+ghost use Rattle.reference_search.specs.Prefixes.{FindsFirst, IsOneMore, ScannedByCell};
+ghost use Rattle.reference_search.specs.Findings.{finding_in};
+
+use crate::cell_reference::{CellReference, FirstReferences, NO_REFERENCES};
+use graph_meaning::Roles;
+use heap_base::OutOfMemory;
+use object_table::ObjectTable;
+use std::alloc::Global;
+
+// For each cell the place of its object among the asked ones, if it is one of them; and for each asked object the first
+// references to it so far.
+#[derive(Drop)]
+pub(crate) struct Search {
+    places: Vec<Option<usize>>,
+    found: Vec<FirstReferences>,
+}
+
+impl Search {
+    pub(crate) fn begin(alloc: Global, cells: u32, asked: &[u32]) -> Result<Search, OutOfMemory>
+        requires in_range { All (λ cell. cell < cells) asked.now }
+        requires once { IsOnce asked.now }
+        ensures count { IfOk result (λ s. length (finding_in s).found ≡ length asked.now) }
+        ensures finds { IfOk result (λ s. (p : Placed) → All (λ cell. IsSome (id_in p cell)) asked.now → FindsFirst p asked.now (λ id. []) (finding_in s)) }
+    {
+        let places = places_of(alloc, cells, asked)?;
+        let found = vec![in alloc; NO_REFERENCES; asked.len()]?;
+        Ok(Search { places, found })
+    }
+
+    // Takes the roots, in the order of their names.
+    pub(crate) fn take_roots(&mut self, table: &ObjectTable)
+        requires placed { IsPlaced table.now }
+        ensures count { length self.new.found.items ≡ length self.old.found.items }
+        ensures finds { (asked : List ℕ) → FindsFirst table.now asked (λ id. []) (finding_in self.old) → FindsFirst table.now asked (roots_to table.now.table) (finding_in self.new) }
+    {
+        for root in 0..table.roots() {
+            self.put(table.root_cell(root), CellReference::Root { root });
+        }
+    }
+
+    // Takes the edges of the objects whose cells are kept, and of the owners, by their ids.
+    pub(crate) fn take_objects(&mut self, table: &ObjectTable, roles: &Roles, kept: &[bool])
+        requires placed { IsPlaced table.now }
+        requires roles { cells_of roles.now ≡ length table.now.cells }
+        requires kept { length kept.now ≡ length table.now.cells }
+        ensures count { length self.new.found.items ≡ length self.old.found.items }
+        ensures finds { (asked : List ℕ) → (before : ℕ → List Reference) → (is_scanned : ℕ → Bool) → ScannedByCell table.now roles.now kept.now is_scanned → FindsFirst table.now asked before (finding_in self.old) → FindsFirst table.now asked (λ id. before id ++ flat_map (slots_to table.now.table id) (filter is_scanned (ids table.now.table))) (finding_in self.new) }
+    {
+        for number in 0..table.live() {
+            let cell = table.nth_cell(number);
+            if is_scanned(roles, kept, cell) {
+                self.take_slots(table, cell);
+            }
+        }
+    }
+
+    // Takes the edges from the slots of the object in a cell.
+    fn take_slots(&mut self, table: &ObjectTable, holder: u32)
+        requires placed { IsPlaced table.now }
+        requires holder { IsSome (id_in table.now holder) }
+        ensures count { length self.new.found.items ≡ length self.old.found.items }
+        ensures finds { (asked : List ℕ) → (before : ℕ → List Reference) → FindsFirst table.now asked before (finding_in self.old) → FindsFirst table.now asked (λ id. before id ++ slots_to table.now.table id (id_at table.now.cells holder)) (finding_in self.new) }
+    {
+        for slot in 0..table.slots_at(holder) {
+            if let Some(target) = table.slot_at(holder, slot) {
+                self.put(target, CellReference::Slot { holder, slot });
+            }
+        }
+    }
+
+    // Puts a reference to the object in a cell after those that were found, if the object was asked for.
+    fn put(&mut self, cell: u32, reference: CellReference)
+        ensures count { length self.new.found.items ≡ length self.old.found.items }
+        ensures finds { (p : Placed) → (asked : List ℕ) → (before : ℕ → List Reference) → (after : ℕ → List Reference) → (id : ℕ) → IsPlaced p → id_in p cell ≡ Some id → RefersTo p reference id → IsOneMore id (reference_of p reference) before after → FindsFirst p asked before (finding_in self.old) → FindsFirst p asked after (finding_in self.new) }
+    {
+        let Some(place) = self.place_of(cell) else {
+            return;
+        };
+        if let Some(found) = self.found.get_mut(place) {
+            *found = found.with(reference);
+        }
+    }
+
+    // The place of the object in a cell among the asked ones, if it is one of them.
+    fn place_of(&self, cell: u32) -> Option<usize>
+        ensures { result ≡ slice_index_or self.now.places.items cell None }
+    {
+        self.places.get(cell as usize).copied().flatten()
+    }
+
+    // The first references to each asked object.
+    pub(crate) fn into_found(self) -> Vec<FirstReferences>
+        ensures { result.items ≡ (finding_in self).found }
+    {
+        let Search { places: _, found } = self;
+        found
+    }
+}
+
+// Whether the slots of the object in a cell count.
+fn is_scanned(roles: &Roles, kept: &[bool], cell: u32) -> bool
+    requires roles { cell < cells_of roles.now }
+    requires kept { cell < length kept.now }
+    ensures { result ≡ (slice_index_or kept.now cell false || has_id roles.now.owners cell) }
+{
+    kept[cell as usize] || roles.is_owner(cell)
+}
+
+// For each cell its place among the asked ones, if it is one of them.
+fn places_of(alloc: Global, cells: u32, asked: &[u32]) -> Result<Vec<Option<usize>>, OutOfMemory>
+    requires in_range { All (λ cell. cell < cells) asked.now }
+    requires once { IsOnce asked.now }
+    ensures placed { IfOk result (λ places. (n cell : ℕ) → slice_get asked.now n ≡ Some cell → slice_index_or places.items cell None ≡ Some n) }
+    ensures asked { IfOk result (λ places. (n cell : ℕ) → slice_index_or places.items cell None ≡ Some n → slice_get asked.now n ≡ Some cell) }
+{
+    let mut places = vec![in alloc; None; cells as usize]?;
+    for (place, cell) in asked.iter().enumerate() {
+        places[*cell as usize] = Some(place);
+    }
+    Ok(places)
+}
