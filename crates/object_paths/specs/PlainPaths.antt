@@ -1,0 +1,20 @@
+-- The levels by which plain paths go: from the roots and from the owners, with nothing shut.
+use Rattle.std.specs.Prelude.{◌≡◌, ℕ, List, length, replicate, Bool, false}
+use Rattle.graph_meaning.specs.Roles.{RoleTable}
+use Rattle.object_table.specs.Placed.{Placed}
+use Rattle.path_cert.specs.declared.start.Start.TheVariants.{Roots, Owners}
+use Rattle.path_cert.specs.Levels.{LevelTable, search_of, AreLevelsOf}
+
+-- The levels from the roots, and those from the owners.
+pub record PlainTable : Type 0 where
+  pub roots : LevelTable
+  pub owners : LevelTable
+
+-- no cell is shut
+abbrev pub none_shut : Placed → List Bool
+none_shut p = replicate (length p.cells) false
+
+-- These are the levels in a table from its roots and from the owners of its roles.
+pub record ArePlainLevels (p : Placed) (r : RoleTable) (l : PlainTable) : Type 0 where
+  pub roots : AreLevelsOf p (search_of p r Roots (none_shut p)) l.roots
+  pub owners : AreLevelsOf p (search_of p r Owners (none_shut p)) l.owners
