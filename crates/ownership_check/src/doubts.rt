@@ -1,0 +1,58 @@
+//! The ownees that the marks of a trace leave in doubt.
+ghost use Rattle.std.specs.Prelude.{◌≡◌, ◌<◌, length, filter, IfOk};
+ghost use Rattle.graph_meaning.specs.Roles.{cells_of};
+ghost use Rattle.object_table.specs.Placed.{IsPlaced, IsSound};
+ghost use Rattle.path_cert.specs.Finds.{has_owner};
+ghost use Rattle.ownership_check.specs.Cells.{cells_by_id, is_in_doubt};
+
+use graph_meaning::{OwnerRole, Roles};
+use header_rule::Words;
+use heap_base::OutOfMemory;
+use object_table::ObjectTable;
+use std::alloc::Global;
+
+/// The cells of the ownees that are marked as met by roots and not as found, by the ids of the objects. Whatever is
+/// marked found is found, and what isn't marked as met by roots isn't met, so only these may violate.
+pub(crate) fn doubtful_ownees(
+    alloc: Global,
+    table: &ObjectTable,
+    roles: &Roles,
+    words: &Words,
+) -> Result<Vec<u32>, OutOfMemory>
+    requires roles { cells_of roles.now ≡ length table.now.cells }
+    requires words { words.now.cells ≡ length table.now.cells }
+    ensures placed { IsPlaced table.now }
+    ensures sound { IsSound table.now.table }
+    ensures doubts { IfOk result (λ doubts. doubts.items ≡ filter (is_in_doubt roles.now words.now) (cells_by_id table.now)) }
+{
+    let cells = table.cells();
+    let mut doubts = Vec::new(alloc);
+    for number in 0..table.live() {
+        let cell = table.nth_cell(number);
+        prove!(cell < cells);
+        if is_in_doubt(roles, words, cell) {
+            doubts.push(cell)?;
+        }
+    }
+    Ok(doubts)
+}
+
+// Whether the object in a cell is an ownee that is marked as met by roots and not as found.
+fn is_in_doubt(roles: &Roles, words: &Words, cell: u32) -> bool
+    requires roles { cell < cells_of roles.now }
+    requires words { cell < words.now.cells }
+    ensures { result ≡ is_in_doubt roles.now words.now cell }
+{
+    has_owner(roles.owner(cell)) && words.met_by_roots(cell) && !words.found(cell)
+}
+
+// Whether the role is that of an ownee.
+fn has_owner(role: OwnerRole) -> bool
+    ensures { result ≡ has_owner role }
+{
+    match role {
+        OwnerRole::NotOwned => false,
+        OwnerRole::OwnerCell(_) => true,
+        OwnerRole::OwnerGone(_) => true,
+    }
+}
