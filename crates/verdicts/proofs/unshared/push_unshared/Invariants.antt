@@ -1,0 +1,14 @@
+use Rattle.std.proofs.Common.{◌≡◌, ◌+◌, length, drop}
+use Rattle.graph_meaning.specs.Collecting.{unshared_verdict}
+use Rattle.graph_meaning.specs.Heap.{Heap}
+use Rattle.graph_meaning.specs.Roles.{id_at}
+use Rattle.verdicts.specs.Listed.{ShowsPaths, AreFirstOf}
+use Rattle.verdicts.specs.Verdicts.{counted_in}
+use Rattle.verdicts.proofs.GoingOn.{HasGoneOn}
+use Rattle.verdicts.proofs.unshared.push_unshared.Given as goal
+
+abbrev pub invariant-loop-place : goal.invariant-loop-place
+invariant-loop-place l = record {
+  gone : (h : Heap) → ShowsPaths l.table h l.levels → AreFirstOf l.table h l.cells l.references → HasGoneOn l.paths (λ cell. unshared_verdict (counted_in l.table l.traced) h (id_at l.table.cells cell)) l.fn.list l.list (drop l.place l.cells) l.cells;
+  number : length l.list ≡ length l.fn.list + l.place;
+}

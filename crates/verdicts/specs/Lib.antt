@@ -1,0 +1,4 @@
+pub mod Kinds
+pub mod Listed
+pub mod Verdicts
+pub mod Violating

@@ -1,0 +1,15 @@
+-- The verdicts of a collection by the counts of a trace.
+use Rattle.std.specs.Prelude.{ℕ, ◌+◌, ◌*◌}
+use Rattle.std.specs.Option.{option_map_or}
+use Rattle.heap_base.specs.declared.limits.TheConstants.{MOST_OBJECTS, MOST_KINDS}
+use Rattle.header_rule.specs.ClosedWords.{count_in}
+use Rattle.object_table.specs.Placed.{Placed, cell_of}
+use Rattle.heap_trace.specs.Results.{TraceResult}
+
+-- the count in the cell of the object with this id
+abbrev pub counted_in : Placed → TraceResult → ℕ → ℕ
+counted_in p t id = option_map_or (count_in t.words) (cell_of p id) 0
+
+-- there is one verdict at most of each object for each of three assertions, and of each type
+abbrev pub most_verdicts : ℕ
+most_verdicts = 3 * MOST_OBJECTS + MOST_KINDS
