@@ -1,49 +1,28 @@
--- What a collection finds and leaves, where the cells that are kept are those of the traced objects.
-use Rattle.std.proofs.Common.{◌≡◌, ℕ, ◌+◌, ◌-◌, ◌≤◌, Bool, false, not, cond, List, [], ◌∷◌, ◌++◌, length, filter, map, Option, None, Some, IsTrue, sym, ap, refl, ◌∙◌, arith}
+-- What a collection finds and leaves.
+use Rattle.std.proofs.Common.{◌≡◌, ℕ, ◌+◌, ◌-◌, Bool, false, cond, List, [], ◌∷◌, ◌++◌, length, map, take, drop, get_or, Option, None, Some, IsTrue, sym, ap, refl, subst, ◌∙◌, arith}
 use Rattle.std.specs.Prelude.{sum_by}
 use Rattle.std.specs.List.{All, count_by}
 use Rattle.std.specs.Option.{option_map_or}
-use Rattle.std.proofs.lemmas.Bool.{and_from}
-use Rattle.std.proofs.lemmas.List.{append-nil, length-map}
-use Rattle.std.proofs.lemmas.List.Elements.{All-filter, filter_passes}
+use Rattle.std.proofs.lemmas.List.{length-append, length-map, take-append-drop}
+use Rattle.std.proofs.lemmas.List.Elements.{All-filter, All-head, All-tail}
 use Rattle.std.proofs.lemmas.List.Sums.{sum_by-cons}
 use Rattle.graph_meaning.specs.declared.collection.Collection.{Collection}
 use Rattle.graph_meaning.specs.declared.collection.Verdict.{Verdict}
-use Rattle.graph_meaning.specs.Heap.{Slot, Object, Table, Heap, ids, is_live}
+use Rattle.graph_meaning.specs.Heap.{Slot, Object, Table, Heap, is_live}
+use Rattle.graph_meaning.specs.Laws.{AllLive}
 use Rattle.graph_meaning.specs.Reach.{has_id}
-use Rattle.graph_meaning.specs.Assertions.{is_traced, traced_ids, reference_count}
-use Rattle.graph_meaning.specs.Collecting.{object_without, with_only, after_sweep, after_collection, holders_of, violating_dead, violating_kinds, violating_unshared, violating_ownees, dead_verdict, without_paths, all_verdicts, first_with_paths, collection_counted, collection_of}
+use Rattle.graph_meaning.specs.Assertions.{traced_ids, reference_count}
+use Rattle.graph_meaning.specs.Collecting.{Rules, after_sweep, holders_of, violating_dead, violating_kinds, violating_unshared, violating_ownees, dead_verdict, instances_verdict, unshared_verdict, ownedby_verdict, without_paths, all_verdicts, first_with_paths, collection_counted, collection_of}
 use Rattle.graph_meaning.proofs.Edges.{plain_leaves_swept}
-use Rattle.graph_meaning.proofs.HeapLemmas.{is_live-with_only}
-use Rattle.graph_meaning.proofs.Membership.{length-filter_le, filter_itself}
-use Rattle.graph_meaning.proofs.Rising.{ids-with_only}
-use Rattle.object_table.specs.Placed.{Placed, kept_ids}
-use Rattle.audit_core.specs.Audit.{Audit, pathless, after_next}
-use Rattle.audit_core.specs.Held.{heap_of}
-use Rattle.audit_core.specs.Tracing.{reachable_ids, KeepsTraced}
-use Rattle.audit_core.specs.Verdicts.{pathless_verdict, pathless_verdicts}
-use Rattle.audit_core.proofs.Reached.{traced-reachable, kept-no_regions}
-
--- ---- what is kept depends on which ids are in the list, and on nothing else of it
-
-abbrev kept_by : (ℕ → Bool) → Table → Table
-kept_by is_kept t =
-    record t { objects = map (object_without (λ id. not (is_kept id))) (filter (λ o. is_kept o.id) t.objects) }
-
-with_only_agree : (kept others : List ℕ) (t : Table) → ((id : ℕ) → has_id kept id ≡ has_id others id) → with_only kept t ≡ with_only others t
-unfolding with_only
-with_only_agree kept others t agree = ap (λ (is_kept : ℕ → Bool). kept_by is_kept t) (λ i id. agree id i)
-
-filter_agree_ids : (kept others : List ℕ) (xs : List ℕ) → ((id : ℕ) → has_id kept id ≡ has_id others id) → filter (has_id kept) xs ≡ filter (has_id others) xs
-filter_agree_ids kept others xs agree = ap (λ (is_kept : ℕ → Bool). filter is_kept xs) (λ i id. agree id i)
-
--- no more objects stay than there were
-pub with_only-length : (kept : List ℕ) (t : Table) → length (with_only kept t).objects ≤ length t.objects
-unfolding with_only
-with_only-length kept t =
-    let fewer = length-filter_le (λ (o : Object). has_id kept o.id) t.objects in
-    let same = length-map (filter (λ (o : Object). has_id kept o.id) t.objects) (object_without (λ id. not (has_id kept id))) in
-    omega arith
+use Rattle.graph_meaning.specs.Roles.{RoleTable}
+use Rattle.object_table.specs.Placed.{Placed, IsPlaced, id_in, cell_of}
+use Rattle.assert_registry.specs.Laws.{StandFor}
+use Rattle.heap_trace.specs.Results.{TraceResult}
+use Rattle.heap_trace.specs.Traces.{CountsReferences}
+use Rattle.path_cert.proofs.ByIds.{cell_of-held}
+use Rattle.header_rule.specs.ClosedWords.{count_in}
+use Rattle.verdicts.specs.Verdicts.{counted_in}
+use Rattle.audit_core.specs.Audit.{Audit, AreItsRoles, placed_of, without_force, next_collection, next_counted, after_next}
 
 -- ---- nothing is cut off
 
@@ -61,96 +40,108 @@ nothing_held t =
     let roots = zero_sum (λ (r : List ℕ × ℕ). cond (has_id [] r.1) 1 0) (λ r. refl) t.roots in
     omega arith
 
--- ---- the verdicts
+-- ---- the numbers and verdicts of a collection
 
-each_pathless : (t : Table) (dead ids : List ℕ) → map without_paths (map (dead_verdict (heap_of t dead)) ids) ≡ map (pathless_verdict t) ids
-each_pathless t dead [] = refl
-each_pathless t dead (id ∷ ids) = ap (λ vs. pathless_verdict t id ∷ vs) (each_pathless t dead ids)
+pub found_by : (count : ℕ → ℕ) (h : Heap) (paths number live traced freed : ℕ) (verdicts : List Verdict) → live ≡ length h.table.objects → traced ≡ length (traced_ids h) → freed ≡ length h.table.objects - length (traced_ids h) → verdicts ≡ first_with_paths paths (all_verdicts count h) → (let c : Collection = record { number = number; live = live; traced = traced; freed = freed; cleared = 0; verdicts = verdicts } in c) ≡ collection_counted count (without_force paths) number h
+unfolding collection_counted
+found_by count h paths number live traced freed verdicts live_is traced_is freed_is verdicts_are = λ i. record {
+  number = number;
+  live = live_is i;
+  traced = traced_is i;
+  freed = freed_is i;
+  cleared = sym (nothing_held (after_sweep h).table) i;
+  verdicts = verdicts_are i;
+}
 
--- there are verdicts on dead objects alone
-dead_alone : (count : ℕ → ℕ) (t : Table) (dead : List ℕ) → all_verdicts count (heap_of t dead) ≡ map (dead_verdict (heap_of t dead)) (violating_dead (heap_of t dead))
-unfolding all_verdicts violating_kinds violating_unshared violating_ownees
-dead_alone count t dead =
-    let vs = map (dead_verdict (heap_of t dead)) (violating_dead (heap_of t dead)) in
-    append-nil ((vs ++ []) ++ []) ∙ append-nil (vs ++ []) ∙ append-nil vs
+-- ---- how many verdicts there are
 
-violating_reachable : (t : Table) (dead : List ℕ) → violating_dead (heap_of t dead) ≡ filter (has_id (reachable_ids t)) dead
-unfolding violating_dead
-violating_reachable t dead = filter_agree_ids (traced_ids (heap_of t dead)) (reachable_ids t) dead (traced-reachable t dead)
-
-none_shown : (vs : List Verdict) → first_with_paths 0 vs ≡ map without_paths vs
+length-first_with_paths : (paths : ℕ) (verdicts : List Verdict) → length (first_with_paths paths verdicts) ≡ length verdicts
 unfolding first_with_paths
-none_shown vs = refl
+length-first_with_paths paths verdicts =
+    length-append (take paths verdicts) (map without_paths (drop paths verdicts))
+    ∙ ap (λ n. length (take paths verdicts) + n) (length-map (drop paths verdicts) without_paths)
+    ∙ sym (length-append (take paths verdicts) (drop paths verdicts))
+    ∙ ap length (take-append-drop paths verdicts)
 
-all_pathless : (count : ℕ → ℕ) (t : Table) (dead : List ℕ) → first_with_paths 0 (all_verdicts count (heap_of t dead)) ≡ pathless_verdicts t dead
-all_pathless count t dead =
-    none_shown (all_verdicts count (heap_of t dead))
-    ∙ ap (map without_paths) (dead_alone count t dead)
-    ∙ each_pathless t dead (violating_dead (heap_of t dead))
-    ∙ ap (map (pathless_verdict t)) (violating_reachable t dead)
+-- as many, however references are counted
+length-all_verdicts : (count other : ℕ → ℕ) (h : Heap) → length (all_verdicts count h) ≡ length (all_verdicts other h)
+unfolding all_verdicts
+length-all_verdicts count other h =
+    let first = map (dead_verdict h) (violating_dead h) ++ map (instances_verdict h) (violating_kinds h) in
+    let unshared = map (unshared_verdict count h) (violating_unshared h) in
+    let others = map (unshared_verdict other h) (violating_unshared h) in
+    let last = map (ownedby_verdict h) (violating_ownees h) in
+    let a = length-append (first ++ unshared) last in
+    let b = length-append first unshared in
+    let c = length-map (violating_unshared h) (unshared_verdict count h) in
+    let d = length-append (first ++ others) last in
+    let e = length-append first others in
+    let f = length-map (violating_unshared h) (unshared_verdict other h) in
+    omega (arith, a, b, c, d, e, f)
 
--- ---- the collection, and what it leaves
+verdicts-of : (count : ℕ → ℕ) (paths number : ℕ) (h : Heap) → (collection_counted count (without_force paths) number h).verdicts ≡ first_with_paths paths (all_verdicts count h)
+unfolding collection_counted
+verdicts-of count paths number h = refl
 
--- of the objects those are traced that are traced
-traced_themselves : (h : Heap) → filter (has_id (traced_ids h)) (ids h.table) ≡ traced_ids h
-unfolding traced_ids
-traced_themselves h = filter_itself (is_traced h) (ids h.table)
+-- ---- what is left
 
--- the objects that stay asserted dead are live
-pub live-with_only : (t : Table) (dead : List ℕ) → All (λ id. IsTrue (is_live t id)) dead → All (λ id. IsTrue (is_live (with_only (reachable_ids t) t) id)) (filter (has_id (reachable_ids t)) dead)
-live-with_only t dead live = λ k d within.
-    is_live-with_only (reachable_ids t) t _ ∙ and_from _ _ (filter_passes (has_id (reachable_ids t)) dead k d within) (All-filter (has_id (reachable_ids t)) (λ id. IsTrue (is_live t id)) dead live k d within)
+pub left_by : (count : ℕ → ℕ) (h : Heap) (cells after : List (Option ℕ)) (paths collections violations found : ℕ) (left : Heap) (verdicts : List Verdict) → left ≡ after_sweep h → found ≡ length verdicts → verdicts ≡ first_with_paths paths (all_verdicts count h) → (let a : Audit = record { heap = left; cells = after; rules = without_force paths; collections = collections + 1; violations = violations + found } in a) ≡ record (after_next (record { heap = h; cells = cells; rules = without_force paths; collections = collections; violations = violations })) { cells = after }
+unfolding after_next
+left_by count h cells after paths collections violations found left verdicts left_is found_is verdicts_are =
+    λ i. record {
+      heap = (left_is ∙ sym (plain_leaves_swept paths h)) i;
+      cells = after;
+      rules = without_force paths;
+      collections = collections + 1;
+      violations = violations + many i;
+    }
+  where
+    many : found ≡ length (collection_of (without_force paths) (collections + 1) h).verdicts
+    many =
+        found_is
+        ∙ ap length verdicts_are
+        ∙ length-first_with_paths paths (all_verdicts count h)
+        ∙ length-all_verdicts count (reference_count h) h
+        ∙ sym (length-first_with_paths paths (all_verdicts (reference_count h) h))
+        ∙ ap length (sym (verdicts-of (reference_count h) paths (collections + 1) h))
 
-module _ (p : Placed) (kept : List Bool) (keeps : KeepsTraced p kept) (after : Table) (left : after ≡ with_only (kept_ids p.cells kept) p.table) where
-  pub left-reachable : after ≡ with_only (reachable_ids p.table) p.table
-  left-reachable = left ∙ with_only_agree (kept_ids p.cells kept) (reachable_ids p.table) p.table keeps.traced
+-- ---- where the counts are the numbers of references
 
-  left-traced : (dead : List ℕ) → after ≡ with_only (traced_ids (heap_of p.table dead)) p.table
-  left-traced dead =
-      left-reachable ∙ with_only_agree (reachable_ids p.table) (traced_ids (heap_of p.table dead)) p.table (λ id. sym (traced-reachable p.table dead id))
+map_agree_all : {X Y : Type 0} (f g : X → Y) (xs : List X) → All (λ x. f x ≡ g x) xs → map f xs ≡ map g xs
+map_agree_all f g [] agree = refl
+map_agree_all f g (x ∷ xs) agree =
+    let rest = map_agree_all f g xs (All-tail (λ x. f x ≡ g x) x xs agree) in
+    λ i. All-head (λ x. f x ≡ g x) x xs agree i ∷ rest i
 
-  -- as many objects are left as were traced
-  traced_many : (dead : List ℕ) → length after.objects ≡ length (traced_ids (heap_of p.table dead))
-  traced_many dead =
-      ap (λ (t : Table). length t.objects) (left-traced dead)
-      ∙ sym (length-map (with_only (traced_ids (heap_of p.table dead)) p.table).objects (λ o. o.id))
-      ∙ ap length (ids-with_only (traced_ids (heap_of p.table dead)) p.table ∙ traced_themselves (heap_of p.table dead))
+module _ (p : Placed) (placed : IsPlaced p) (h : Heap) (table : h.table ≡ p.table) (t : TraceResult) (counts : CountsReferences p h t) where
+  counted : (id : ℕ) → IsTrue (is_live p.table id) → counted_in p t id ≡ reference_count h id
+  counted id live =
+      let held = placed.somewhere id live in
+      ap (λ o. option_map_or (count_in t.words) o 0) (cell_of-held p placed held.0 id held.1) ∙ counts held.0 id held.1
 
-  pub collection-found : (dead : List ℕ) (number live traced : ℕ) (verdicts : List Verdict) → live ≡ length p.table.objects → traced ≡ length after.objects → verdicts ≡ pathless_verdicts p.table dead → (let c : Collection = record { number = number; live = live; traced = traced; freed = live - traced; cleared = 0; verdicts = verdicts } in c) ≡ collection_of pathless number (heap_of p.table dead)
+  unshared_agree : AllLive p.table h.unshared → map (unshared_verdict (counted_in p t) h) (violating_unshared h) ≡ map (unshared_verdict (reference_count h) h) (violating_unshared h)
+  unfolding violating_unshared
+  unshared_agree live =
+      map_agree_all (unshared_verdict (counted_in p t) h) (unshared_verdict (reference_count h) h) (violating_unshared h)
+      (All-filter _ (λ id. unshared_verdict (counted_in p t) h id ≡ unshared_verdict (reference_count h) h id) h.unshared
+      (λ k d within. ap (λ n. unshared_verdict (λ _. n) h (get_or h.unshared k d)) (counted (get_or h.unshared k d) (live k d within))))
+
+  verdicts_agree : AllLive p.table h.unshared → all_verdicts (counted_in p t) h ≡ all_verdicts (reference_count h) h
+  unfolding all_verdicts
+  verdicts_agree live =
+      ap (λ vs. ((map (dead_verdict h) (violating_dead h) ++ map (instances_verdict h) (violating_kinds h)) ++ vs) ++ map (ownedby_verdict h) (violating_ownees h)) (unshared_agree live)
+
+  pub collections_agree : AllLive p.table h.unshared → (paths number : ℕ) → collection_counted (counted_in p t) (without_force paths) number h ≡ collection_of (without_force paths) number h
   unfolding collection_counted
-  collection-found dead number live traced verdicts live_is traced_is verdicts_is =
-      let h = heap_of p.table dead in
-      λ i. record {
-        number = number;
-        live = live_is i;
-        traced = (traced_is ∙ traced_many dead) i;
-        freed = live_is i - (traced_is ∙ traced_many dead) i;
-        cleared = sym (nothing_held (after_sweep h).table) i;
-        verdicts = (verdicts_is ∙ sym (all_pathless (reference_count h) p.table dead)) i;
-      }
+  collections_agree live paths number =
+      ap (λ vs. record (collection_of (without_force paths) number h) { verdicts = first_with_paths paths vs }) (verdicts_agree live)
 
-  -- the heap that is left
-  heap-after : (dead stay : List ℕ) → stay ≡ filter (has_id (reachable_ids p.table)) dead → heap_of after stay ≡ after_collection pathless (heap_of p.table dead)
-  unfolding after_sweep
-  heap-after dead stay stay_is =
-      let h = heap_of p.table dead in
-      (λ i. record {
-        table = left-traced dead i;
-        dead = (stay_is ∙ filter_agree_ids (reachable_ids p.table) (traced_ids h) dead (λ id. sym (traced-reachable p.table dead id))) i;
-        unshared = [];
-        regions = sym (kept-no_regions (has_id (traced_ids h))) i;
-        limits = [];
-        owners = [];
-      })
-      ∙ sym (plain_leaves_swept 0 h)
-
-  pub collection-after : (dead stay : List ℕ) (collections violations : ℕ) (verdicts : List Verdict) → stay ≡ filter (has_id (reachable_ids p.table)) dead → verdicts ≡ pathless_verdicts p.table dead → (let a : Audit = record { heap = heap_of after stay; rules = pathless; collections = collections + 1; violations = violations + length verdicts } in a) ≡ after_next (record { heap = heap_of p.table dead; rules = pathless; collections = collections; violations = violations })
-  unfolding after_next collection_counted
-  collection-after dead stay collections violations verdicts stay_is verdicts_is =
-      let h = heap_of p.table dead in
-      λ i. record {
-        heap = heap-after dead stay stay_is i;
-        rules = pathless;
-        collections = collections + 1;
-        violations = violations + length ((verdicts_is ∙ sym (all_pathless (reference_count h) p.table dead)) i);
-      }
+-- A collection by the counts of a trace is the next collection, where these are the numbers of references.
+pub counted_as_defined : (a : Audit) (paths : ℕ) → a.rules ≡ without_force paths → (p : Placed) → p ≡ placed_of a → IsPlaced p → (r : RoleTable) → AreItsRoles a r → (t : TraceResult) → ((h : Heap) → StandFor p r h → CountsReferences p h t) → next_counted t a ≡ next_collection a
+counted_as_defined a paths rules p is placed r roles t counts =
+    let at = placed_of a in
+    let placed_there : IsPlaced at = subst IsPlaced is placed in
+    let counts_there : CountsReferences at a.heap t = subst (λ (q : Placed). CountsReferences q a.heap t) is (counts a.heap (subst (λ (q : Placed). StandFor q r a.heap) (sym is) roles.of_heap)) in
+    ap (λ (rs : Rules). collection_counted (counted_in at t) rs (a.collections + 1) a.heap) rules
+    ∙ collections_agree at placed_there a.heap refl t counts_there roles.of_heap.refers.unshared paths (a.collections + 1)
+    ∙ ap (λ (rs : Rules). collection_of rs (a.collections + 1) a.heap) (sym rules)

@@ -1,6 +1,5 @@
-pub mod Asserted
 pub mod Collected
-pub mod Kept
-pub mod Reached
-pub mod Steps
-pub mod Tracing
+pub mod Limits
+pub mod Operations
+pub mod Stepping
+pub mod Swept

@@ -1,5 +1,5 @@
 -- What an auditor stands for: a heap, the rules of its collections, and totals over the collections so far.
-use Rattle.std.specs.Prelude.{◌≡◌, ℕ, ◌+◌, length, Bool, true, false, Result, Ok, OnOk, OnErr}
+use Rattle.std.specs.Prelude.{◌≡◌, ℕ, ◌+◌, List, [], length, Bool, true, false, Option, Result, Ok, OnOk, OnErr}
 use Rattle.std.specs.Result.{result_err}
 use Rattle.graph_meaning.specs.declared.collection.Collection.{Collection}
 use Rattle.graph_meaning.specs.declared.event.Event.{Event}
@@ -7,27 +7,66 @@ use Rattle.graph_meaning.specs.declared.event.Event.TheVariants.{Alloc, Store, R
 use Rattle.graph_meaning.specs.declared.refusal.Stop.{Stop}
 use Rattle.graph_meaning.specs.Answers.{RefusesBy}
 use Rattle.graph_meaning.specs.Heap.{Heap, empty_heap}
+use Rattle.graph_meaning.specs.Roles.{RoleTable, AreRolesOf}
 use Rattle.graph_meaning.specs.Step.{step}
-use Rattle.graph_meaning.specs.Collecting.{Rules, after_collection, collection_of}
+use Rattle.graph_meaning.specs.Collecting.{Rules, after_collection, collection_counted, collection_of}
+use Rattle.object_table.specs.Placed.{Placed}
+use Rattle.assert_registry.specs.Laws.{StandFor}
+use Rattle.heap_trace.specs.Results.{TraceResult}
+use Rattle.verdicts.specs.Verdicts.{counted_in}
 
--- The heap as it stands, the rules of collections, how many were made, and how many verdicts they had together.
+-- The heap as it stands; for each cell of its table the id of the object that it holds, if it holds one; the rules of
+-- collections; how many were made, and how many verdicts they had together.
 pub record Audit : Type 0 where
   pub heap : Heap
+  pub cells : List (Option ℕ)
   pub rules : Rules
   pub collections : ℕ
   pub violations : ℕ
 
--- No path is shown, and nothing is cut off.
-abbrev pub pathless : Rules
-pathless = record { paths = 0; force = false }
+-- the heap's table with its cells
+abbrev pub placed_of : Audit → Placed
+placed_of a = record { table = a.heap.table; cells = a.cells }
+
+-- so many paths are shown, and nothing is cut off
+abbrev pub without_force : ℕ → Rules
+without_force paths = record { paths = paths; force = false }
 
 -- an auditor at the beginning of a trace
 abbrev pub first_audit : Rules → Audit
-first_audit rules = record { heap = empty_heap; rules = rules; collections = 0; violations = 0 }
+first_audit rules = record { heap = empty_heap; cells = []; rules = rules; collections = 0; violations = 0 }
+
+-- any operation but a collection
+abbrev pub is_operation : Event → Bool
+is_operation (Alloc id kind slots thread) = true
+is_operation (Store at slot to) = true
+is_operation (SetWeak at slot weak) = true
+is_operation (Root name to) = true
+is_operation (AssertDead id) = true
+is_operation (StartRegion thread) = true
+is_operation (AssertAllDead thread) = true
+is_operation (AssertInstances kind limit) = true
+is_operation (AssertUnshared id) = true
+is_operation (AssertOwnedBy owner ownee) = true
+is_operation Collect = false
+
+-- One operation: what `step` refuses is refused, else the heap is what `step` leaves, and after an error nothing has
+-- changed. Rules and totals stay.
+pub record Follows {T : Type 0} (before : Audit) (event : Event) (result : Result T Stop) (after : Audit) : Type 0 where
+  pub refused : RefusesBy result (result_err (step before.heap event))
+  pub applied : OnOk result (step before.heap event ≡ Ok after.heap)
+  pub rest : after ≡ record before { heap = after.heap; cells = after.cells }
+  pub err : OnErr result (after ≡ before)
+
+-- ---- collections
 
 -- the next collection that an auditor makes
 abbrev pub next_collection : Audit → Collection
 next_collection a = collection_of a.rules (a.collections + 1) a.heap
+
+-- the same with the counts of a trace, which need not be the numbers of references
+abbrev pub next_counted : TraceResult → Audit → Collection
+next_counted t a = collection_counted (counted_in (placed_of a) t) a.rules (a.collections + 1) a.heap
 
 -- the auditor after its next collection
 unfoldable pub after_next : Audit → Audit
@@ -37,24 +76,7 @@ after_next a = record a {
   violations = a.violations + length (next_collection a).verdicts;
 }
 
--- the operations that an auditor applies, beside a collection
-abbrev pub is_applied : Event → Bool
-is_applied (Alloc id kind slots thread) = true
-is_applied (Store at slot to) = true
-is_applied (Root name to) = true
-is_applied (AssertDead id) = true
-is_applied (StartRegion thread) = false
-is_applied (AssertAllDead thread) = false
-is_applied (AssertInstances kind limit) = false
-is_applied (AssertUnshared id) = false
-is_applied (AssertOwnedBy owner ownee) = false
-is_applied (SetWeak at slot weak) = true
-is_applied Collect = false
-
--- One operation: what `step` refuses is refused, else the heap is what `step` leaves, and after an error nothing has
--- changed. Rules and totals stay.
-pub record Follows {T : Type 0} (before : Audit) (event : Event) (result : Result T Stop) (after : Audit) : Type 0 where
-  pub refused : RefusesBy result (result_err (step before.heap event))
-  pub applied : OnOk result (step before.heap event ≡ Ok after.heap)
-  pub rest : after ≡ record before { heap = after.heap }
-  pub err : OnErr result (after ≡ before)
+-- The roles are those of the auditor's heap, by the cells and types of its table.
+pub record AreItsRoles (a : Audit) (r : RoleTable) : Type 0 where
+  pub of_table : AreRolesOf a.cells (length a.heap.table.kinds) r
+  pub of_heap : StandFor (placed_of a) r a.heap

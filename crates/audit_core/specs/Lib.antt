@@ -1,4 +1,2 @@
 pub mod Audit
-pub mod Held
-pub mod Tracing
-pub mod Verdicts
+pub mod Parts

@@ -1,10 +1,15 @@
 //! The auditor: the heap that a trace describes, its assertions, and the collections that check them.
 #![tactic(auto)]
 
+mod assertions;
 mod auditor;
-mod dead;
+mod collecting;
+mod objects;
+mod parts;
+mod refusals;
+mod regions;
 #[cfg(test)]
 mod tests;
-mod trace;
 
 pub use auditor::Auditor;
+pub use heap_trace::{Kit, Traced, trace};

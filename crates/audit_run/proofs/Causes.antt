@@ -7,7 +7,7 @@ use Rattle.heap_base.specs.declared.status.Status.{Status}
 use Rattle.heap_base.specs.declared.status.Status.TheVariants.{Clean, Violated, TraceFault, ReadFault, WriteFault, NoMemory, Usage}
 use Rattle.graph_meaning.specs.Collecting.{Rules}
 use Rattle.report.specs.Report.{report_of, status_of}
-use Rattle.audit_run.specs.Known.{known_items}
+use Rattle.report.specs.Traces.{trace_items}
 use Rattle.audit_run.specs.Outcome.{Outside, ReadsToEnd, AppendsPartOfReport}
 use Rattle.audit_run.specs.Facts.{IsWhole, HasFacts, FactsFollow}
 
@@ -29,13 +29,13 @@ whole_of rules old new answer bytes e r =
     let same = told old.source.bytes bytes r.bytes e r.trace in
     record {
       at_end = at_end_of old.source.bytes new.source.bytes bytes r.bytes e same r.read;
-      report = subst (λ (b : List ℕ). Appends old.sink.bytes new.sink.bytes (report_of rules (known_items b))) same r.report;
-      status = r.status ∙ ap (λ b. status_of rules (known_items b)) same;
+      report = subst (λ (b : List ℕ). Appends old.sink.bytes new.sink.bytes (report_of rules (trace_items b))) same r.report;
+      status = r.status ∙ ap (λ b. status_of rules (trace_items b)) same;
     }
 
-part_of : (rules : Rules) (old new : Outside) (bytes : List ℕ) → old.source.bytes ≡ Some bytes → AppendsPartOfReport rules old new → AppendsPart old.sink.bytes new.sink.bytes (report_of rules (known_items bytes))
+part_of : (rules : Rules) (old new : Outside) (bytes : List ℕ) → old.source.bytes ≡ Some bytes → AppendsPartOfReport rules old new → AppendsPart old.sink.bytes new.sink.bytes (report_of rules (trace_items bytes))
 part_of rules old new bytes e r =
-    subst (λ (b : List ℕ). AppendsPart old.sink.bytes new.sink.bytes (report_of rules (known_items b))) (told old.source.bytes bytes r.bytes e r.trace) r.part
+    subst (λ (b : List ℕ). AppendsPart old.sink.bytes new.sink.bytes (report_of rules (trace_items b))) (told old.source.bytes bytes r.bytes e r.trace) r.part
 
 -- ---- a status is none but itself
 
@@ -66,11 +66,11 @@ facts_follow rules old new Clean bytes e r = facts_at_end rules old new Clean by
 facts_follow rules old new Violated bytes e r = facts_at_end rules old new Violated bytes (inr refl) (whole_of rules old new Violated bytes e r)
 facts_follow rules old new TraceFault bytes e r =
     let same = told old.source.bytes bytes r.bytes e r.trace in
-    let refused : status_of rules (known_items bytes) ≡ TraceFault = ap (λ b. status_of rules (known_items b)) (sym same) ∙ r.refused in
+    let refused : status_of rules (trace_items bytes) ≡ TraceFault = ap (λ b. status_of rules (trace_items b)) (sym same) ∙ r.refused in
     record {
       whole = neither (λ is. cc) (λ is. cc);
       trace_fault = λ _. refused;
-      fault_report = λ _. subst (λ (b : List ℕ). Appends old.sink.bytes new.sink.bytes (report_of rules (known_items b))) same r.report;
+      fault_report = λ _. subst (λ (b : List ℕ). Appends old.sink.bytes new.sink.bytes (report_of rules (trace_items b))) same r.report;
       hides_no_refusal = λ _. ((λ is. cc), (λ is. cc));
       read_fault = λ is. absurd (cc);
       write_fault = λ is. absurd (cc);

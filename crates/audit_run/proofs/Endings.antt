@@ -21,15 +21,15 @@ use Rattle.trace_reader.specs.Meaning.{Item, item_of_line, refused}
 use Rattle.trace_reader.specs.Items.{pieces, items_from}
 use Rattle.trace_reader.specs.Cutter.{CutterState, StepsOn, Cuts, GivesLine}
 use Rattle.report.specs.Report.{Totals, first_state, end_of_trace, refused_line, empty_run, run, collections_text, report_of, status_of, part_of, ending_of}
-use Rattle.report.specs.Traces.{whole_lines}
-use Rattle.audit_core.specs.Audit.{Audit, pathless}
-use Rattle.audit_run.specs.Known.{known, known_items}
+use Rattle.report.specs.Traces.{trace_items, whole_lines}
+use Rattle.audit_core.specs.Audit.{Audit}
+use Rattle.audit_run.specs.Words.{usual_rules}
 use Rattle.audit_run.specs.Outcome.{Outside, IsTrace, ReadsToEnd, Ended, AppendsPartOfReport}
 use Rattle.audit_run.specs.Turn.{Due, due, due_at, EndsRun, totals_of, state_at}
 use Rattle.trace_reader.proofs.Pieces.{items_from-append, items_from-given, items_from-line_too_long, items_from-trace_too_long}
 use Rattle.report.proofs.Runs.{LeadsTo, report_text-leads_to, run_status-leads_to, run-nil, run-refused, ending_of-leads_to, part_of-leads_to}
 use Rattle.report.proofs.WholeLines.{IsWholeLine, pieces-whole_lines, whole_lines-cut}
-use Rattle.audit_run.proofs.Progress.{Progress, InProgress, known_from, end_now, cuts_of, still_at_end}
+use Rattle.audit_run.proofs.Progress.{Progress, InProgress, items_so_far, end_now, cuts_of, still_at_end}
 use Rattle.audit_run.proofs.Turns.{EndsRun-at, due-empty_run}
 
 -- ---- the bytes of the trace
@@ -57,35 +57,35 @@ Rose-earlier start before now le rose = omega arith
 -- The items of the whole trace are those of the pieces so far and then these.
 pub record RunOfAll (start : Outside) (a : Audit) (n : ℕ) (done : List (List ℕ)) (bytes : List ℕ) (more : List Item) : Type 0 where
   pub trace : IsTrace start bytes
-  pub items : known_items bytes ≡ known_from done ++ more
+  pub items : trace_items bytes ≡ items_so_far done ++ more
 
 module _ (start now now' : Outside) (a : Audit) (n : ℕ) (done : List (List ℕ)) (made : List Collection) (bytes : List ℕ) (more : List Item)
     (before : Appends start.sink.bytes now.sink.bytes (collections_text made))
-    (ran : LeadsTo pathless first_state (known_from done) made (state_at a n))
+    (ran : LeadsTo usual_rules first_state (items_so_far done) made (state_at a n))
     (all : RunOfAll start a n done bytes more) where
   abbrev rest : Due
-  rest = due (totals_of a) (run pathless (state_at a n) more)
+  rest = due (totals_of a) (run usual_rules (state_at a n) more)
 
-  whole_text : report_of pathless (known_items bytes) ≡ collections_text made ++ rest.text
+  whole_text : report_of usual_rules (trace_items bytes) ≡ collections_text made ++ rest.text
   whole_text =
-      ap (report_of pathless) all.items ∙ report_text-leads_to pathless first_state (state_at a n) (known_from done) more made ran
+      ap (report_of usual_rules) all.items ∙ report_text-leads_to usual_rules first_state (state_at a n) (items_so_far done) more made ran
 
-  whole_status : status_of pathless (known_items bytes) ≡ rest.status
+  whole_status : status_of usual_rules (trace_items bytes) ≡ rest.status
   whole_status =
-      ap (status_of pathless) all.items ∙ run_status-leads_to pathless first_state (state_at a n) (known_from done) more made ran
+      ap (status_of usual_rules) all.items ∙ run_status-leads_to usual_rules first_state (state_at a n) (items_so_far done) more made ran
 
-  appends_whole : Appends now.sink.bytes now'.sink.bytes rest.text → Appends start.sink.bytes now'.sink.bytes (report_of pathless (known_items bytes))
+  appends_whole : Appends now.sink.bytes now'.sink.bytes rest.text → Appends start.sink.bytes now'.sink.bytes (report_of usual_rules (trace_items bytes))
   appends_whole after =
       subst (λ (t : List ℕ). Appends start.sink.bytes now'.sink.bytes t) (sym whole_text) (Appends-trans _ _ _ _ _ before after)
 
-  appends_part : AppendsPart now.sink.bytes now'.sink.bytes rest.text → AppendsPartOfReport pathless start now'
+  appends_part : AppendsPart now.sink.bytes now'.sink.bytes rest.text → AppendsPartOfReport usual_rules start now'
   appends_part part = record {
     bytes = bytes;
     trace = all.trace;
     part = AppendsPart-behind start.sink.bytes now.sink.bytes now'.sink.bytes (collections_text made) _ _ whole_text before part;
   }
 
-  read_to_end : (status : Status) → Consumes start.source.bytes now'.source.bytes bytes → rest.status ≡ status → Appends now.sink.bytes now'.sink.bytes rest.text → ReadsToEnd pathless start now' status
+  read_to_end : (status : Status) → Consumes start.source.bytes now'.source.bytes bytes → rest.status ≡ status → Appends now.sink.bytes now'.sink.bytes rest.text → ReadsToEnd usual_rules start now' status
   read_to_end status read is text = record {
     bytes = bytes;
     trace = all.trace;
@@ -95,7 +95,7 @@ module _ (start now now' : Outside) (a : Audit) (n : ℕ) (done : List (List ℕ
   }
 
   pub ended : (at_end : Bool) (status : Status) → start.sink.faults ≤ now.sink.faults → (IsTrue at_end → Consumes start.source.bytes now'.source.bytes bytes) →
-      EndsRun at_end now.sink now'.sink rest status → Ended pathless start now' status
+      EndsRun at_end now.sink now'.sink rest status → Ended usual_rules start now' status
   ended at_end Clean later end ends = read_to_end Clean (end ends.0) ends.1 ends.2
   ended at_end Violated later end ends = read_to_end Violated (end ends.0) ends.1 ends.2
   ended at_end TraceFault later end ends = record {
@@ -113,7 +113,7 @@ module _ (start now now' : Outside) (a : Audit) (n : ℕ) (done : List (List ℕ
 
 pub record Trace (start now' : Outside) (c c' : CutterState) (a : Audit) (n : ℕ) (took taken : List ℕ) (done : List (List ℕ)) : Type 0 where
   pub rest : List ℕ
-  pub all : RunOfAll start a n done ((taken ++ took) ++ rest) (map known (items_from LONGEST_TRACE c.given (pieces ((c.pending ++ took) ++ rest))))
+  pub all : RunOfAll start a n done ((taken ++ took) ++ rest) (items_from LONGEST_TRACE c.given (pieces ((c.pending ++ took) ++ rest)))
   pub nothing : IsTrue c'.at_end → rest ≡ []
   pub read : Consumes start.source.bytes now'.source.bytes (taken ++ took)
 
@@ -131,9 +131,9 @@ trace_of start now now' c c' a n took taken done made result p steps =
       all = record {
         trace = left;
         items =
-            ap (λ ps. map known (items_from LONGEST_TRACE 0 ps)) cut
-            ∙ ap (map known) (items_from-append LONGEST_TRACE 0 done others ∙ ap (λ b. items_from LONGEST_TRACE 0 done ++ items_from LONGEST_TRACE b others) (omega (arith, p.given)))
-            ∙ map-append known (items_from LONGEST_TRACE 0 done) (items_from LONGEST_TRACE c.given others);
+            ap (λ ps. items_from LONGEST_TRACE 0 ps) cut
+            ∙ items_from-append LONGEST_TRACE 0 done others
+            ∙ ap (λ b. items_from LONGEST_TRACE 0 done ++ items_from LONGEST_TRACE b others) (omega (arith, p.given));
       };
       nothing = nothing;
       read = read;
@@ -141,22 +141,22 @@ trace_of start now now' c c' a n took taken done made result p steps =
 
 -- ---- the run ends with a status that the last step told
 
-run-none : (a : Audit) (n given : ℕ) → run pathless (state_at a n) (map known (items_from LONGEST_TRACE given (pieces []))) ≡ empty_run end_of_trace
+run-none : (a : Audit) (n given : ℕ) → run usual_rules (state_at a n) (items_from LONGEST_TRACE given (pieces [])) ≡ empty_run end_of_trace
 unfolding items_from pieces
-run-none a n given = run-nil pathless (state_at a n)
+run-none a n given = run-nil usual_rules (state_at a n)
 
 -- the trace was read to its end
 pub finished : (start now now' : Outside) (c c' : CutterState) (a : Audit) (n : ℕ) (took : List ℕ) (status : Status) →
     InProgress start now c a n → StepsOn c c' now.source.bytes now'.source.bytes now.source.faults now'.source.faults (Ok None) took →
-    EndsRun true now.sink now'.sink (due_at (totals_of a) end_of_trace) status → Ended pathless start now' status
+    EndsRun true now.sink now'.sink (due_at (totals_of a) end_of_trace) status → Ended usual_rules start now' status
 finished start now now' c c' a n took status progress steps ends =
     let p = progress.so_far in
     let cut : Cuts c c' (c.pending ++ took) now.source.faults now'.source.faults (Ok None) = cuts_of c.stopped _ _ p.stopped steps.cuts in
     let trace = trace_of start now now' c c' a n took progress.taken progress.done progress.made _ p steps in
     let none : trace.rest ≡ [] = trace.nothing cut.1.at_end in
     let nothing : (c.pending ++ took) ++ trace.rest ≡ [] = ap (λ t. t ++ trace.rest) (sym cut.0.pending ∙ cut.1.nothing_left) ∙ none in
-    let last : run pathless (state_at a n) (map known (items_from LONGEST_TRACE c.given (pieces ((c.pending ++ took) ++ trace.rest)))) ≡ empty_run end_of_trace =
-    ap (λ t. run pathless (state_at a n) (map known (items_from LONGEST_TRACE c.given (pieces t)))) nothing ∙ run-none a n c.given in
+    let last : run usual_rules (state_at a n) (items_from LONGEST_TRACE c.given (pieces ((c.pending ++ took) ++ trace.rest))) ≡ empty_run end_of_trace =
+    ap (λ t. run usual_rules (state_at a n) (items_from LONGEST_TRACE c.given (pieces t))) nothing ∙ run-none a n c.given in
     let all_read : progress.taken ++ took ≡ (progress.taken ++ took) ++ trace.rest = sym (append-nil (progress.taken ++ took)) ∙ ap (λ t. (progress.taken ++ took) ++ t) (sym none) in
     ended start now now' a n progress.done progress.made _ _ p.written p.ran trace.all true status p.writes
     (λ t. subst (λ (bytes : List ℕ). Consumes start.source.bytes now'.source.bytes bytes) all_read trace.read)
@@ -166,13 +166,13 @@ finished start now now' c c' a n took status progress steps ends =
 refused_cut : (start now now' : Outside) (c c' : CutterState) (a : Audit) (n : ℕ) (took : List ℕ) (r : Refusal) (result : Result (Option ℕ) CutError) (status : Status) →
     InProgress start now c a n → StepsOn c c' now.source.bytes now'.source.bytes now.source.faults now'.source.faults result took →
     ((rest : List ℕ) → (more : List Item) × (items_from LONGEST_TRACE c.given (pieces ((c.pending ++ took) ++ rest)) ≡ refused r ∷ more)) →
-    ((before : Totals) → EndsRun false now.sink now'.sink (due_at before (refused_line (n + 1) r)) status) → Ended pathless start now' status
+    ((before : Totals) → EndsRun false now.sink now'.sink (due_at before (refused_line (n + 1) r)) status) → Ended usual_rules start now' status
 refused_cut start now now' c c' a n took r result status progress steps first ends =
     let p = progress.so_far in
     let trace = trace_of start now now' c c' a n took progress.taken progress.done progress.made _ p steps in
     let items = first trace.rest in
-    let last : run pathless (state_at a n) (map known (items_from LONGEST_TRACE c.given (pieces ((c.pending ++ took) ++ trace.rest)))) ≡ empty_run (refused_line (n + 1) r) =
-    ap (λ is. run pathless (state_at a n) (map known is)) items.1 ∙ run-refused pathless (state_at a n) r (map known items.0) in
+    let last : run usual_rules (state_at a n) (items_from LONGEST_TRACE c.given (pieces ((c.pending ++ took) ++ trace.rest))) ≡ empty_run (refused_line (n + 1) r) =
+    ap (λ is. run usual_rules (state_at a n) is) items.1 ∙ run-refused usual_rules (state_at a n) r items.0 in
     ended start now now' a n progress.done progress.made _ _ p.written p.ran trace.all false status p.writes
     (λ t. absurd (false≢true t))
     (EndsRun-at false now.sink now'.sink _ _ status (ap (due (totals_of a)) last ∙ due-empty_run (totals_of a) (refused_line (n + 1) r)) (ends (totals_of a)))
@@ -180,8 +180,8 @@ refused_cut start now now' c c' a n took r result status progress steps first en
 -- the line that was given ends the run
 line_ends_by : (start now now' : Outside) (c c' : CutterState) (a : Audit) (n number : ℕ) (took : List ℕ) (status : Status) →
     InProgress start now c a n → StepsOn c c' now.source.bytes now'.source.bytes now.source.faults now'.source.faults (Ok (Some number)) took →
-    ((more : List Item) → EndsRun false now.sink now'.sink (due (totals_of a) (run a.rules (state_at a n) (known (item_of_line c'.line) ∷ more))) status) →
-    Ended pathless start now' status
+    ((more : List Item) → EndsRun false now.sink now'.sink (due (totals_of a) (run a.rules (state_at a n) (item_of_line c'.line ∷ more))) status) →
+    Ended usual_rules start now' status
 line_ends_by start now now' c c' a n number took status progress steps ends =
     let p = progress.so_far in
     let cut : Cuts c c' (c.pending ++ took) now.source.faults now'.source.faults (Ok (Some number)) = cuts_of c.stopped _ _ p.stopped steps.cuts in
@@ -192,19 +192,19 @@ line_ends_by start now now' c c' a n number took status progress steps ends =
     let items : items_from LONGEST_TRACE c.given (pieces ((c.pending ++ took) ++ trace.rest)) ≡ item_of_line c'.line ∷ others =
     let F : ℕ → Type 0 = λ l. items_from l c.given (pieces ((c.pending ++ took) ++ trace.rest)) ≡ item_of_line c'.line ∷ items_from l c'.given (pieces (c'.pending ++ trace.rest)) in
     subst F p.limit (items_from-given c c' (c.pending ++ took) piece trace.rest number line trace.nothing) in
-    let last : run pathless (state_at a n) (map known (items_from LONGEST_TRACE c.given (pieces ((c.pending ++ took) ++ trace.rest)))) ≡ run a.rules (state_at a n) (known (item_of_line c'.line) ∷ map known others) =
-    ap (λ is. run pathless (state_at a n) (map known is)) items ∙ ap (λ rules. run rules (state_at a n) (known (item_of_line c'.line) ∷ map known others)) (sym p.rules) in
+    let last : run usual_rules (state_at a n) (items_from LONGEST_TRACE c.given (pieces ((c.pending ++ took) ++ trace.rest))) ≡ run a.rules (state_at a n) (item_of_line c'.line ∷ others) =
+    ap (λ is. run usual_rules (state_at a n) is) items ∙ ap (λ rules. run rules (state_at a n) (item_of_line c'.line ∷ others)) (sym p.rules) in
     ended start now now' a n progress.done progress.made _ _ p.written p.ran trace.all false status p.writes
     (λ t. absurd (false≢true t))
-    (EndsRun-at false now.sink now'.sink _ _ status (ap (due (totals_of a)) last) (ends (map known others)))
+    (EndsRun-at false now.sink now'.sink _ _ status (ap (due (totals_of a)) last) (ends others))
 
 pub line_ends : (start now now' : Outside) (c c' : CutterState) (a : Audit) (n number : ℕ) (took text : List ℕ) (status : Status) →
     InProgress start now c a n → StepsOn c c' now.source.bytes now'.source.bytes now.source.faults now'.source.faults (Ok (Some number)) took → text ≡ c'.line →
-    ((more : List Item) → EndsRun false now.sink now'.sink (due (totals_of a) (run a.rules (state_at a n) (known (item_of_line text) ∷ more))) status) →
-    Ended pathless start now' status
+    ((more : List Item) → EndsRun false now.sink now'.sink (due (totals_of a) (run a.rules (state_at a n) (item_of_line text ∷ more))) status) →
+    Ended usual_rules start now' status
 line_ends start now now' c c' a n number took text status progress steps e ends =
     line_ends_by start now now' c c' a n number took status progress steps
-    (λ more. subst (λ (t : List ℕ). EndsRun false now.sink now'.sink (due (totals_of a) (run a.rules (state_at a n) (known (item_of_line t) ∷ more))) status) e (ends more))
+    (λ more. subst (λ (t : List ℕ). EndsRun false now.sink now'.sink (due (totals_of a) (run a.rules (state_at a n) (item_of_line t ∷ more))) status) e (ends more))
 
 -- a line that is too long, and a trace that is too long
 refused_there : (c c' : CutterState) (bytes rest : List ℕ) (r : Refusal) → c'.limit ≡ LONGEST_TRACE → c'.given ≡ c.given → c'.pending ≡ bytes →
@@ -214,7 +214,7 @@ refused_there c c' bytes rest r limit given pending (more, first) =
 
 pub line_too_long : (start now now' : Outside) (c c' : CutterState) (a : Audit) (n : ℕ) (took : List ℕ) (status : Status) →
     InProgress start now c a n → StepsOn c c' now.source.bytes now'.source.bytes now.source.faults now'.source.faults (Err cut_error.LineTooLong) took →
-    ((before : Totals) → EndsRun false now.sink now'.sink (due_at before (refused_line (n + 1) refusal.LineTooLong)) status) → Ended pathless start now' status
+    ((before : Totals) → EndsRun false now.sink now'.sink (due_at before (refused_line (n + 1) refusal.LineTooLong)) status) → Ended usual_rules start now' status
 line_too_long start now now' c c' a n took status progress steps ends =
     let cut : Cuts c c' (c.pending ++ took) now.source.faults now'.source.faults (Err cut_error.LineTooLong) = cuts_of c.stopped _ _ progress.so_far.stopped steps.cuts in
     refused_cut start now now' c c' a n took refusal.LineTooLong _ status progress steps
@@ -222,7 +222,7 @@ line_too_long start now now' c c' a n took status progress steps ends =
 
 pub trace_too_long : (start now now' : Outside) (c c' : CutterState) (a : Audit) (n : ℕ) (took : List ℕ) (status : Status) →
     InProgress start now c a n → StepsOn c c' now.source.bytes now'.source.bytes now.source.faults now'.source.faults (Err cut_error.TraceTooLong) took →
-    ((before : Totals) → EndsRun false now.sink now'.sink (due_at before (refused_line (n + 1) refusal.TraceTooLong)) status) → Ended pathless start now' status
+    ((before : Totals) → EndsRun false now.sink now'.sink (due_at before (refused_line (n + 1) refusal.TraceTooLong)) status) → Ended usual_rules start now' status
 trace_too_long start now now' c c' a n took status progress steps ends =
     let cut : Cuts c c' (c.pending ++ took) now.source.faults now'.source.faults (Err cut_error.TraceTooLong) = cuts_of c.stopped _ _ progress.so_far.stopped steps.cuts in
     refused_cut start now now' c c' a n took refusal.TraceTooLong _ status progress steps
@@ -233,7 +233,7 @@ trace_too_long start now now' c c' a n took status progress steps ends =
 -- a read failed, and the run ends there
 pub cut_short : (start now now' : Outside) (c c' : CutterState) (a : Audit) (n : ℕ) (took : List ℕ) →
     InProgress start now c a n → StepsOn c c' now.source.bytes now'.source.bytes now.source.faults now'.source.faults (Err cut_error.ReadFault) took → now'.sink ≡ now.sink →
-    Ended pathless start now' ReadFault
+    Ended usual_rules start now' ReadFault
 cut_short start now now' c c' a n took progress steps same =
     let p = progress.so_far in
     let done = progress.done in
@@ -245,28 +245,28 @@ cut_short start now now' c c' a n took progress steps same =
     let cut_now : pieces (progress.taken ++ took) ≡ done ++ pieces c'.pending =
     p.cut took (λ t. (steps.stays_at_end t).1) ∙ ap (λ t. done ++ pieces t) (sym cut.0.pending) in
     let whole : whole_lines (progress.taken ++ took) ≡ concat done = whole_lines-cut (progress.taken ++ took) c'.pending done cut_now all waits.front.one_line in
-    let items : known_items (whole_lines (progress.taken ++ took)) ≡ known_from done =
-    ap known_items whole ∙ ap (λ ps. map known (items_from LONGEST_TRACE 0 ps)) (pieces-whole_lines done all) in (
+    let items : trace_items (whole_lines (progress.taken ++ took)) ≡ items_so_far done =
+    ap trace_items whole ∙ ap (λ ps. items_from LONGEST_TRACE 0 ps) (pieces-whole_lines done all) in (
       Rose-earlier _ _ _ p.reads cut.2,
       record {
         bytes = progress.taken ++ took;
         read = Consumes-trans _ _ _ _ _ p.consumed steps.consumes;
-        none_refused = ap (ending_of pathless) items ∙ ending_of-leads_to pathless (state_at a n) (known_from done) progress.made p.ran;
+        none_refused = ap (ending_of usual_rules) items ∙ ending_of-leads_to usual_rules (state_at a n) (items_so_far done) progress.made p.ran;
         tail = omega (arith, ap length split, ap length whole, length-append (concat done) c'.pending, waits.front.short);
         within = omega (arith, ap length split, length-append (concat done) c'.pending, waits.front.within, cut.0.given, p.given, p.within, steps.limit, p.limit);
-        part = subst (λ (k : Stream). Appends start.sink.bytes k.bytes (part_of pathless (known_items (whole_lines (progress.taken ++ took))))) (sym same)
-            (subst (λ (t : List ℕ). Appends start.sink.bytes now.sink.bytes t) (sym (ap (part_of pathless) items ∙ part_of-leads_to pathless (state_at a n) (known_from done) progress.made p.ran)) p.written);
+        part = subst (λ (k : Stream). Appends start.sink.bytes k.bytes (part_of usual_rules (trace_items (whole_lines (progress.taken ++ took))))) (sym same)
+            (subst (λ (t : List ℕ). Appends start.sink.bytes now.sink.bytes t) (sym (ap (part_of usual_rules) items ∙ part_of-leads_to usual_rules (state_at a n) (items_so_far done) progress.made p.ran)) p.written);
       },
     )
 
 -- memory was wanting before anything was written
-pub nothing_written : (start now : Outside) → now.sink ≡ start.sink → Ended pathless start now NoMemory
+pub nothing_written : (start now : Outside) → now.sink ≡ start.sink → Ended usual_rules start now NoMemory
 nothing_written start now same =
     let (bytes, trace) = some_trace start.source.bytes in
     record {
       bytes = bytes;
       trace = trace;
-      part = subst (λ (k : Stream). AppendsPart start.sink.bytes k.bytes (report_of pathless (known_items bytes))) (sym same) (0, omega arith, Appends-nil start.sink.bytes);
+      part = subst (λ (k : Stream). AppendsPart start.sink.bytes k.bytes (report_of usual_rules (trace_items bytes))) (sym same) (0, omega arith, Appends-nil start.sink.bytes);
     }
   where
     some_trace : (left : Option (List ℕ)) → (bytes : List ℕ) × IfSome left (λ told. told ≡ bytes)

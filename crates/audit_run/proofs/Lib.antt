@@ -1,4 +1,5 @@
 pub mod Causes
 pub mod Endings
+pub mod Numbers
 pub mod Progress
 pub mod Turns

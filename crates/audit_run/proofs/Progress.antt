@@ -14,8 +14,8 @@ use Rattle.trace_reader.specs.Meaning.{Item, item_of_line}
 use Rattle.trace_reader.specs.Items.{pieces, items_from, item_of}
 use Rattle.trace_reader.specs.Cutter.{CutterState, fresh_cutter, IsNextPiece, GivesLine, StepsOn, Cuts}
 use Rattle.report.specs.Report.{Totals, first_state, turn_of_item, collections_text}
-use Rattle.audit_core.specs.Audit.{Audit, pathless, first_audit}
-use Rattle.audit_run.specs.Known.{known}
+use Rattle.audit_core.specs.Audit.{Audit, first_audit}
+use Rattle.audit_run.specs.Words.{usual_rules}
 use Rattle.audit_run.specs.Outcome.{Outside}
 use Rattle.audit_run.specs.Turn.{state_at, line_of, IsTaken}
 use Rattle.report.proofs.Runs.{LeadsTo, LeadsTo-nil, LeadsTo-push, collections_text-append}
@@ -23,8 +23,8 @@ use Rattle.report.proofs.WholeLines.{IsWholeLine}
 use Rattle.trace_reader.proofs.Pieces.{item_of-given, pieces-given, items_from-append, items_from-cons}
 
 -- the items of these pieces
-abbrev pub known_from : List (List ℕ) → List Item
-known_from done = map known (items_from LONGEST_TRACE 0 done)
+abbrev pub items_so_far : List (List ℕ) → List Item
+items_so_far done = items_from LONGEST_TRACE 0 done
 
 -- These bytes were taken since the start, these pieces of them were run, and these collections were made and written.
 pub record Progress (start now : Outside) (c : CutterState) (a : Audit) (n : ℕ) (taken : List ℕ) (done : List (List ℕ)) (made : List Collection) : Type 0 where
@@ -32,8 +32,8 @@ pub record Progress (start now : Outside) (c : CutterState) (a : Audit) (n : ℕ
   pub split : taken ≡ concat done ++ c.pending
   pub cut : (more : List ℕ) → (IsTrue c.at_end → more ≡ []) → pieces (taken ++ more) ≡ done ++ pieces (c.pending ++ more)
   pub whole : c.at_end ≡ false → AllByRecursion IsWholeLine done
-  pub ran : LeadsTo pathless first_state (known_from done) made (state_at a n)
-  pub rules : a.rules ≡ pathless
+  pub ran : LeadsTo usual_rules first_state (items_so_far done) made (state_at a n)
+  pub rules : a.rules ≡ usual_rules
   pub given : c.given ≡ length (concat done)
   pub within : c.given ≤ LONGEST_TRACE
   pub lines : n ≡ c.lines
@@ -52,7 +52,7 @@ pub record InProgress (start now : Outside) (c : CutterState) (a : Audit) (n : �
   pub so_far : Progress start now c a n taken done made
 
 -- at the beginning
-pub begins : (start : Outside) → InProgress start start (fresh_cutter LONGEST_TRACE) (first_audit pathless) 0
+pub begins : (start : Outside) → InProgress start start (fresh_cutter LONGEST_TRACE) (first_audit usual_rules) 0
 unfolding items_from
 begins start = record {
   taken = [];
@@ -63,7 +63,7 @@ begins start = record {
     split = refl;
     cut = λ more end. refl;
     whole = λ end. tt;
-    ran = LeadsTo-nil pathless first_state;
+    ran = LeadsTo-nil usual_rules first_state;
     rules = refl;
     given = refl;
     within = omega arith;
@@ -78,9 +78,9 @@ begins start = record {
   };
 }
 
-pub begins_at : (start : Outside) (c : CutterState) (a : Audit) → c ≡ fresh_cutter LONGEST_TRACE → a ≡ first_audit pathless → InProgress start start c a 0
+pub begins_at : (start : Outside) (c : CutterState) (a : Audit) → c ≡ fresh_cutter LONGEST_TRACE → a ≡ first_audit usual_rules → InProgress start start c a 0
 begins_at start c a e f =
-    subst (λ (x : Audit). InProgress start start c x 0) (sym f) (subst (λ (x : CutterState). InProgress start start x (first_audit pathless) 0) (sym e) (begins start))
+    subst (λ (x : Audit). InProgress start start c x 0) (sym f) (subst (λ (x : CutterState). InProgress start start x (first_audit usual_rules) 0) (sym e) (begins start))
 
 -- no more collections were made than lines were read
 pub few_collections : (start now : Outside) (c : CutterState) (a : Audit) (n : ℕ) → InProgress start now c a n → a.collections ≤ n
@@ -124,21 +124,17 @@ whole_piece line piece bytes rest at_end next e =
     ⊎_elim (λ p. (line, next.one_line, p)) (λ p. absurd (false≢true (sym e ∙ p.3))) next.ended
 
 -- the items of one piece more
-known_from-push : (done : List (List ℕ)) (given : ℕ) (line piece : List ℕ) → given ≡ length (concat done) → item_of LONGEST_TRACE given piece ≡ item_of_line line → known_from (done ++ piece ∷ []) ≡ known_from done ++ known (item_of_line line) ∷ []
+items_so_far-push : (done : List (List ℕ)) (given : ℕ) (line piece : List ℕ) → given ≡ length (concat done) → item_of LONGEST_TRACE given piece ≡ item_of_line line → items_so_far (done ++ piece ∷ []) ≡ items_so_far done ++ item_of_line line ∷ []
 unfolding items_from
-known_from-push done given line piece count item =
-    ap (map known) split ∙ map-append known (items_from LONGEST_TRACE 0 done) (item_of_line line ∷ [])
-  where
-    split : items_from LONGEST_TRACE 0 (done ++ piece ∷ []) ≡ items_from LONGEST_TRACE 0 done ++ item_of_line line ∷ []
-    split =
-        items_from-append LONGEST_TRACE 0 done (piece ∷ [])
-        ∙ ap (λ b. items_from LONGEST_TRACE 0 done ++ items_from LONGEST_TRACE b (piece ∷ [])) (omega (arith, count))
-        ∙ ap (λ is. items_from LONGEST_TRACE 0 done ++ is) (items_from-cons LONGEST_TRACE given piece [] ∙ ap (λ i. i ∷ items_from LONGEST_TRACE (given + length piece) []) item)
+items_so_far-push done given line piece count item =
+    items_from-append LONGEST_TRACE 0 done (piece ∷ [])
+    ∙ ap (λ b. items_from LONGEST_TRACE 0 done ++ items_from LONGEST_TRACE b (piece ∷ [])) (omega (arith, count))
+    ∙ ap (λ is. items_from LONGEST_TRACE 0 done ++ is) (items_from-cons LONGEST_TRACE given piece [] ∙ ap (λ i. i ∷ items_from LONGEST_TRACE (given + length piece) []) item)
 
 -- the run of one item more
-ran_on : (a a' : Audit) (n : ℕ) (items : List Item) (item : Item) (made more : List Collection) (sink sink' : Stream) → LeadsTo pathless first_state items made (state_at a n) → a.rules ≡ pathless → IsTaken (line_of a n item) a' sink sink' more → LeadsTo pathless first_state (items ++ item ∷ []) (made ++ more) (state_at a' (n + 1))
+ran_on : (a a' : Audit) (n : ℕ) (items : List Item) (item : Item) (made more : List Collection) (sink sink' : Stream) → LeadsTo usual_rules first_state items made (state_at a n) → a.rules ≡ usual_rules → IsTaken (line_of a n item) a' sink sink' more → LeadsTo usual_rules first_state (items ++ item ∷ []) (made ++ more) (state_at a' (n + 1))
 ran_on a a' n items item made more sink sink' ran rules taken =
-    LeadsTo-push pathless first_state (state_at a n) items made item _ ran (subst (λ r. turn_of_item r (state_at a n) item ≡ Ok (record { collections = more; state = state_at a' (n + 1) })) rules taken.turn)
+    LeadsTo-push usual_rules first_state (state_at a n) items made item _ ran (subst (λ r. turn_of_item r (state_at a n) item ≡ Ok (record { collections = more; state = state_at a' (n + 1) })) rules taken.turn)
 
 -- where the end was read, it stays read while nothing is taken
 end_stays : (start before after : Option (List ℕ)) (taken took : List ℕ) → Consumes start before taken → IfSome start (λ bytes. IsAtEnd before) → took ≡ [] → Consumes before after took → IfSome start (λ bytes. IsAtEnd after)
@@ -166,7 +162,7 @@ piece_not_empty line piece bytes rest at_end next =
 line_taken_by : (start now now' : Outside) (c c' : CutterState) (a a' : Audit) (n number : ℕ) (took piece : List ℕ) (more : List Collection) →
     InProgress start now c a n → StepsOn c c' now.source.bytes now'.source.bytes now.source.faults now'.source.faults (Ok (Some number)) took →
     GivesLine c c' (c.pending ++ took) piece number →
-    IsTaken (line_of a n (known (item_of_line c'.line))) a' now.sink now'.sink more → now.sink.faults ≤ now'.sink.faults →
+    IsTaken (line_of a n (item_of_line c'.line)) a' now.sink now'.sink more → now.sink.faults ≤ now'.sink.faults →
     InProgress start now' c' a' number
 line_taken_by start now now' c c' a a' n number took piece more progress steps line is_taken writes =
     let p = progress.so_far in
@@ -174,8 +170,8 @@ line_taken_by start now now' c c' a a' n number took piece more progress steps l
     let concat_now = concat-push progress.done piece in
     let next_number : n + 1 ≡ number = omega (arith, line.number, p.lines) in
     let some : 0 < length piece = piece_not_empty _ _ _ _ _ line.next in
-    let items_now = known_from-push progress.done c.given c'.line piece p.given item in
-    let ran_now : LeadsTo pathless first_state (known_from progress.done ++ known (item_of_line c'.line) ∷ []) (progress.made ++ more) (state_at a' (n + 1)) = ran_on a a' n (known_from progress.done) (known (item_of_line c'.line)) progress.made more now.sink now'.sink p.ran p.rules is_taken in
+    let items_now = items_so_far-push progress.done c.given c'.line piece p.given item in
+    let ran_now : LeadsTo usual_rules first_state (items_so_far progress.done ++ item_of_line c'.line ∷ []) (progress.made ++ more) (state_at a' (n + 1)) = ran_on a a' n (items_so_far progress.done) (item_of_line c'.line) progress.made more now.sink now'.sink p.ran p.rules is_taken in
     record {
       taken = progress.taken ++ took;
       done = progress.done ++ piece ∷ [];
@@ -185,8 +181,8 @@ line_taken_by start now now' c c' a a' n number took piece more progress steps l
         split = ap (λ t. t ++ took) p.split ∙ append_assoc (concat progress.done) c.pending took ∙ ap (λ t. concat progress.done ++ t) line.next.split ∙ sym (append_assoc (concat progress.done) piece c'.pending) ∙ ap (λ t. t ++ c'.pending) (sym concat_now);
         cut = cut_on c c' progress.taken took piece number progress.done p.cut steps.stays_at_end line;
         whole = λ e. whole-push progress.done piece (p.whole (still_at_end c.at_end c'.at_end took (Unit {0}) steps.stays_at_end e)) (whole_piece _ _ _ _ _ line.next e);
-        ran = subst (λ (m : ℕ). LeadsTo pathless first_state (known_from (progress.done ++ piece ∷ [])) (progress.made ++ more) (state_at a' m)) next_number
-            (subst (λ (is : List Item). LeadsTo pathless first_state is (progress.made ++ more) (state_at a' (n + 1))) (sym items_now) ran_now);
+        ran = subst (λ (m : ℕ). LeadsTo usual_rules first_state (items_so_far (progress.done ++ piece ∷ [])) (progress.made ++ more) (state_at a' m)) next_number
+            (subst (λ (is : List Item). LeadsTo usual_rules first_state is (progress.made ++ more) (state_at a' (n + 1))) (sym items_now) ran_now);
         rules = is_taken.rules ∙ p.rules;
         given = omega (arith, line.given, p.given, ap length concat_now, length-append (concat progress.done) piece);
         within = omega (arith, line.within, p.limit);
@@ -204,11 +200,11 @@ line_taken_by start now now' c c' a a' n number took piece more progress steps l
 -- a line was given and taken, and the run goes on
 pub line_taken : (start now now' : Outside) (c c' : CutterState) (a a' : Audit) (n number : ℕ) (took text : List ℕ) (more : List Collection) →
     InProgress start now c a n → StepsOn c c' now.source.bytes now'.source.bytes now.source.faults now'.source.faults (Ok (Some number)) took → text ≡ c'.line →
-    IsTaken (line_of a n (known (item_of_line text))) a' now.sink now'.sink more → now.sink.faults ≤ now'.sink.faults →
+    IsTaken (line_of a n (item_of_line text)) a' now.sink now'.sink more → now.sink.faults ≤ now'.sink.faults →
     InProgress start now' c' a' number
 line_taken start now now' c c' a a' n number took text more progress steps e is_taken writes =
     let cut : Cuts c c' (c.pending ++ took) now.source.faults now'.source.faults (Ok (Some number)) = cuts_of c.stopped _ _ progress.so_far.stopped steps.cuts in
-    line_taken_by start now now' c c' a a' n number took cut.0 more progress steps cut.1 (subst (λ (t : List ℕ). IsTaken (line_of a n (known (item_of_line t))) a' now.sink now'.sink more) e is_taken) writes
+    line_taken_by start now now' c c' a a' n number took cut.0 more progress steps cut.1 (subst (λ (t : List ℕ). IsTaken (line_of a n (item_of_line t)) a' now.sink now'.sink more) e is_taken) writes
 
 -- each line that is given leaves fewer bytes of the limit
 pub line_leaves_fewer : (start now : Outside) (left : Option (List ℕ)) (faults : ℕ) (c c' : CutterState) (a : Audit) (n number : ℕ) (took : List ℕ) →

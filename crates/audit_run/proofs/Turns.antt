@@ -1,8 +1,7 @@
 -- What one item does to the run of a trace.
-use Rattle.std.proofs.Common.{◌≡◌, ℕ, ◌+◌, List, [], ◌∷◌, ◌++◌, Bool, true, false, IsTrue, Option, Some, Result, Ok, Err, refl, sym, ◌∙◌, ap, subst, arith}
+use Rattle.std.proofs.Common.{◌≡◌, ◌≢◌, ℕ, ◌+◌, List, [], ◌∷◌, ◌++◌, Bool, true, false, IsTrue, Option, Some, Result, Ok, Err, refl, sym, ◌∙◌, ap, subst, arith}
 use Rattle.std.specs.Result.{result_err}
 use Rattle.std.specs.Io.KnownBytes.{Appends}
-use Rattle.std.proofs.lemmas.Bool.{false≢true}
 use Rattle.std.proofs.KnownBytes.{Appends-nil}
 use Rattle.std.proofs.lemmas.List.{length-append, take-append-le}
 use Rattle.heap_base.specs.Sinks.{AppendsPart}
@@ -11,21 +10,14 @@ use Rattle.heap_base.specs.declared.status.Status.{Status}
 use Rattle.graph_meaning.specs.declared.event.Event.{Event}
 use Rattle.graph_meaning.specs.declared.event.Event.TheVariants.{Alloc, Store, Root, AssertDead, StartRegion, AssertAllDead, AssertInstances, AssertUnshared, AssertOwnedBy, SetWeak, Collect}
 use Rattle.graph_meaning.specs.declared.refusal.Refusal.{Refusal}
-use Rattle.graph_meaning.specs.declared.refusal.Refusal.TheVariants.{UnknownOp}
 use Rattle.graph_meaning.specs.Step.{step}
 use Rattle.trace_reader.specs.Meaning.{Item, blank, event, refused}
 use Rattle.report.specs.Text.{collection_text}
 use Rattle.report.specs.Report.{Totals, Turn, Ending, turn_of_item, run, refused_line, empty_run, report_text}
 use Rattle.report.proofs.Runs.{with_collections-nil, with_collections-one, collections_text-one, report_text-one, report_text-empty_run, run_status-empty_run, run-ends, run-goes_on, turn-applied, turn-refused, turn-collect, turn_of_item-blank}
-use Rattle.audit_core.specs.Audit.{Audit, is_applied, next_collection, after_next}
+use Rattle.audit_core.specs.Audit.{Audit, is_operation, next_collection, after_next}
 use Rattle.audit_run.specs.declared.turn.Flow.{Flow}
-use Rattle.audit_run.specs.Known.{is_collect, known}
 use Rattle.audit_run.specs.Turn.{Due, due, due_at, EndsRun, totals_of, state_at, line_of, IsTaken, TakesLine}
-
--- ---- an operation that is applied is no collection
-
-pub applied-other : (e : Event) → IsTrue (is_applied e) → e ≡ Collect → ⊥
-applied-other e t is = false≢true (sym (ap is_applied is) ∙ t)
 
 pub from_result_err : {T : Type 0} (made : Result T Refusal) (r : Refusal) → result_err made ≡ Some r → made ≡ Err r
 from_result_err (Ok x) r p = cc
@@ -34,26 +26,26 @@ from_result_err (Err s) r p = cc
 -- ---- the run goes on
 
 -- the auditor and the sink are as before, after a line with no operation
-pub IsTaken-blank : (a : Audit) (lines : ℕ) (item : Item) (sink : Stream) → item ≡ blank → IsTaken (line_of a lines (known item)) a sink sink []
+pub IsTaken-blank : (a : Audit) (lines : ℕ) (item : Item) (sink : Stream) → item ≡ blank → IsTaken (line_of a lines item) a sink sink []
 IsTaken-blank a lines item sink p = record {
-  turn = ap (λ i. turn_of_item a.rules (state_at a lines) (known i)) p ∙ turn_of_item-blank a.rules (state_at a lines);
+  turn = ap (turn_of_item a.rules (state_at a lines)) p ∙ turn_of_item-blank a.rules (state_at a lines);
   rules = refl;
   text = Appends-nil sink.bytes;
 }
 
 -- after an operation that was applied
-pub IsTaken-applied : (old new : Audit) (e : Event) (lines : ℕ) (sink : Stream) → IsTrue (is_applied e) → step old.heap e ≡ Ok new.heap → new ≡ record old { heap = new.heap } → IsTaken (line_of old lines (event e)) new sink sink []
-IsTaken-applied old new e lines sink t p rest =
+pub IsTaken-applied : (old new : Audit) (e : Event) (lines : ℕ) (sink : Stream) → e ≢ Collect → step old.heap e ≡ Ok new.heap → new ≡ record old { heap = new.heap; cells = new.cells } → IsTaken (line_of old lines (event e)) new sink sink []
+IsTaken-applied old new e lines sink other p rest =
     let totals : Totals → Result Turn Refusal = λ ts. Ok (record { collections = []; state = record { heap = new.heap; totals = ts; lines = lines + 1 } }) in
     record {
-      turn = turn-applied old.rules (state_at old lines) e new.heap (applied-other e t) p
+      turn = turn-applied old.rules (state_at old lines) e new.heap other p
           ∙ ap totals (with_collections-nil (totals_of old) ∙ sym (ap totals_of rest));
       rules = ap (λ (a : Audit). a.rules) rest;
       text = Appends-nil sink.bytes;
     }
 
 -- after a collection whose text was written
-pub IsTaken-collect : (old new : Audit) (lines : ℕ) (sink sink' : Stream) → new ≡ after_next old → Appends sink.bytes sink'.bytes (collection_text (next_collection old)) → IsTaken (line_of old lines (event Collect)) new sink sink' (next_collection old ∷ [])
+pub IsTaken-collect : (old new : Audit) (lines : ℕ) (sink sink' : Stream) → new ≡ record (after_next old) { cells = new.cells } → Appends sink.bytes sink'.bytes (collection_text (next_collection old)) → IsTaken (line_of old lines (event Collect)) new sink sink' (next_collection old ∷ [])
 unfolding after_next
 IsTaken-collect old new lines sink sink' p text =
     let made = next_collection old in
@@ -98,11 +90,11 @@ ends-refused_item a lines item r sink sink' status p =
     ends-refused a lines item r sink sink' status (ap (turn_of_item a.rules (state_at a lines)) p)
 
 -- an operation that is refused
-pub ends-not_applied : (a : Audit) (lines : ℕ) (e : Event) (r : Refusal) (sink sink' : Stream) (status : Status) → IsTrue (is_applied e) → step a.heap e ≡ Err r →
+pub ends-not_applied : (a : Audit) (lines : ℕ) (e : Event) (r : Refusal) (sink sink' : Stream) (status : Status) → e ≢ Collect → step a.heap e ≡ Err r →
     ((before : Totals) → EndsRun false sink sink' (due_at before (refused_line (lines + 1) r)) status) →
     (more : List Item) → EndsRun false sink sink' (due (totals_of a) (run a.rules (state_at a lines) (event e ∷ more))) status
-ends-not_applied a lines e r sink sink' status t p =
-    ends-refused a lines (event e) r sink sink' status (turn-refused a.rules (state_at a lines) e r (applied-other e t) p)
+ends-not_applied a lines e r sink sink' status other p =
+    ends-refused a lines (event e) r sink sink' status (turn-refused a.rules (state_at a lines) e r other p)
 
 -- a part of a text is a part of a text that goes on
 AppendsPart-longer : (old new : Option (List ℕ)) (front rest : List ℕ) → AppendsPart old new front → AppendsPart old new (front ++ rest)
@@ -119,29 +111,23 @@ part-collect a lines sink sink' text is part more =
     (sym (ap (report_text (totals_of a)) goes_on ∙ report_text-one (totals_of a) c _))
     (AppendsPart-longer sink.bytes sink'.bytes (collection_text c) _ (subst (λ (t : List ℕ). AppendsPart sink.bytes sink'.bytes t) is part))
 
--- ---- which operations are known
+-- ---- operations
 
-pub known-applied : (e : Event) → is_applied e ≡ true → known (event e) ≡ event e
-known-applied e p = rw p refl
+-- what is no collection is an operation
+pub is_operation-other : (e : Event) → e ≢ Collect → IsTrue (is_operation e)
+is_operation-other (Alloc id kind slots thread) n = refl
+is_operation-other (Store at slot to) n = refl
+is_operation-other (Root name to) n = refl
+is_operation-other (AssertDead id) n = refl
+is_operation-other (StartRegion thread) n = refl
+is_operation-other (AssertAllDead thread) n = refl
+is_operation-other (AssertInstances kind limit) n = refl
+is_operation-other (AssertUnshared id) n = refl
+is_operation-other (AssertOwnedBy owner ownee) n = refl
+is_operation-other (SetWeak at slot weak) n = refl
+is_operation-other Collect n = absurd (n refl)
 
-pub known-collect : (e : Event) → e ≡ Collect → known (event e) ≡ event Collect
-known-collect e p = ap (λ x. known (event x)) p
-
-is_collect-other : (e : Event) → (e ≡ Collect → ⊥) → is_collect e ≡ false
-is_collect-other (Alloc id kind slots thread) n = refl
-is_collect-other (Store at slot to) n = refl
-is_collect-other (Root name to) n = refl
-is_collect-other (AssertDead id) n = refl
-is_collect-other (StartRegion thread) n = refl
-is_collect-other (AssertAllDead thread) n = refl
-is_collect-other (AssertInstances kind limit) n = refl
-is_collect-other (AssertUnshared id) n = refl
-is_collect-other (AssertOwnedBy owner ownee) n = refl
-is_collect-other (SetWeak at slot weak) n = refl
-is_collect-other Collect n = absurd (n refl)
-
-pub known-other : (e : Event) → is_applied e ≡ false → (e ≡ Collect → ⊥) → known (event e) ≡ refused UnknownOp
-known-other e p n = rw (p, is_collect-other e n) refl
+-- ---- equal items and texts
 
 -- a line is taken as one with an equal item is
 pub TakesLine-at : (a after : Audit) (lines : ℕ) (item item' : Item) (sink sink' : Stream) (flow : Flow) → item' ≡ item → TakesLine (line_of a lines item) after sink sink' flow → TakesLine (line_of a lines item') after sink sink' flow

@@ -7,14 +7,14 @@ use Rattle.heap_base.specs.declared.status.Status.{Status}
 use Rattle.heap_base.specs.declared.status.Status.TheVariants.{Clean, Violated, TraceFault, ReadFault, WriteFault, NoMemory, Usage}
 use Rattle.graph_meaning.specs.Collecting.{Rules}
 use Rattle.report.specs.Report.{report_of, status_of}
-use Rattle.audit_run.specs.Known.{known_items}
+use Rattle.report.specs.Traces.{trace_items}
 use Rattle.audit_run.specs.Outcome.{Outside, IsCutShort, Ended}
 
 -- The source is at its end, exactly the report on the bytes was appended, and the status is theirs.
 pub record IsWhole (rules : Rules) (old new : Outside) (answer : Status) (bytes : List ℕ) : Type 0 where
   pub at_end : IsAtEnd new.source.bytes
-  pub report : Appends old.sink.bytes new.sink.bytes (report_of rules (known_items bytes))
-  pub status : answer ≡ status_of rules (known_items bytes)
+  pub report : Appends old.sink.bytes new.sink.bytes (report_of rules (trace_items bytes))
+  pub status : answer ≡ status_of rules (trace_items bytes)
 
 -- What the status says: the trace was read to its end and the report is whole; a line is refused, and exactly the report
 -- was appended; a refused line is never hidden; a failed read or write has its cause; what was appended is a beginning of
@@ -22,14 +22,14 @@ pub record IsWhole (rules : Rules) (old new : Outside) (answer : Status) (bytes 
 -- the run from its end.
 pub record HasFacts (rules : Rules) (old new : Outside) (answer : Status) (bytes : List ℕ) : Type 0 where
   pub whole : (answer ≡ Clean) ⊎ (answer ≡ Violated) → IsWhole rules old new answer bytes
-  pub trace_fault : answer ≡ TraceFault → status_of rules (known_items bytes) ≡ TraceFault
-  pub fault_report : answer ≡ TraceFault → Appends old.sink.bytes new.sink.bytes (report_of rules (known_items bytes))
-  pub hides_no_refusal : status_of rules (known_items bytes) ≡ TraceFault → (answer ≢ Clean) × (answer ≢ Violated)
+  pub trace_fault : answer ≡ TraceFault → status_of rules (trace_items bytes) ≡ TraceFault
+  pub fault_report : answer ≡ TraceFault → Appends old.sink.bytes new.sink.bytes (report_of rules (trace_items bytes))
+  pub hides_no_refusal : status_of rules (trace_items bytes) ≡ TraceFault → (answer ≢ Clean) × (answer ≢ Violated)
   pub read_fault : answer ≡ ReadFault → Rose old.source.faults new.source.faults × IsCutShort rules old new
   pub write_fault : answer ≡ WriteFault → Rose old.sink.faults new.sink.faults
-  pub part : (answer ≡ WriteFault) ⊎ (answer ≡ NoMemory) → AppendsPart old.sink.bytes new.sink.bytes (report_of rules (known_items bytes))
+  pub part : (answer ≡ WriteFault) ⊎ (answer ≡ NoMemory) → AppendsPart old.sink.bytes new.sink.bytes (report_of rules (trace_items bytes))
   pub taken : answer ≢ Usage
-  pub complete : status_of rules (known_items bytes) ≢ TraceFault → ¬ Rose old.source.faults new.source.faults → ¬ Rose old.sink.faults new.sink.faults →
+  pub complete : status_of rules (trace_items bytes) ≢ TraceFault → ¬ Rose old.source.faults new.source.faults → ¬ Rose old.sink.faults new.sink.faults →
       (answer ≡ Clean) ⊎ (answer ≡ Violated) ⊎ (answer ≡ NoMemory)
 
 -- Each of these follows, whatever the status.

@@ -1,4 +1,4 @@
 pub mod Facts
-pub mod Known
 pub mod Outcome
 pub mod Turn
+pub mod Words

@@ -9,8 +9,7 @@ use Rattle.heap_base.specs.declared.status.Status.{Status}
 use Rattle.heap_base.specs.declared.status.Status.TheVariants.{Clean, Violated, TraceFault, ReadFault, WriteFault, NoMemory, Usage}
 use Rattle.graph_meaning.specs.Collecting.{Rules}
 use Rattle.report.specs.Report.{end_of_trace, report_of, status_of, part_of, ending_of}
-use Rattle.report.specs.Traces.{whole_lines}
-use Rattle.audit_run.specs.Known.{known_items}
+use Rattle.report.specs.Traces.{trace_items, whole_lines}
 
 -- What can be seen of the source and of the sink at a moment.
 pub record Outside : Type 0 where
@@ -33,15 +32,15 @@ pub record ReadsToEnd (rules : Rules) (old new : Outside) (answer : Status) : Ty
   pub bytes : List ℕ
   pub trace : IsTrace old bytes
   pub read : Consumes old.source.bytes new.source.bytes bytes
-  pub report : Appends old.sink.bytes new.sink.bytes (report_of rules (known_items bytes))
-  pub status : answer ≡ status_of rules (known_items bytes)
+  pub report : Appends old.sink.bytes new.sink.bytes (report_of rules (trace_items bytes))
+  pub status : answer ≡ status_of rules (trace_items bytes)
 
 -- A line of the trace is refused, and the whole report, whose last line says so, was appended.
 pub record RefusesLine (rules : Rules) (old new : Outside) : Type 0 where
   pub bytes : List ℕ
   pub trace : IsTrace old bytes
-  pub refused : status_of rules (known_items bytes) ≡ TraceFault
-  pub report : Appends old.sink.bytes new.sink.bytes (report_of rules (known_items bytes))
+  pub refused : status_of rules (trace_items bytes) ≡ TraceFault
+  pub report : Appends old.sink.bytes new.sink.bytes (report_of rules (trace_items bytes))
 
 -- A read failed after these bytes of the trace: no whole line of them is refused, at most as many bytes as a line may
 -- have stand behind the last whole line, they are within the limit of a trace, and the text of their collections was
@@ -49,16 +48,16 @@ pub record RefusesLine (rules : Rules) (old new : Outside) : Type 0 where
 pub record IsCutShort (rules : Rules) (old new : Outside) : Type 0 where
   pub bytes : List ℕ
   pub read : Consumes old.source.bytes new.source.bytes bytes
-  pub none_refused : ending_of rules (known_items (whole_lines bytes)) ≡ end_of_trace
+  pub none_refused : ending_of rules (trace_items (whole_lines bytes)) ≡ end_of_trace
   pub tail : length bytes ≤ length (whole_lines bytes) + LONGEST_LINE
   pub within : length bytes ≤ LONGEST_TRACE
-  pub part : Appends old.sink.bytes new.sink.bytes (part_of rules (known_items (whole_lines bytes)))
+  pub part : Appends old.sink.bytes new.sink.bytes (part_of rules (trace_items (whole_lines bytes)))
 
 -- A beginning of the report was appended.
 pub record AppendsPartOfReport (rules : Rules) (old new : Outside) : Type 0 where
   pub bytes : List ℕ
   pub trace : IsTrace old bytes
-  pub part : AppendsPart old.sink.bytes new.sink.bytes (report_of rules (known_items bytes))
+  pub part : AppendsPart old.sink.bytes new.sink.bytes (report_of rules (trace_items bytes))
 
 -- What stands after a run, by its status. A failure is answered only where the count of faults of the object that it
 -- speaks of rose in the call.

@@ -2,8 +2,15 @@
 #![tactic(auto)]
 
 mod ending;
+#[cfg(test)]
+mod gate_tests;
+#[cfg(test)]
+mod heap_tests;
+mod host;
 mod laws;
 mod run;
+#[cfg(test)]
+mod short_form;
 #[cfg(test)]
 mod tests;
 mod top_call;

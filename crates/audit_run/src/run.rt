@@ -1,27 +1,35 @@
-ghost use Rattle.std.specs.Prelude.{ℕ};
+ghost use Rattle.std.specs.Prelude.{ℕ, ◌<◌, ◌≤◌};
 ghost use Rattle.heap_base.specs.Streams.{stream_of};
-ghost use Rattle.audit_core.specs.Audit.{pathless};
+ghost use Rattle.heap_base.specs.declared.limits.TheConstants.{MOST_WORKERS};
 ghost use Rattle.audit_run.specs.Outcome.{Ended, seen};
+ghost use Rattle.audit_run.specs.Words.{usual_rules};
 
 use crate::ending::{finish, refuse};
+use crate::host::Host;
 use crate::turn::{Flow, take_line};
 use audit_core::Auditor;
 use graph_meaning::Refusal;
-use heap_base::{LONGEST_TRACE, Sink, Source, Status};
-use std::alloc::Global;
+use heap_base::{Gate, LONGEST_TRACE, Sink, Source, Status, USUAL_PATHS};
+use std::thread::Threads;
 use trace_reader::{CutError, LineCutter, LineReader};
 
 /// Reads the trace line by line to its end or to the first line that is refused. The text of each collection
 /// is written before the next line is cut.
-pub fn run<S: Source, K: Sink>(alloc: Global, source: &mut S, sink: &mut K) -> Status
+pub fn run<S: Source, K: Sink, G: Gate, R: Threads + Sync>(
+    host: &Host<'_, R, G>,
+    source: &mut S,
+    sink: &mut K,
+) -> Status
+    requires workers { (0 < host.now.workers) × (host.now.workers ≤ MOST_WORKERS) }
     ensures { let old = seen (stream_of S.left S.faults source.old) (stream_of K.held K.faults sink.old) in
         let new = seen (stream_of S.left S.faults source.new) (stream_of K.held K.faults sink.new) in
-        Ended pathless old new result }
+        Ended usual_rules old new result }
 {
+    let alloc = host.alloc;
     let Ok(mut cutter) = LineCutter::make(alloc, LONGEST_TRACE) else {
         return Status::NoMemory;
     };
-    let Ok(mut auditor) = Auditor::make(alloc) else {
+    let Ok(mut auditor) = Auditor::make(alloc, host.workers, USUAL_PATHS) else {
         return Status::NoMemory;
     };
     let mut reader = LineReader::make(alloc);
@@ -29,7 +37,7 @@ pub fn run<S: Source, K: Sink>(alloc: Global, source: &mut S, sink: &mut K) -> S
     'trace: loop {
         match cutter.next(source) {
             Ok(Some(number)) => match take_line(
-                alloc,
+                host,
                 &mut reader,
                 &mut auditor,
                 cutter.line(),

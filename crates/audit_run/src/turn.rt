@@ -1,17 +1,17 @@
-ghost use Rattle.std.specs.Prelude.{◌≡◌, ◌<◌, ◌≤◌, ◌^◌, ℕ, IsTrue};
+ghost use Rattle.std.specs.Prelude.{◌≢◌, ◌<◌, ◌≤◌, ◌^◌, ℕ};
 ghost use Rattle.heap_base.specs.Streams.{stream_of};
 ghost use Rattle.graph_meaning.specs.declared.event.Event.TheVariants.{Collect};
 ghost use Rattle.trace_reader.specs.Meaning.{item_of_line, event as event_item};
-ghost use Rattle.audit_core.specs.Audit.{is_applied};
-ghost use Rattle.audit_run.specs.Known.{known};
 ghost use Rattle.audit_run.specs.Turn.{TakesLine, line_of};
 
 use crate::ending::refuse;
+use crate::host::Host;
 use audit_core::Auditor;
-use graph_meaning::{Event, Refusal, Stop};
-use heap_base::{Sink, Status, put_all};
+use graph_meaning::{Event, Stop};
+use heap_base::{Gate, Sink, Status, put_all};
 use report::collection_text;
 use std::alloc::Global;
+use std::thread::Threads;
 use trace_reader::LineReader;
 
 /// Whether a run goes on after a line, or how it ends.
@@ -22,8 +22,8 @@ pub enum Flow {
 }
 
 /// Takes one line of the trace, which this many lines stand before.
-pub fn take_line<K: Sink>(
-    alloc: Global,
+pub fn take_line<K: Sink, G: Gate, R: Threads + Sync>(
+    host: &Host<'_, R, G>,
     reader: &mut LineReader,
     auditor: &mut Auditor,
     line: &[u8],
@@ -32,19 +32,19 @@ pub fn take_line<K: Sink>(
 ) -> Flow
     requires few_lines { lines < 2 ^ 40 }
     requires few_collections { auditor.old.collections ≤ lines }
-    ensures takes { TakesLine (line_of auditor.old lines (known (item_of_line line.now))) auditor.new (stream_of K.held K.faults sink.old) (stream_of K.held K.faults sink.new) result }
+    ensures takes { TakesLine (line_of auditor.old lines (item_of_line line.now)) auditor.new (stream_of K.held K.faults sink.old) (stream_of K.held K.faults sink.new) result }
     ensures later { K.faults sink.old ≤ K.faults sink.new }
 {
     match reader.event_of(line) {
         Ok(None) => Flow::GoesOn,
-        Ok(Some(event)) => take_event(alloc, auditor, &event, lines, sink),
-        Err(Stop::Refused(refusal)) => Flow::Ends(refuse(alloc, lines + 1, refusal, sink)),
+        Ok(Some(event)) => take_event(host, auditor, &event, lines, sink),
+        Err(Stop::Refused(refusal)) => Flow::Ends(refuse(host.alloc, lines + 1, refusal, sink)),
         Err(Stop::OutOfMemory) => Flow::Ends(Status::NoMemory),
     }
 }
 
-fn take_event<K: Sink>(
-    alloc: Global,
+fn take_event<K: Sink, G: Gate, R: Threads + Sync>(
+    host: &Host<'_, R, G>,
     auditor: &mut Auditor,
     event: &Event,
     lines: u64,
@@ -52,15 +52,12 @@ fn take_event<K: Sink>(
 ) -> Flow
     requires few_lines { lines < 2 ^ 40 }
     requires few_collections { auditor.old.collections ≤ lines }
-    ensures takes { TakesLine (line_of auditor.old lines (known (event_item event.now))) auditor.new (stream_of K.held K.faults sink.old) (stream_of K.held K.faults sink.new) result }
+    ensures takes { TakesLine (line_of auditor.old lines (event_item event.now)) auditor.new (stream_of K.held K.faults sink.old) (stream_of K.held K.faults sink.new) result }
     ensures later { K.faults sink.old ≤ K.faults sink.new }
 {
-    if let Event::Collect = event {
-        collect(alloc, auditor, sink)
-    } else if is_applied(event) {
-        apply(alloc, auditor, event, lines, sink)
-    } else {
-        Flow::Ends(refuse(alloc, lines + 1, Refusal::UnknownOp, sink))
+    match event {
+        Event::Collect => collect(host, auditor, sink),
+        _ => apply(host.alloc, auditor, event, lines, sink),
     }
 }
 
@@ -72,7 +69,7 @@ fn apply<K: Sink>(
     sink: &mut K,
 ) -> Flow
     requires few_lines { lines < 2 ^ 40 }
-    requires applied { IsTrue (is_applied event.now) }
+    requires operation { event.now ≢ Collect }
     ensures takes { TakesLine (line_of auditor.old lines (event_item event.now)) auditor.new (stream_of K.held K.faults sink.old) (stream_of K.held K.faults sink.new) result }
     ensures later { K.faults sink.old ≤ K.faults sink.new }
 {
@@ -84,33 +81,23 @@ fn apply<K: Sink>(
 }
 
 /// Makes a collection, and writes its text at once.
-fn collect<K: Sink>(alloc: Global, auditor: &mut Auditor, sink: &mut K) -> Flow
+fn collect<K: Sink, G: Gate, R: Threads + Sync>(
+    host: &Host<'_, R, G>,
+    auditor: &mut Auditor,
+    sink: &mut K,
+) -> Flow
     requires { auditor.old.collections < 2 ^ 40 }
     ensures takes { (lines : ℕ) → TakesLine (line_of auditor.old lines (event_item Collect)) auditor.new (stream_of K.held K.faults sink.old) (stream_of K.held K.faults sink.new) result }
     ensures later { K.faults sink.old ≤ K.faults sink.new }
 {
-    let Ok(collection) = auditor.collect() else {
+    let Ok(collection) = auditor.collect(host.rt, host.gate) else {
         return Flow::Ends(Status::NoMemory);
     };
-    let Ok(text) = collection_text(alloc, &collection) else {
+    let Ok(text) = collection_text(host.alloc, &collection) else {
         return Flow::Ends(Status::NoMemory);
     };
     match put_all(sink, &text) {
         Ok(()) => Flow::GoesOn,
         Err(_) => Flow::Ends(Status::WriteFault),
     }
-}
-
-/// Whether an auditor applies the operation. The others are refused as unknown, but for a collection.
-fn is_applied(event: &Event) -> bool
-    ensures { result ≡ is_applied event.now }
-{
-    matches!(
-        event,
-        Event::Alloc { .. }
-            | Event::Store { .. }
-            | Event::SetWeak { .. }
-            | Event::Root { .. }
-            | Event::AssertDead { .. }
-    )
 }

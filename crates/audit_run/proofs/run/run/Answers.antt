@@ -4,7 +4,7 @@ use Rattle.audit_run.proofs.Endings.{finished, line_too_long, trace_too_long, li
 use Rattle.audit_run.proofs.run.run.Goals as goal
 
 pub trace-init : goal.trace-init
-trace-init g c = begins_at _ _ _ c.in-Ok.ensures c.in-Ok-make.ensures
+trace-init g c = begins_at _ _ _ c.in-Ok.ensures c.in-Ok-make.ensures.first
 
 pub returns-in-Ends : goal.returns-in-Ends
 returns-in-Ends g c =

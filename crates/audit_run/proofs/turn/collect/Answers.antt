@@ -12,4 +12,4 @@ returns-in-Ok-put_all-clause-takes g c =
 pub returns-clause-takes : goal.returns-clause-takes
 returns-clause-takes g c =
     let text = c.deref.ensures.value ∙ c.in-Ok-collection_text.ensures ∙ ap collection_text c.in-Ok.ensures.found in
-    λ lines more. (c.in-Err.ensures.cause.failed, part-collect _ lines (stream_of g.K.Sink.held g.K.Sink.faults c.args.sink.now) (stream_of g.K.Sink.held g.K.Sink.faults c.put_all.new.sink) _ text c.in-Err.ensures.part more)
+    λ lines more. (c.in-Err.ensures.cause.failed, part-collect c.args.auditor.now lines (stream_of g.K.Sink.held g.K.Sink.faults c.args.sink.now) (stream_of g.K.Sink.held g.K.Sink.faults c.put_all.new.sink) _ text c.in-Err.ensures.part more)

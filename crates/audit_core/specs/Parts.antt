@@ -1,0 +1,63 @@
+-- The heap that a table, a registry and a log of regions stand for.
+use Rattle.std.specs.Prelude.{◌≡◌, ℕ, List, [], ◌∷◌, Option, None, Some, Result, Ok, OnOk, OnErr}
+use Rattle.std.specs.BTreeMap.{insert_entry}
+use Rattle.std.specs.Result.{result_err}
+use Rattle.graph_meaning.specs.declared.event.Event.{Event}
+use Rattle.graph_meaning.specs.declared.refusal.Stop.{Stop}
+use Rattle.graph_meaning.specs.Answers.{RefusesBy}
+use Rattle.graph_meaning.specs.Heap.{Heap, name_cmp}
+use Rattle.graph_meaning.specs.Laws.{RefersToLive, IdsRise, IsOrdered, IsWithinLimits}
+use Rattle.graph_meaning.specs.Step.{step}
+use Rattle.assert_registry.specs.Assertions.{AreOfSeenTypes}
+use Rattle.object_table.specs.Placed.{Placed}
+use Rattle.sweep.specs.Parts.{Parts}
+
+-- The types that have a limit, by name, each with its limit: type k has the k-th limit, if that is one.
+abbrev pub named_limits : List (List ℕ) → List (Option ℕ) → List (List ℕ × ℕ)
+named_limits [] limits = []
+named_limits (kind ∷ kinds) [] = []
+named_limits (kind ∷ kinds) (None ∷ limits) = named_limits kinds limits
+named_limits (kind ∷ kinds) (Some limit ∷ limits) = insert_entry name_cmp (named_limits kinds limits) kind limit
+
+-- the heap with these parts
+abbrev pub heap_of : Parts → Heap
+heap_of parts = record {
+  table = parts.placed.table;
+  dead = parts.assertions.dead;
+  unshared = parts.assertions.unshared;
+  regions = parts.regions.regions;
+  limits = named_limits parts.placed.table.kinds parts.assertions.limits;
+  owners = parts.assertions.owners;
+}
+
+-- A heap, and for each cell of its table the id of the object that it holds, if it holds one.
+pub record PlacedHeap : Type 0 where
+  pub heap : Heap
+  pub cells : List (Option ℕ)
+
+-- the heap's table with its cells
+abbrev pub placed_in : PlacedHeap → Placed
+placed_in h = record { table = h.heap.table; cells = h.cells }
+
+abbrev pub placed_heap : Parts → PlacedHeap
+placed_heap parts = record { heap = heap_of parts; cells = parts.placed.cells }
+
+-- What is true of a heap at any time of a trace: what it refers to is live, the ids of its objects rise, its parts are in
+-- order, and nothing passes its limit.
+pub record IsWellFormed (h : Heap) : Type 0 where
+  pub refers : RefersToLive h
+  pub rising : IdsRise h.table
+  pub ordered : IsOrdered h
+  pub limits : IsWithinLimits h.table
+
+-- The parts are those of such a heap, and each type with a limit was seen.
+pub record AreParts (parts : Parts) : Type 0 where
+  pub heap : IsWellFormed (heap_of parts)
+  pub seen : AreOfSeenTypes parts.assertions.limits parts.placed.table.kinds
+
+-- One operation on a heap: what `step` refuses is refused, else the heap is what `step` leaves, and after an error nothing
+-- has changed.
+pub record Steps {T : Type 0} (before : PlacedHeap) (event : Event) (result : Result T Stop) (after : PlacedHeap) : Type 0 where
+  pub refused : RefusesBy result (result_err (step before.heap event))
+  pub applied : OnOk result (step before.heap event ≡ Ok after.heap)
+  pub err : OnErr result (after ≡ before)
