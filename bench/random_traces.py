@@ -1,0 +1,340 @@
+#!/usr/bin/env python3
+"""Compares the built program with a plain reading of the definitions, on random traces of all operations.
+
+Usage: bench/random_traces.py [COUNT] [FIRST_SEED]     (1,000 traces from seed 1 where nothing is said)
+Each trace is made from its seed alone, so a seed that is printed can be run again. It has some hundred operations of
+all kinds and several collections. `report_of` below follows docs/DEFINITIONS.md and the specs it names, by sets and
+by ids, with no care for speed. The program runs with 1, 2, 3 and 16 workers, and must print the same bytes and end
+with the same status each time. The program must be built. Nothing here is part of the gate.
+"""
+import json
+import os
+import random
+import subprocess
+import sys
+
+TOP = os.path.dirname(os.path.dirname(os.path.abspath(__file__)))
+PROGRAM = os.path.join(TOP, "crates", "gcaudit", "out", "gcaudit")
+WORKERS = (1, 2, 3, 16)
+PATHS = 100
+END_STEPS = 32
+
+
+class Refused(Exception):
+    """A line is refused."""
+
+
+class Heap:
+    """The heap of a trace. Slots are pairs of what they hold and whether they are weak."""
+
+    def __init__(self):
+        self.kind, self.slots, self.roots = {}, {}, {}
+        self.greatest, self.dead, self.unshared = 0, set(), set()
+        self.regions, self.limits, self.owner = {}, {}, {}
+
+    def need(self, *ids):
+        for i in ids:
+            if i not in self.kind:
+                raise Refused(f"NotLive {i}")
+
+    def slot(self, at, slot):
+        self.need(at)
+        if slot >= len(self.slots[at]):
+            raise Refused(f"BadSlot {slot}")
+        return self.slots[at][slot]
+
+    def step(self, e):
+        op = e["op"]
+        if op == "alloc":
+            if e["id"] <= self.greatest:
+                raise Refused(f"IdNotRising {e['id']}")
+            self.greatest = e["id"]
+            self.kind[e["id"]] = e["type"]
+            self.slots[e["id"]] = [[None, False] for _ in range(e.get("slots", 0))]
+            for region in self.regions.get(e.get("thread", 0), []):
+                region.add(e["id"])
+        elif op == "store":
+            slot = self.slot(e["at"], e["slot"])
+            if e["to"] is not None:
+                self.need(e["to"])
+            slot[0] = e["to"]
+        elif op == "set-weak":
+            self.slot(e["at"], e["slot"])[1] = e["weak"]
+        elif op == "root":
+            if e["to"] is None:
+                self.roots.pop(e["name"], None)
+            else:
+                self.need(e["to"])
+                self.roots[e["name"]] = e["to"]
+        elif op == "assert-dead":
+            self.need(e["id"])
+            self.dead.add(e["id"])
+        elif op == "assert-unshared":
+            self.need(e["id"])
+            self.unshared.add(e["id"])
+        elif op == "start-region":
+            stack = self.regions.setdefault(e.get("thread", 0), [])
+            if len(stack) >= 64:
+                raise Refused(f"TooDeep {e.get('thread', 0)}")
+            stack.append(set())
+        elif op == "assert-alldead":
+            stack = self.regions.get(e.get("thread", 0), [])
+            if not stack:
+                raise Refused(f"NoRegion {e.get('thread', 0)}")
+            self.dead |= stack.pop()
+        elif op == "assert-instances":
+            self.limits[e["type"]] = e["limit"]
+        elif op == "assert-ownedby":
+            self.need(e["owner"], e["ownee"])
+            if e["owner"] == e["ownee"]:
+                raise Refused(f"SelfOwned {e['owner']}")
+            self.owner[e["ownee"]] = e["owner"]
+
+    # ---- the stopped graph
+
+    def edges(self, x):
+        return [(k, held) for k, (held, weak) in enumerate(self.slots[x]) if held is not None and not weak]
+
+    def reach(self, starts, passable):
+        """What a path of no edge or more leads to from the starts; it goes on from what is passable."""
+        met, work = set(starts), list(starts)
+        while work:
+            x = work.pop()
+            if passable(x):
+                for _, y in self.edges(x):
+                    if y not in met:
+                        met.add(y)
+                        work.append(y)
+        return met
+
+    def analyse(self):
+        self.owners = {o for o in self.owner.values() if o in self.kind}
+        starts = [y for o in self.owners for _, y in self.edges(o)]
+        self.under = self.reach(starts, lambda x: True)
+        # root traced: a path from a root with no object on it under owners
+        met = {x for x in self.roots.values() if x not in self.under}
+        work = list(met)
+        while work:
+            for _, y in self.edges(work.pop()):
+                if y not in met and y not in self.under:
+                    met.add(y)
+                    work.append(y)
+        self.root_traced = met
+        self.traced = self.under | self.root_traced
+        self.refs = {x: [] for x in self.kind}
+        for name in sorted(self.roots, key=lambda n: n.encode()):
+            self.refs[self.roots[name]].append(("root", name))
+        for s in sorted(self.traced | self.owners):
+            for k, y in self.edges(s):
+                self.refs[y].append(("slot", s, k))
+
+    def finds(self, owner, ownee):
+        border = self.owners | set(self.owner)
+        return ownee in self.reach([y for _, y in self.edges(owner)], lambda x: x not in border)
+
+    def is_met(self, ownee):
+        return ownee in self.roots.values() or any(
+            y == ownee for x in self.root_traced if x not in self.owners for _, y in self.edges(x))
+
+    # ---- paths
+
+    def canonical(self, by_roots, shut, to):
+        """The canonical path to an object, as its texts, or None."""
+        sources = []
+        if by_roots:
+            for name in sorted(self.roots, key=lambda n: n.encode()):
+                x = self.roots[name]
+                sources.append((x, [f"root {name} -> {x} {self.kind[x]}"]))
+        else:
+            for o in sorted(self.owners):
+                for k, y in self.edges(o):
+                    sources.append((y, [f"owner {o} {self.kind[o]}", self.text(k, y)]))
+        level, path = {}, {}
+        for x, texts in sources:
+            if x not in level:
+                level[x], path[x] = 1, texts
+        now, depth = sorted(level), 1
+        while now and to not in level:
+            later = {}
+            for x in now:
+                if x not in shut:
+                    for k, y in self.edges(x):
+                        if y not in level and y not in later:
+                            later[y] = path[x] + [self.text(k, y)]
+            depth += 1
+            for y, texts in later.items():
+                level[y], path[y] = depth, texts
+            now = sorted(later)
+        return path.get(to)
+
+    def text(self, slot, to):
+        return f" [{slot}] -> {to} {self.kind[to]}"
+
+    def plain(self, x):
+        return self.canonical(True, set(), x) or self.canonical(False, set(), x)
+
+    def by_reference(self, x, reference):
+        if reference[0] == "root":
+            return [f"root {reference[1]} -> {x} {self.kind[x]}"]
+        _, holder, slot = reference
+        return (self.plain(holder) or [f"owner {holder} {self.kind[holder]}"]) + [self.text(slot, x)]
+
+    # ---- a collection
+
+    def collect(self, number):
+        self.analyse()
+        verdicts = []
+        for x in sorted(self.dead & self.traced):
+            verdicts.append((f"dead {x} {self.kind[x]}", [self.plain(x)]))
+        for kind in sorted(self.limits, key=lambda n: n.encode()):
+            found = sorted(x for x in self.traced if self.kind[x] == kind)
+            if len(found) > self.limits[kind]:
+                head = f"instances {kind} limit {self.limits[kind]} found {len(found)}"
+                verdicts.append((head, [self.plain(found[self.limits[kind]])]))
+        for x in sorted(self.unshared):
+            refs = self.refs[x]
+            if len(refs) >= 2:
+                verdicts.append((f"unshared {x} {self.kind[x]} refs {len(refs)}", [self.by_reference(x, r) for r in refs[:2]]))
+        for x in sorted(self.owner):
+            o = self.owner[x]
+            if self.is_met(x) and (o not in self.kind or not self.finds(o, x)):
+                gone = "" if o in self.kind else " gone"
+                verdicts.append((f"ownedby {x} {self.kind[x]} owner {o}{gone}", [self.canonical(True, self.under | self.owners, x)]))
+        lines = [f"gc {number} live {len(self.kind)} traced {len(self.traced)} freed {len(self.kind) - len(self.traced)}"]
+        for place, (head, paths) in enumerate(verdicts):
+            shown = " | ".join(shown_path(p) for p in paths) if place < PATHS else "path left out"
+            lines.append(f"gc {number} {head}: {shown}")
+        self.sweep()
+        return lines, len(verdicts)
+
+    def sweep(self):
+        kept = self.traced
+        self.kind = {x: k for x, k in self.kind.items() if x in kept}
+        self.slots = {x: [[h if h in kept else None, w] for h, w in s] for x, s in self.slots.items() if x in kept}
+        self.dead &= kept
+        self.unshared &= kept
+        self.owner = {x: o for x, o in self.owner.items() if x in kept}
+        for stack in self.regions.values():
+            for region in stack:
+                region &= kept
+
+
+def shown_path(texts):
+    """The first text of a path from an owner or a root is its start."""
+    start, steps = texts[0], texts[1:]
+    if len(steps) <= 2 * END_STEPS:
+        return start + "".join(steps)
+    left_out = len(steps) - 2 * END_STEPS
+    return start + "".join(steps[:END_STEPS]) + f" ... {left_out} steps ..." + "".join(steps[-END_STEPS:])
+
+
+def report_of(events):
+    heap, lines, collections, violations = Heap(), [], 0, 0
+    for number, event in enumerate(events, 1):
+        if event["op"] == "collect":
+            collections += 1
+            text, found = heap.collect(collections)
+            lines += text
+            violations += found
+            continue
+        try:
+            heap.step(event)
+        except Refused as refusal:
+            lines.append(f"fault line {number}: {refusal}")
+            return lines, 2
+    lines.append(f"end gcs {collections} violations {violations}")
+    return lines, 1 if violations else 0
+
+
+def random_trace(seed):
+    """Operations that are mostly not refused; one trace in ten has a line that is."""
+    rng = random.Random(seed)
+    live, slots, greatest, depth, events = [], {}, 0, [0] * 3, []
+    roots = [f"r{n}" for n in range(rng.randint(1, 12))]
+    kinds = [f"K{n}" for n in range(rng.randint(1, 5))]
+    size = rng.randint(20, 400)
+    most_slots = rng.choice((1, 2, 4))
+    weak_often = rng.random() < 0.3
+    model = Heap()
+    refuse_at = rng.randint(1, size) if rng.random() < 0.1 else None
+    for n in range(size):
+        live = list(model.kind)
+        roll = rng.random()
+        if not live or roll < 0.3:
+            greatest += rng.choice((1, 1, 1, 2, 7))
+            event = {"op": "alloc", "id": greatest, "type": rng.choice(kinds), "slots": rng.randint(0, most_slots), "thread": rng.randint(0, 2)}
+        elif roll < 0.6:
+            holders = [x for x in live if model.slots[x]]
+            if not holders:
+                continue
+            at = rng.choice(holders)
+            event = {"op": "store", "at": at, "slot": rng.randrange(len(model.slots[at])), "to": rng.choice(live) if rng.random() < 0.9 else None}
+        elif roll < 0.68:
+            event = {"op": "root", "name": rng.choice(roots), "to": rng.choice(live) if rng.random() < 0.75 else None}
+        elif roll < 0.72:
+            event = {"op": "assert-dead", "id": rng.choice(live)}
+        elif roll < 0.76:
+            event = {"op": "assert-unshared", "id": rng.choice(live)}
+        elif roll < 0.84:
+            owner, ownee = rng.choice(live), rng.choice(live)
+            if owner == ownee:
+                continue
+            event = {"op": "assert-ownedby", "owner": owner, "ownee": ownee}
+        elif roll < 0.86:
+            event = {"op": "assert-instances", "type": rng.choice(kinds + ["None"]), "limit": rng.randint(0, 6)}
+        elif roll < 0.9:
+            thread = rng.randint(0, 2)
+            event = {"op": "start-region", "thread": thread}
+        elif roll < 0.92:
+            thread = rng.randint(0, 2)
+            if not model.regions.get(thread):
+                continue
+            event = {"op": "assert-alldead", "thread": thread}
+        elif roll < 0.96:
+            holders = [x for x in live if model.slots[x]]
+            if not holders:
+                continue
+            at = rng.choice(holders)
+            event = {"op": "set-weak", "at": at, "slot": rng.randrange(len(model.slots[at])), "weak": weak_often and rng.random() < 0.7}
+        else:
+            event = {"op": "collect"}
+        if refuse_at is not None and n >= refuse_at:
+            event = {"op": "store", "at": greatest + 1, "slot": 0, "to": None}
+        events.append(event)
+        if event["op"] == "collect":
+            model.collect(1)
+        else:
+            try:
+                model.step(event)
+            except Refused:
+                break
+    events.append({"op": "collect"})
+    return events
+
+
+def main():
+    count = int(sys.argv[1]) if len(sys.argv) > 1 else 1000
+    first = int(sys.argv[2]) if len(sys.argv) > 2 else 1
+    wrong = verdicts = 0
+    for seed in range(first, first + count):
+        events = random_trace(seed)
+        lines, status = report_of(events)
+        verdicts += sum(1 for l in lines if l.startswith("gc ") and " live " not in l)
+        expected = ("\n".join(lines) + "\n").encode()
+        trace = "".join(json.dumps(e, separators=(",", ":")) + "\n" for e in events).encode()
+        for workers in WORKERS:
+            run = subprocess.run([PROGRAM, "--workers", str(workers)], input=trace, capture_output=True, timeout=120)
+            if (run.stdout, run.returncode) != (expected, status):
+                wrong += 1
+                print(f"seed {seed}, {workers} workers: status {run.returncode}, not {status}")
+                for got, want in zip(run.stdout.decode().splitlines(), lines):
+                    if got != want:
+                        print(f"  got  {got}\n  want {want}")
+                        break
+                break
+    print(f"{count} traces from seed {first}, each with {', '.join(map(str, WORKERS))} workers: {verdicts} verdicts, {wrong} traces wrong")
+    sys.exit(1 if wrong else 0)
+
+
+if __name__ == "__main__":
+    main()
