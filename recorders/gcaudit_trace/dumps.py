@@ -1,0 +1,200 @@
+"""What the readers of heap dumps share: the words of the command line, progress, and writing a trace of one collection."""
+import argparse
+import os
+import sys
+import tempfile
+import time
+from typing import Dict, Iterable, List, Tuple
+
+from .names import UniqueNames, legal_name
+from .writer import MOST_OBJECTS, TraceError, TraceWriter, WholeFile
+
+SHOWN_CLASSES = 8
+
+
+def parser_for(program: str, about: str) -> argparse.ArgumentParser:
+    """The words that all readers of dumps take."""
+    parser = argparse.ArgumentParser(prog=program, description=about)
+    parser.add_argument("dump", metavar="DUMP", help="the heap dump")
+    parser.add_argument("trace", metavar="TRACE", help="the trace that is written for gcaudit")
+    said = parser.add_argument_group("what is asserted (each may be given more than once)")
+    said.add_argument("--dead", metavar="CLASS", action="append", default=[], help="no object of the class is reached")
+    said.add_argument("--limit", metavar="CLASS=N", action="append", default=[], help="at most N objects of the class are reached")
+    said.add_argument("--unshared", metavar="CLASS", action="append", default=[], help="each object of the class has one reference at most")
+    said.add_argument("--owned-by", metavar="OWNER=CLASS", action="append", default=[],
+                      help="objects of the class are reached only through the one object of the class OWNER")
+    kept = parser.add_argument_group("what is kept (each may be given more than once)")
+    kept.add_argument("--only", metavar="PREFIX", action="append", default=[], help="keep classes whose names begin so, and no others")
+    kept.add_argument("--without", metavar="PREFIX", action="append", default=[], help="leave out classes whose names begin so")
+    return parser
+
+
+def main(program: str, about: str, convert, words=None) -> int:
+    """Runs a reader of dumps; what went wrong is said in a sentence, with the status 2."""
+    asked = parser_for(program, about).parse_args(words)
+    try:
+        convert(asked, Progress(program))
+    except TraceError as error:
+        print("%s: %s" % (program, error), file=sys.stderr)
+        return 2
+    except OSError as error:
+        print("%s: %s: %s" % (program, error.filename or asked.dump, error.strerror or error), file=sys.stderr)
+        return 2
+    except MemoryError:
+        print("%s: there is not enough memory; leave out more by --only or --without" % program, file=sys.stderr)
+        return 2
+    except KeyboardInterrupt:
+        print("%s: stopped" % program, file=sys.stderr)
+        return 130
+    return 0
+
+
+class Progress:
+    """A plain line a second on standard error, where that is a terminal; what was left out is always said."""
+
+    def __init__(self, program: str) -> None:
+        self._program = program
+        self._shows = sys.stderr.isatty()
+        self._next = time.monotonic() + 1
+
+    def at(self, step: str, done: int, whole: int) -> None:
+        now = time.monotonic()
+        if self._shows and now >= self._next:
+            self._next = now + 1
+            self.say("%s: %d of %d MB" % (step, done >> 20, whole >> 20))
+
+    def say(self, text: str) -> None:
+        print("%s: %s" % (self._program, text), file=sys.stderr, flush=True)
+
+
+class Wishes:
+    """What is asserted and what is kept, by the names of classes."""
+
+    def __init__(self, asked: argparse.Namespace) -> None:
+        self._only = tuple(asked.only)
+        self._without = tuple(asked.without)
+        self.dead = set(asked.dead)
+        self.unshared = set(asked.unshared)
+        self.limits = dict(self._limit(text) for text in asked.limit)
+        self.owners: Dict[str, List[str]] = {}  # the owned classes of each owner class
+        for text in asked.owned_by:
+            owner, equals, ownee = text.partition("=")
+            if not (owner and equals and ownee):
+                raise TraceError("--owned-by wants OWNER=CLASS, not %s" % text)
+            self.owners.setdefault(owner, []).append(ownee)
+        self.owned = {ownee for ownees in self.owners.values() for ownee in ownees}
+        self.named = self.dead | self.unshared | self.owned | set(self.owners) | set(self.limits)
+        for name in sorted(self.named):
+            if not self.keeps(name):
+                raise TraceError("something is asserted of %s, and it is left out by --only or --without" % name)
+
+    @staticmethod
+    def _limit(text: str) -> Tuple[str, int]:
+        name, equals, number = text.rpartition("=")
+        if not (name and equals and number.isascii() and number.isdigit() and int(number) <= 4294967295):
+            raise TraceError("--limit wants CLASS=N, not %s" % text)
+        return name, int(number)
+
+    def keeps(self, name: str) -> bool:
+        """Whether objects of the class are kept."""
+        return (not self._only or name.startswith(self._only)) and not (self._without and name.startswith(self._without))
+
+
+class DumpTrace:
+    """Writes a trace of one collection: objects and what they hold, in one go, then roots and assertions.
+
+    Stores must stand behind all objects, so they wait in a file without a name until the objects are written.
+    """
+
+    def __init__(self, path: str, wishes: Wishes) -> None:
+        self._whole = WholeFile(path)
+        self.trace = TraceWriter(self._whole.write)
+        self._wishes = wishes
+        folder = os.path.dirname(self._whole.path)
+        self._stores = tempfile.TemporaryFile("w+", encoding="utf-8", newline="\n", dir=folder, buffering=1 << 20)
+        self._after = TraceWriter(self._stores.write)
+        self._names = UniqueNames()
+        self._legal: Dict[str, str] = {}
+        self._of_class: Dict[str, List[int]] = {name: [] for name in wishes.named}
+        self._lost = 0
+
+    def __enter__(self) -> "DumpTrace":
+        return self
+
+    def __exit__(self, kind, error, trace) -> None:
+        self._stores.close()
+        if kind is not None:
+            self._whole.give_up()
+
+    def object(self, class_name: str, contents: Iterable[Tuple[str, int, bool]], type_name: str = "") -> int:
+        """An object with what it holds: label, number in the trace, whether weakly. The answer is its number."""
+        held = list(contents)
+        legal = self._legal.get(class_name)
+        if legal is None:
+            legal = self._legal[class_name] = legal_name(type_name or class_name)
+        number = self.trace.alloc(legal, len(held))
+        if class_name in self._of_class:
+            self._of_class[class_name].append(number)
+        for slot, (label, to, weak) in enumerate(held):
+            if weak:
+                self._after.set_weak(number, slot, True)
+            self._after.store(number, slot, to, label)
+        return number
+
+    def finish(self, roots: Iterable[Tuple[str, int]], progress: Progress) -> None:
+        """Writes the stores, the roots, the assertions and the collection, and gives the file its name."""
+        self._stores.seek(0)
+        while True:
+            text = self._stores.read(1 << 20)
+            if not text:
+                break
+            self._whole.write(text)
+        seen = set()
+        for name, number in roots:
+            if (name, number) not in seen:
+                seen.add((name, number))
+                self.trace.root(self._names.name_for(name), number)
+        self._assert(progress)
+        self.trace.collect()
+        self._whole.finish()
+        progress.say("%d objects and %d roots in %s" % (self.trace.objects, len(seen), self._whole.path))
+
+    def _assert(self, progress: Progress) -> None:
+        wishes = self._wishes
+        for name in sorted(wishes.named):
+            if not self._of_class[name]:
+                progress.say("no object of the class %s is in the dump" % name)
+        for name in sorted(wishes.dead):
+            for number in self._of_class[name]:
+                self.trace.assert_dead(number)
+        for name, limit in sorted(wishes.limits.items()):
+            self.trace.assert_instances(legal_name(name), limit)
+        for name in sorted(wishes.unshared):
+            for number in self._of_class[name]:
+                self.trace.assert_unshared(number)
+        for owner, ownees in sorted(wishes.owners.items()):
+            numbers = self._of_class[owner]
+            if len(numbers) != 1:
+                raise TraceError("--owned-by wants exactly one object of the class %s, and there are %d" % (owner, len(numbers)))
+            for ownee in ownees:
+                for number in self._of_class[ownee]:
+                    if number != numbers[0]:
+                        self.trace.assert_owned_by(numbers[0], number)
+
+
+def need_room(kept: int, counts: Dict[str, int]) -> None:
+    """Refuses more objects than gcaudit takes, and says which classes have most of them."""
+    if kept > MOST_OBJECTS:
+        most = sorted(counts.items(), key=lambda one: (-one[1], one[0]))[:SHOWN_CLASSES]
+        raise TraceError("%d objects would be kept, and gcaudit takes %d; leave some out by --only or --without. Most are of: %s"
+                         % (kept, MOST_OBJECTS, ", ".join("%s %d" % one for one in most)))
+
+
+def say_left_out(counts: Dict[str, int], stay: int, progress: Progress) -> None:
+    """Says how many objects were left out, and of which classes most are."""
+    if counts:
+        most = sorted(counts.items(), key=lambda one: (-one[1], one[0]))[:SHOWN_CLASSES]
+        more = ", and %d classes more" % (len(counts) - len(most)) if len(counts) > len(most) else ""
+        progress.say("left out: %d objects (%s%s)" % (sum(counts.values()), ", ".join("%s %d" % one for one in most), more))
+    if stay:
+        progress.say("%d of them stay, as \"left out CLASS\", since several references lead through each to what is kept" % stay)

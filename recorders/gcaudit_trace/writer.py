@@ -1,0 +1,150 @@
+"""Writing a trace: a line for each operation, and a file that appears under its name only when it is whole."""
+import json
+import os
+import tempfile
+from typing import Dict, Optional
+
+MOST_OBJECTS = 1048576
+MOST_SLOTS = 16777216
+MOST_ROOTS = 65536
+MOST_TYPES = 65536
+MOST_ID = 4294967295
+
+
+class TraceError(Exception):
+    """Something that the user must know, as one sentence."""
+
+
+class WholeFile:
+    """A text file that is written beside its name, and takes its name at `finish`.
+
+    Where the writing fails or is given up, nothing is left, and a file that had the name before stays.
+    """
+
+    def __init__(self, path: str) -> None:
+        self.path = os.path.abspath(os.fspath(path))
+        folder, base = os.path.split(self.path)
+        try:
+            handle, self._temporary = tempfile.mkstemp(prefix="." + base[:100] + ".", suffix=".part", dir=folder)
+        except OSError as error:
+            raise TraceError("%s can't be written: %s" % (path, error.strerror)) from None
+        self._file = os.fdopen(handle, "w", encoding="utf-8", newline="\n", buffering=1 << 20)
+        self.write = self._file.write
+
+    def finish(self) -> None:
+        """Everything was written: the file takes its name."""
+        try:
+            self._file.close()
+            os.chmod(self._temporary, 0o666 & ~_umask())
+            os.replace(self._temporary, self.path)
+        except OSError as error:
+            self.give_up()
+            raise TraceError("%s can't be written: %s" % (self.path, error.strerror)) from None
+
+    def give_up(self) -> None:
+        """Leaves no file behind."""
+        try:
+            self._file.close()
+        except OSError:
+            pass
+        try:
+            os.unlink(self._temporary)
+        except OSError:
+            pass
+
+
+def _umask() -> int:
+    mask = os.umask(0o077)
+    os.umask(mask)
+    return mask
+
+
+class TraceWriter:
+    """Writes the operations of a trace with `write`, and refuses what gcaudit would refuse by its limits.
+
+    Names must be legal (see names.py). What is freed by a collection is told by `freed`.
+    """
+
+    def __init__(self, write) -> None:
+        self._write = write
+        self._quoted: Dict[str, str] = {}
+        self._types = set()
+        self._roots = set()
+        self.last_id = 0
+        self.objects = 0
+        self.slots = 0
+
+    def _quote(self, text: str) -> str:
+        quoted = self._quoted.get(text)
+        if quoted is None:
+            quoted = json.dumps(text)
+            if len(self._quoted) < 200000:
+                self._quoted[text] = quoted
+        return quoted
+
+    def _see_type(self, type_name: str) -> None:
+        if type_name not in self._types:
+            if len(self._types) >= MOST_TYPES:
+                raise TraceError("the trace would have more than %d types, which gcaudit doesn't take" % MOST_TYPES)
+            self._types.add(type_name)
+
+    def alloc(self, type_name: str, slots: int, thread: int = 0) -> int:
+        """A new object; the answer is its id."""
+        self._see_type(type_name)
+        if self.objects >= MOST_OBJECTS:
+            raise TraceError("the trace would have more than %d live objects, which gcaudit doesn't take" % MOST_OBJECTS)
+        if self.slots + slots > MOST_SLOTS:
+            raise TraceError("the trace would have more than %d live slots, which gcaudit doesn't take" % MOST_SLOTS)
+        if self.last_id >= MOST_ID:
+            raise TraceError("the trace would have an id above %d, which gcaudit doesn't take" % MOST_ID)
+        self.last_id += 1
+        self.objects += 1
+        self.slots += slots
+        on_thread = ',"thread":%d' % thread if thread else ""
+        self._write('{"op":"alloc","id":%d,"type":%s,"slots":%d%s}\n' % (self.last_id, self._quote(type_name), slots, on_thread))
+        return self.last_id
+
+    def freed(self, objects: int, slots: int) -> None:
+        """A collection freed so many objects, with so many slots in all."""
+        self.objects -= objects
+        self.slots -= slots
+
+    def store(self, at: int, slot: int, to: Optional[int], label: str = "") -> None:
+        """A slot holds an object, or nothing. The label says how the program calls the slot; gcaudit ignores it."""
+        held = "null" if to is None else "%d" % to
+        labelled = ',"label":' + self._quote(label) if label else ""
+        self._write('{"op":"store","at":%d,"slot":%d,"to":%s%s}\n' % (at, slot, held, labelled))
+
+    def set_weak(self, at: int, slot: int, weak: bool) -> None:
+        self._write('{"op":"set-weak","at":%d,"slot":%d,"weak":%s}\n' % (at, slot, "true" if weak else "false"))
+
+    def root(self, name: str, to: Optional[int]) -> None:
+        if to is None:
+            self._roots.discard(name)
+        else:
+            self._roots.add(name)
+        if len(self._roots) > MOST_ROOTS:
+            raise TraceError("the trace would have more than %d roots, which gcaudit doesn't take" % MOST_ROOTS)
+        self._write('{"op":"root","name":%s,"to":%s}\n' % (self._quote(name), "null" if to is None else "%d" % to))
+
+    def assert_dead(self, number: int) -> None:
+        self._write('{"op":"assert-dead","id":%d}\n' % number)
+
+    def start_region(self, thread: int) -> None:
+        self._write('{"op":"start-region","thread":%d}\n' % thread)
+
+    def assert_alldead(self, thread: int) -> None:
+        self._write('{"op":"assert-alldead","thread":%d}\n' % thread)
+
+    def assert_instances(self, type_name: str, limit: int) -> None:
+        self._see_type(type_name)
+        self._write('{"op":"assert-instances","type":%s,"limit":%d}\n' % (self._quote(type_name), limit))
+
+    def assert_unshared(self, number: int) -> None:
+        self._write('{"op":"assert-unshared","id":%d}\n' % number)
+
+    def assert_owned_by(self, owner: int, ownee: int) -> None:
+        self._write('{"op":"assert-ownedby","owner":%d,"ownee":%d}\n' % (owner, ownee))
+
+    def collect(self) -> None:
+        self._write('{"op":"collect"}\n')

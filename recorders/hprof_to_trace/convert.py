@@ -1,0 +1,249 @@
+"""From an HPROF dump to a trace: which objects are kept, what they hold, and which roots there are."""
+import struct
+from array import array
+from typing import Dict, Iterable, Iterator, List, NamedTuple, Tuple
+
+from gcaudit_trace import TraceError
+from gcaudit_trace.dumps import DumpTrace, Progress, Wishes, need_room, say_left_out
+from gcaudit_trace.passing import LeftOut
+
+from .reader import (CLASS, INSTANCE, OBJECT, OBJECT_ARRAY, PRIMITIVE_ARRAY, PRIMITIVES, ROOTS, SIZES, ClassDump, Dump, Root)
+
+_REFERENCE = "java.lang.ref.Reference"
+_HOLD_PRIMITIVES_ALONE = frozenset({"java.lang.String"})
+
+
+class Layout(NamedTuple):
+    """Where the references stand in the instances of a class."""
+    unpack: struct.Struct
+    labels: Tuple[str, ...]
+    weak: Tuple[bool, ...]
+    has_weak: bool
+
+
+class Heap:
+    """The heap of a dump, as far as it is kept."""
+
+    def __init__(self, dump: Dump, wishes: Wishes, progress: Progress) -> None:
+        self.dump = dump
+        self.wishes = wishes
+        self.progress = progress
+        self.classes: Dict[int, ClassDump] = {}
+        self.kept: Dict[int, int] = {}          # the number in the trace of each kept object, by its identifier
+        self.kept_places = array("Q")           # where the record of each stands
+        self.left = LeftOut(self.kept)
+        self.left_places = array("Q")
+        self.left_out: Dict[str, int] = {}      # how many objects of each class are left out
+        self.roots: List[Root] = []
+        self.weak_lost = 0
+        self._layouts: Dict[int, Layout] = {}
+        self._keeps: Dict[int, bool] = {}
+        self._may_hold_of: Dict[int, bool] = {}
+        self._id = struct.Struct(">" + dump.id_code)
+        self._instance = struct.Struct(">%sI%sI" % (dump.id_code, dump.id_code))
+        self._array = struct.Struct(">%sII%s" % (dump.id_code, dump.id_code))
+
+    # ---- the first time through: which objects are there
+
+    def find_objects(self) -> None:
+        """Numbers the kept objects, and notes the roots and the classes."""
+        kept, places, keeps, keeps_class = self.kept, self.kept_places, self._keeps, self._keeps_class
+        counts: Dict[int, int] = {}
+        primitive: Dict[int, int] = {}
+        left_classes: Dict[int, int] = {}
+        for tag, place, number, class_id in self.dump.records("reading the objects"):
+            if tag == PRIMITIVE_ARRAY:
+                primitive[number] = primitive.get(number, 0) + 1
+                continue
+            if not number:
+                self.roots.append(self.dump.root(tag, place))
+                continue
+            if tag == CLASS:
+                self.classes[number] = self.dump.class_dump(place)
+            if keeps[class_id] if class_id in keeps else keeps_class(class_id):
+                kept[number] = len(kept) + 1
+                places.append(place)
+                counts[class_id] = counts.get(class_id, 0) + 1
+            else:
+                left_classes[class_id] = left_classes.get(class_id, 0) + 1
+                if tag != INSTANCE or self._may_hold(class_id):
+                    self.left.add(number)
+                    self.left_places.append(place)
+        for class_id, count in left_classes.items():
+            name = self.dump.class_name(class_id)
+            self.left_out[name] = self.left_out.get(name, 0) + count
+        for code, count in primitive.items():
+            self.left_out[PRIMITIVES[code] + "[]"] = count
+        self._named_counts = {self.dump.class_name(class_id): count for class_id, count in counts.items()}
+        need_room(len(kept), self._named_counts)
+
+    def _may_hold(self, class_id: int) -> bool:
+        """Whether instances of the class have references to objects other than arrays of primitives, as far as is known by now."""
+        found = self._may_hold_of.get(class_id)
+        if found is None:
+            found = self.dump.class_name(class_id) not in _HOLD_PRIMITIVES_ALONE
+            try:
+                found = found and bool(self._layout(class_id).labels)
+            except TraceError:
+                return True  # a class of it comes later in the dump
+            self._may_hold_of[class_id] = found
+        return found
+
+    def _keeps_class(self, class_id: int) -> bool:
+        found = self._keeps[class_id] = self.wishes.keeps(self.dump.class_name(class_id))
+        return found
+
+    # ---- what an object holds
+
+    def holdings(self, place: int) -> List[Tuple[str, int, bool]]:
+        """What the object whose record stands there holds: label, identifier, whether weakly. Empty places are left out."""
+        data, tag = self.dump.data, self.dump.data[place - 1]
+        if tag == INSTANCE:
+            layout, found = self._fields(place)
+            return [one for one in zip(layout.labels, found, layout.weak) if one[1]]
+        if tag == OBJECT_ARRAY:
+            return [("[%d]" % at, to, False) for at, to in enumerate(self._elements(place)) if to]
+        return [(label, to, False) for label, to in self.classes[self._id.unpack_from(data, place)[0]].held]
+
+    def references(self, place: int) -> Iterable[int]:
+        """The identifiers of what it holds strongly; 0 may be among them."""
+        tag = self.dump.data[place - 1]
+        if tag == INSTANCE:
+            layout, found = self._fields(place)
+            return [to for to, weak in zip(found, layout.weak) if not weak] if layout.has_weak else found
+        if tag == OBJECT_ARRAY:
+            return self._elements(place)
+        return [to for _, to in self.classes[self._id.unpack_from(self.dump.data, place)[0]].held]
+
+    def _fields(self, place: int) -> Tuple[Layout, Tuple[int, ...]]:
+        _, _, class_id, size = self._instance.unpack_from(self.dump.data, place)
+        layout = self._layout(class_id)
+        if layout.unpack.size > size:
+            raise TraceError("%s is damaged: an object of %s is too short" % (self.dump.name, self.dump.class_name(class_id)))
+        return layout, layout.unpack.unpack_from(self.dump.data, place + self._instance.size)
+
+    def _elements(self, place: int) -> Tuple[int, ...]:
+        length = self._array.unpack_from(self.dump.data, place)[2]
+        return struct.unpack_from(">%d%s" % (length, self.dump.id_code), self.dump.data, place + self._array.size)
+
+    def _layout(self, class_id: int) -> Layout:
+        """The places of the references in an instance: the fields of the class, then those of its superclass, and so on."""
+        known = self._layouts.get(class_id)
+        if known is not None:
+            return known
+        form, labels, weak, at = [">"], [], [], class_id
+        id_size, seen = self.dump.id_size, set()
+        while at:
+            found = self.classes.get(at)
+            if found is None or at in seen:
+                raise TraceError("%s is damaged: the class 0x%x is not in it" % (self.dump.name, at))
+            seen.add(at)
+            is_reference = self.dump.class_name(at) == _REFERENCE
+            for name, kind in found.fields:
+                if kind != OBJECT:
+                    form.append("%dx" % SIZES[kind])
+                    continue
+                text = self.dump.text(name)
+                form.append(self.dump.id_code)
+                labels.append("." + text)
+                weak.append(is_reference and text == "referent")
+            at = found.superclass
+        while len(form) > 1 and form[-1].endswith("x"):
+            form.pop()
+        layout = self._layouts[class_id] = Layout(struct.Struct("".join(form)), tuple(labels), tuple(weak), any(weak))
+        return layout
+
+    # ---- where something is left out: how references go on through it
+
+    def pass_over(self) -> List[Tuple[int, int]]:
+        """Decides which of the left-out objects stay: their identifiers and numbers."""
+        left = self.left
+        if not len(left):
+            return []
+        for place in self._in_steps("reading what is left out", self.left_places):
+            left.holds(self.references(place))
+        for place in self._in_steps("reading what is kept", self.kept_places):
+            left.refer(self.references(place))
+        for root in self.roots:
+            left.refer((root.target,), 2)
+        stay = left.settle()
+        need_room(len(self.kept) + len(stay), self._named_counts)
+        return stay
+
+    def _in_steps(self, step: str, places: array) -> Iterator[int]:
+        """The places, with progress told."""
+        for count, place in enumerate(places):
+            yield place
+            if not count & 0xFFFF:
+                self.progress.at(step, place, self.dump.size)
+
+    # ---- the trace
+
+    def write(self, out: DumpTrace, stay: List[Tuple[int, int]]) -> None:
+        """Writes the kept objects, and behind them the left-out ones that stay."""
+        for place in self._in_steps("writing the trace", self.kept_places):
+            out.object(self._class_at(place), self._resolved(self.holdings(place)))
+        if stay:
+            place_of = dict(stay)
+            for place in self.left_places:
+                number = self._id.unpack_from(self.dump.data, place)[0]
+                if number in place_of:
+                    place_of[number] = place
+            for number, _ in stay:
+                held = (("(held)", to, False) for to, _ in self.left.contents(number))
+                out.object("left out " + self._class_at(place_of[number]), held)
+
+    def _class_at(self, place: int) -> str:
+        """The class of the object whose record stands there; of a class, the word and its name."""
+        data, tag = self.dump.data, self.dump.data[place - 1]
+        if tag == CLASS:
+            return "class " + self.dump.class_name(self._id.unpack_from(data, place)[0])
+        if tag == INSTANCE:
+            return self.dump.class_name(self._instance.unpack_from(data, place)[2])
+        return self.dump.class_name(self._array.unpack_from(data, place)[3])
+
+    def _resolved(self, held: List[Tuple[str, int, bool]]) -> Iterator[Tuple[str, int, bool]]:
+        kept, left = self.kept, self.left
+        for label, to, weak in held:
+            number = kept.get(to)
+            if number is not None:
+                yield label, number, weak
+            elif weak:
+                self.weak_lost += 1
+            elif to in left:
+                for number, passed in left.beyond(to):
+                    yield "%s (over %d left out)" % (label, passed) if passed else label, number, False
+
+    def named_roots(self) -> Iterator[Tuple[str, int]]:
+        """The roots by kind and name, as far as they lead to what is in the trace."""
+        stack_of = {root.thread: root.frame for root in self.roots if ROOTS[root.kind][0] == "thread"}
+        for root in self.roots:
+            number = self.kept.get(root.target) or self.left.number_of(root.target)
+            if number is not None:
+                yield self._root_name(root, stack_of), number
+
+    def _root_name(self, root: Root, stack_of: Dict[int, int]) -> str:
+        kind, _, numbers = ROOTS[root.kind]
+        if kind == "class":
+            return "class " + self.dump.class_name(root.target)
+        if kind == "thread":
+            return "thread %d" % root.thread
+        if numbers:
+            frame = " " + self.dump.frame_name(stack_of.get(root.thread, 0), root.frame) if numbers == 2 and root.frame < 1 << 31 else ""
+            return "%s%s (thread %d)" % (kind, frame, root.thread)
+        return kind
+
+
+def convert(asked, progress: Progress) -> None:
+    """Writes the trace of a dump, by the words of the command line."""
+    wishes = Wishes(asked)
+    with open(asked.dump, "rb") as file:
+        heap = Heap(Dump(file, progress), wishes, progress)
+        heap.find_objects()
+        stay = heap.pass_over()
+        say_left_out(heap.left_out, len(stay), progress)
+        with DumpTrace(asked.trace, wishes) as out:
+            heap.write(out, stay)
+            if heap.weak_lost:
+                progress.say("%d weak references to objects that are left out have no slot" % heap.weak_lost)
+            out.finish(heap.named_roots(), progress)

@@ -1,0 +1,38 @@
+"""What the tests share: the program gcaudit, where it is built, and a folder of their own."""
+import json
+import os
+import shutil
+import sys
+import tempfile
+import unittest
+
+RECORDERS = os.path.dirname(os.path.dirname(os.path.abspath(__file__)))
+PROGRAMS = os.path.join(RECORDERS, "tests", "programs")
+if RECORDERS not in sys.path:
+    sys.path.insert(0, RECORDERS)
+
+BUILT = os.path.join(os.path.dirname(RECORDERS), "crates", "gcaudit", "out", "gcaudit")
+PROGRAM = os.environ.get("GCAUDIT") or (BUILT if os.access(BUILT, os.X_OK) else None)
+needs_program = unittest.skipIf(PROGRAM is None, "gcaudit is not built")
+
+
+def needs_commands(*names):
+    missing = [name for name in names if shutil.which(name) is None]
+    return unittest.skipIf(missing, "not there: " + ", ".join(missing))
+
+
+class InFolder(unittest.TestCase):
+    """A test with a temporary folder, `self.folder`."""
+
+    def setUp(self):
+        self.folder = tempfile.mkdtemp(prefix="gcaudit-test-")
+        self.addCleanup(shutil.rmtree, self.folder, ignore_errors=True)
+
+    def path(self, name):
+        return os.path.join(self.folder, name)
+
+
+def events(path):
+    """The operations of a trace."""
+    with open(path, encoding="utf-8") as lines:
+        return [json.loads(line) for line in lines]

@@ -1,0 +1,334 @@
+"""Dumps of real programs: each leak is found with its path, the twin without it passes; bad dumps are refused in a sentence."""
+import contextlib
+import io
+import json
+import os
+import shutil
+import struct
+import subprocess
+import sys
+import tempfile
+import unittest
+
+from tests.support import PROGRAM, PROGRAMS, RECORDERS, InFolder, events, needs_commands, needs_program
+
+from gcaudit_trace import audit
+from gcaudit_trace.passing import LeftOut
+from heapsnapshot_to_trace.__main__ import main as heapsnapshot_to_trace
+from hprof_to_trace.__main__ import main as hprof_to_trace
+
+
+def run(command, *words):
+    """The status of a command, and what it said on standard error."""
+    said = io.StringIO()
+    with contextlib.redirect_stderr(said):
+        try:
+            status = command(list(words))
+        except SystemExit as end:
+            status = end.code
+    return status, said.getvalue()
+
+
+def dump_java(folder, name, *words):
+    """Runs SessionLeak in a JVM of its own, and dumps its heap."""
+    dump = os.path.join(folder, name + ".hprof")
+    process = subprocess.Popen(["java", "-Xmx256m", "-XX:+UseSerialGC", "-cp", folder, "SessionLeak", *words], stdin=subprocess.PIPE, stdout=subprocess.PIPE)
+    try:
+        if process.stdout.readline().strip() != b"ready":
+            raise AssertionError("the program did not start")
+        subprocess.run(["jcmd", str(process.pid), "GC.heap_dump", dump], stdout=subprocess.PIPE, check=True, timeout=120)
+    finally:
+        process.stdin.close()
+        process.wait(timeout=120)
+        process.stdout.close()
+    return dump
+
+
+class DumpTests:
+    """What both readers of dumps are held to; the classes below say of which dumps."""
+
+    @classmethod
+    def setUpClass(cls):
+        cls.dumps = tempfile.mkdtemp(prefix="gcaudit-test-")
+        cls.addClassCleanup(shutil.rmtree, cls.dumps, ignore_errors=True)
+        cls.leak, cls.clean = cls.make_dumps()
+
+    def assertions(self):
+        named = self.names
+        return ["--dead", named["Ended"], "--limit", named["Config"] + "=1", "--unshared", named["Node"],
+                "--owned-by", "%s=%s" % (named["Box"], named["Item"])]
+
+    def trace_of(self, dump, *words):
+        trace = self.path("trace.jsonl")
+        status, said = run(type(self).convert, dump, trace, *words)
+        self.assertEqual(status, 0, said)
+        return trace, said
+
+    @needs_program
+    def test_leaks_are_found(self):
+        trace, said = self.trace_of(self.leak, *self.assertions())
+        done = audit(trace, PROGRAM)
+        self.assertEqual(done.status, 1)
+        self.assertRegex(done.named, self.path_of_session)
+        self.assertRegex(done.named, r"instances %s limit 1 found 2: root .* \.second -> " % self.pattern("Config"))
+        self.assertRegex(done.named, r"unshared \d+ %s refs 2: root .* \.left -> .* \| root .* \.right -> " % self.pattern("Node"))
+        self.assertRegex(done.named, r"ownedby \d+ %s owner \d+: root " % self.pattern("Item"))
+        self.assertIn("violations 4", done.report)
+        self.assertRegex(said, r"left out: \d+ objects \(")
+
+    @needs_program
+    def test_the_twin_passes(self):
+        trace, said = self.trace_of(self.clean, *self.assertions())
+        self.assertEqual(audit(trace, PROGRAM).status, 0)
+        self.assertIn("no object of the class %s is in the dump" % self.names["Ended"], said)
+
+    @needs_program
+    def test_leaks_are_found_through_what_is_left_out(self):
+        only = [word for name in self.names.values() for word in ("--only", name)]
+        for dump, violations in ((self.leak, 4), (self.clean, 0)):
+            trace, said = self.trace_of(dump, *self.assertions(), *only)
+            self.assertIn("end gcs 1 violations %d" % violations, audit(trace, PROGRAM).report)
+            self.assertIn("of them stay", said)
+
+    def test_all_is_in_the_trace(self):
+        trace, said = self.trace_of(self.clean)
+        found = events(trace)
+        self.assertTrue(any(e["op"] == "set-weak" for e in found))
+        self.assertGreater(len([e for e in found if e["op"] == "root"]), 3)
+        self.assertIn("%d objects" % len([e for e in found if e["op"] == "alloc"]), said)
+
+    def test_a_cut_dump_is_refused(self):
+        with open(self.leak, "rb") as file:
+            whole = file.read()
+        for length in [0, 1, 10, 25, 30, 1000, len(whole) // 3, len(whole) * 2 // 3, len(whole) - 3]:
+            cut = self.path("cut")
+            with open(cut, "wb") as file:
+                file.write(whole[:length])
+            self.refused([cut, self.path("none.jsonl")])
+            self.assertEqual(os.listdir(self.folder), ["cut"])
+
+    def test_what_is_no_dump_is_refused(self):
+        for text in (b"", b"hello", b"\0" * 1000, b"JAVA PROFILE 1.0.9\0" + bytes(100), b"{}", b"[1]", b'{"snapshot":{}}', os.urandom(5000),
+                     b'{"snapshot":{"meta":{"node_fields":["x"]}},"nodes":[1],"edges":[],"strings":[]}', b'{"nodes":[1,2]', b"JAVA PROFILE 1.0.2\0" + bytes(12)):
+            with open(self.path("dump"), "wb") as file:
+                file.write(text)
+            self.refused([self.path("dump"), self.path("none.jsonl")])
+        self.refused([self.path("no such dump"), self.path("none.jsonl")])
+        self.refused([self.folder, self.path("none.jsonl")])
+        self.refused([self.leak, self.path("no/such/folder.jsonl")])
+        self.assertEqual(os.listdir(self.folder), ["dump"])
+
+    def test_wrong_words_are_refused(self):
+        for words in (["--limit", "A"], ["--limit", "A=x"], ["--owned-by", "A"], ["--dead", "A", "--only", "B"],
+                      ["--owned-by", "%s=%s" % (self.names["Node"], self.names["Item"])]):
+            self.refused([self.leak, self.path("none.jsonl"), *words])
+        self.assertEqual(os.listdir(self.folder), [])
+
+    def test_an_old_trace_stays_where_the_dump_is_bad(self):
+        with open(self.path("trace.jsonl"), "w") as file:
+            file.write("old")
+        self.refused([self.folder, self.path("trace.jsonl")])
+        with open(self.path("trace.jsonl")) as file:
+            self.assertEqual(file.read(), "old")
+
+    def refused(self, words):
+        status, said = run(type(self).convert, *words)
+        self.assertEqual(status, 2, said)
+        self.assertRegex(said, r"^(\w+: [^\n]+\n)+$")
+
+    def pattern(self, name):
+        return self.names[name].replace("$", r"\$")
+
+
+@needs_commands("java", "javac", "jcmd")
+class Java(DumpTests, InFolder):
+    convert = staticmethod(hprof_to_trace)
+    names = {name: "SessionLeak$" + full for name, full in
+             dict(Ended="EndedSession", Config="Config", Node="Node", Box="Box", Item="Item", Bus="EventBus", Listener="Listener").items()}
+    path_of_session = (r"dead \d+ SessionLeak\$EndedSession: root .* class SessionLeak \.BUS -> \d+ SessionLeak\$EventBus \.listeners -> "
+                       r"\d+ java\.util\.ArrayList \.elementData -> \d+ java\.lang\.Object\[\] \[0\] -> \d+ SessionLeak\$Listener \.session -> ")
+
+    @classmethod
+    def make_dumps(cls):
+        subprocess.run(["javac", "-d", cls.dumps, os.path.join(PROGRAMS, "SessionLeak.java")], check=True, timeout=300)
+        return dump_java(cls.dumps, "leak", "leak"), dump_java(cls.dumps, "clean", "clean")
+
+    def test_statics_roots_and_weak_references(self):
+        trace, _ = self.trace_of(self.leak)
+        found = events(trace)
+        roots = [e["name"] for e in found if e["op"] == "root"]
+        self.assertTrue(any(name.startswith("class java.lang.") for name in roots), roots[:20])
+        self.assertTrue(any(name.startswith("frame ") and "SessionLeak.main" in name for name in roots), roots)
+        self.assertTrue(any(name.startswith("thread ") for name in roots), roots)
+        ended = next(e["id"] for e in found if e["op"] == "alloc" and e["type"] == "SessionLeak$EndedSession")
+        weak = {(e["at"], e["slot"]) for e in found if e["op"] == "set-weak" and e["weak"]}
+        held = [(e["at"], e["slot"]) in weak for e in found if e["op"] == "store" and e["to"] == ended]
+        self.assertEqual(sorted(held), [False, True, True])  # by the listener, by WeakReference and SoftReference
+
+    @needs_program
+    def test_100000_objects_and_the_limit(self):
+        dump = dump_java(self.dumps, "many", "leak", "60000")
+        trace, _ = self.trace_of(dump, "--dead", "SessionLeak$EndedSession", "--without", "java.lang.String", "--without", "java.lang.Integer")
+        done = audit(trace, PROGRAM)
+        self.assertEqual(done.status, 1)
+        self.assertGreater(int(done.report.split()[3]), 100000)
+        os.unlink(dump)
+
+    def test_more_objects_than_gcaudit_takes(self):
+        from gcaudit_trace import dumps
+        self.addCleanup(setattr, dumps, "MOST_OBJECTS", dumps.MOST_OBJECTS)
+        dumps.MOST_OBJECTS = 1000
+        status, said = run(hprof_to_trace, self.leak, self.path("none.jsonl"))
+        self.assertEqual(status, 2)
+        self.assertRegex(said, r"\d+ objects would be kept, and gcaudit takes 1000; leave some out .* Most are of: java\.lang\.String \d+")
+
+
+@needs_commands("node")
+class Node(DumpTests, InFolder):
+    convert = staticmethod(heapsnapshot_to_trace)
+    names = dict(Ended="EndedSession", Config="Config", Node="TreeNode", Box="Box", Item="Item")
+    path_of_session = (r"dead \d+ EndedSession: root .* \.bus -> \d+ EventBus \.listeners -> \d+ Array \[0\] -> \d+ function listener "
+                       r"\(context\) -> \d+ system / Context \(variable session\) -> \d+ EndedSession")
+
+    @classmethod
+    def make_dumps(cls):
+        found = []
+        for kind in ("leak", "clean"):
+            found.append(os.path.join(cls.dumps, kind + ".heapsnapshot"))
+            subprocess.run(["node", os.path.join(PROGRAMS, "session_leak.js"), kind, found[-1]], check=True, timeout=300,
+                           stdout=subprocess.PIPE)
+        return found
+
+    def test_a_weak_reference_is_a_weak_slot(self):
+        trace, _ = self.trace_of(self.leak)
+        found = events(trace)
+        ended = next(e["id"] for e in found if e["op"] == "alloc" and e["type"] == "EndedSession")
+        weak = {(e["at"], e["slot"]) for e in found if e["op"] == "set-weak"}
+        self.assertTrue([e for e in found if e["op"] == "store" and e["to"] == ended and (e["at"], e["slot"]) in weak])
+
+
+def written_hprof(id_code, names, control="\n"):
+    """A dump as the format describes it: one root, a chain of objects of the classes named, and a circle at its end."""
+    def one(number):
+        return struct.pack(">" + id_code, number)
+    def record(tag, body):
+        return struct.pack(">BII", tag, 0, len(body)) + body
+    out = b"JAVA PROFILE 1.0.2\0" + struct.pack(">IQ", struct.calcsize(">" + id_code), 0)
+    out += record(1, one(1) + ("next" + control).encode())
+    for at, name in enumerate(names):
+        out += record(1, one(100 + at) + name.encode("utf-8", "surrogatepass"))
+        out += record(2, struct.pack(">I", at + 1) + one(1000 + at) + struct.pack(">I", 0) + one(100 + at))
+    heap = b""
+    for at in range(len(names)):
+        heap += b"\x20" + one(1000 + at) + struct.pack(">I", 0) + one(0) * 6 + struct.pack(">IHHH", 8, 0, 0, 1) + one(1) + b"\x02"
+    for at in range(len(names)):
+        following = 2000 + (at + 1 if at + 1 < len(names) else at)
+        data = one(following)
+        heap += b"\x21" + one(2000 + at) + struct.pack(">I", 0) + one(1000 + at) + struct.pack(">I", len(data)) + data
+    heap += b"\x23" + one(5000) + struct.pack(">IIB", 0, 3, 5) + bytes(6)
+    heap += b"\xff" + one(2000)
+    return out + record(0x1C, heap) + record(0x2C, b"")
+
+
+def written_snapshot():
+    """A snapshot of four nodes, with names that have all that a JSON text may have."""
+    meta = {"node_fields": ["type", "name", "id", "self_size", "edge_count"], "node_types": [["hidden", "object", "synthetic"], "string"],
+            "edge_fields": ["type", "name_or_index", "to_node"], "edge_types": [["element", "property", "weak"], "string_or_number", "node"]}
+    return {"snapshot": {"meta": meta, "x": "]}\"\\"}, "nodes": [2, 0, 1, 0, 1, 1, 1, 3, 0, 2, 1, 2, 5, 0, 1, 1, 3, 7, 0, 0],
+            "edges": [0, 7, 5, 1, 3, 10, 2, 4, 15, 1, 4, 15], "other": [{"a": "]"}, "}", 1.5, None],
+            "strings": ["", "A\\\"]", "long" * 200, "é\u2028\U0001f600\n", "B"], "last": 5}
+
+
+class WrittenDumps(InFolder):
+    """Dumps that no program made, for what programs seldom do."""
+
+    def test_names_and_identifiers_of_both_sizes(self):
+        names = ["a/" + "N" * 300, "a/" + "N" * 301, "bad\x01\x7f\nname", "é" * 300, ""]
+        for code in "IQ":
+            with open(self.path("dump"), "wb") as file:
+                file.write(written_hprof(code, names))
+            trace = self.path("trace.jsonl")
+            status, said = run(hprof_to_trace, self.path("dump"), trace, "--dead", "a." + "N" * 301)
+            self.assertEqual(status, 0, said)
+            kinds = {e["type"] for e in events(trace) if e["op"] == "alloc"}
+            self.assertEqual(len(kinds), 10)
+            self.assertTrue(all(1 <= len(kind.encode()) <= 256 and kind.isprintable() for kind in kinds))
+            if PROGRAM:
+                done = audit(trace, PROGRAM)
+                self.assertEqual(done.status, 1)
+                self.assertIn(r".next\x0a -> ", done.named)
+
+    def test_references_go_on_through_what_is_left_out(self):
+        with open(self.path("dump"), "wb") as file:
+            file.write(written_hprof("I", ["kept/A", "out/B", "out/C", "kept/D"]))
+        trace = self.path("trace.jsonl")
+        self.assertEqual(run(hprof_to_trace, self.path("dump"), trace, "--only", "kept.")[0], 0)
+        stores = [(e["at"], e["to"], e["label"]) for e in events(trace) if e["op"] == "store"]
+        first, last = (next(e["id"] for e in events(trace) if e.get("type") == name) for name in ("kept.A", "kept.D"))
+        self.assertEqual(stores, [(first, last, ".next\n (over 2 left out)"), (last, last, ".next\n")])
+
+    def test_a_record_that_is_not_known(self):
+        whole = written_hprof("I", ["A"]).replace(b"\xff" + struct.pack(">I", 2000), b"\x99" + struct.pack(">I", 2000))
+        with open(self.path("dump"), "wb") as file:
+            file.write(whole)
+        status, said = run(hprof_to_trace, self.path("dump"), self.path("none.jsonl"))
+        self.assertEqual((status, os.listdir(self.folder)), (2, ["dump"]))
+        self.assertIn("has a record in its heap that is not known (0x99 ", said)
+
+    def test_snapshot_in_odd_pieces(self):
+        from heapsnapshot_to_trace import reader
+        self.addCleanup(setattr, reader, "PIECE", reader.PIECE)
+        snapshot = written_snapshot()
+        for ascii_alone in (True, False):
+            for indent in (None, 1):
+                for piece in (1, 2, 3, 7, 1000):
+                    reader.PIECE = piece
+                    with open(self.path("dump"), "w", encoding="utf-8") as file:
+                        json.dump(snapshot, file, ensure_ascii=ascii_alone, indent=indent)
+                    trace = self.path("trace.jsonl")
+                    status, said = run(heapsnapshot_to_trace, self.path("dump"), trace)
+                    self.assertEqual(status, 0, said)
+                    found = events(trace)
+                    kinds = [e["type"] for e in found if e["op"] == "alloc"]
+                    self.assertEqual((kinds[0], kinds[2]), ('A\\"]', "é\u2028\U0001f600\\x0a"))
+                    self.assertEqual(len([e for e in found if e["op"] == "store"]), 3)
+                    self.assertEqual([e["weak"] for e in found if e["op"] == "set-weak"], [True])
+
+    def test_damaged_snapshots(self):
+        for change in (lambda s: s["edges"].pop(), lambda s: s["nodes"].append(1), lambda s: s["nodes"].__setitem__(0, 99),
+                       lambda s: s["nodes"].__setitem__(1, -1), lambda s: s["nodes"].__setitem__(4, "x"), lambda s: s["nodes"].__setitem__(4, 2),
+                       lambda s: s["edges"].__setitem__(0, 9), lambda s: s["edges"].__setitem__(2, 20), lambda s: s["snapshot"]["meta"]["node_fields"].remove("edge_count"),
+                       lambda s: s.pop("nodes"), lambda s: s.pop("strings"), lambda s: s.update(nodes={}), lambda s: s.update(strings=[1])):
+            snapshot = written_snapshot()
+            change(snapshot)
+            with open(self.path("dump"), "w") as file:
+                json.dump(snapshot, file)
+            status, said = run(heapsnapshot_to_trace, self.path("dump"), self.path("none.jsonl"))
+            self.assertEqual((status, os.listdir(self.folder)), (2, ["dump"]), said)
+
+    def test_circles_of_left_out_objects(self):
+        kept = {1: 1, 2: 2}
+        left = LeftOut(kept)
+        for key in (10, 11, 12, 13, 14):
+            left.add(key)
+        for targets in ([11], [10, 2, 99], [13], [12], [1, 10]):    # 12 and 13 lead to nothing that is kept
+            left.holds(targets)
+        left.refer([10, 12, 14])
+        stay = left.settle()
+        self.assertEqual(stay, [(10, 3)])
+        self.assertEqual(list(left.beyond(10)), [(3, 0)])
+        self.assertEqual(list(left.contents(10)), [(3, 1), (2, 1)])
+        self.assertEqual(list(left.beyond(12)), [])
+        self.assertEqual(sorted(left.beyond(14)), [(1, 1), (3, 1)])
+
+
+class Commands(unittest.TestCase):
+    def test_help(self):
+        for module in ("gcaudit_trace", "hprof_to_trace", "heapsnapshot_to_trace"):
+            done = subprocess.run([sys.executable, "-m", module, "--help"], cwd=RECORDERS, stdout=subprocess.PIPE)
+            self.assertEqual(done.returncode, 0)
+            self.assertIn(b"usage: ", done.stdout)
+
+
+if __name__ == "__main__":
+    unittest.main()

@@ -1,0 +1,484 @@
+"""The Python recorder inside real programs: each leak is found with its path, and the twin without it passes."""
+import contextlib
+import gc
+import io
+import os
+import sys
+import types
+import unittest
+import weakref
+
+from tests.support import PROGRAM, InFolder, events, needs_program
+from tests.programs import service
+
+from gcaudit_recorder import HeapViolation, Recorder, TraceError, audited
+
+
+class App:
+    def __init__(self, **attributes):
+        self.__dict__.update(attributes)
+
+
+class Node:
+    def __init__(self, *children):
+        self.children = list(children)
+
+
+class Entry:
+    def __init__(self, value=None):
+        self.value = value
+
+
+class Cache:
+    def __init__(self, limit):
+        self.limit = limit
+        self.entries = {}
+
+    def put(self, key, evict):
+        if evict and len(self.entries) >= self.limit:
+            del self.entries[next(iter(self.entries))]
+        self.entries[key] = Entry(key)
+
+
+class Config:
+    pass
+
+
+class Slotted:
+    """Without __weakref__ and without __dict__."""
+    __slots__ = ("next", "note")
+
+    def __init__(self, next=None):
+        self.next = next
+
+
+def at_address(make, address, made):
+    """An object at an address that was just freed, where one comes to lie there. The list keeps what came before it."""
+    for _ in range(2000):
+        made.append(make())
+        if id(made[-1]) == address:
+            break
+    return made[-1]
+
+
+def report_of(leaky):
+    """The named report of a violation, or None where there is none."""
+    try:
+        leaky()
+    except HeapViolation as violation:
+        return violation.named
+    return None
+
+
+@needs_program
+class Leaks(InFolder):
+    def audited(self, **roots):
+        return audited(roots, self.path("trace.jsonl"), PROGRAM)
+
+    def test_service_keeps_ended_sessions(self):
+        def day(keeps):
+            server = service.Service(keeps)
+            with self.audited(service=server) as recorder:
+                server.ended = recorder.assert_dead
+                service.serve_a_day(server)
+                server.ended = None
+        report = report_of(lambda: day(True))
+        self.assertRegex(report, r"gc 1 dead \d+ tests\.programs\.service\.Session: root service -> \d+ tests\.programs\.service\.Service"
+                                 r" \.bus -> \d+ tests\.programs\.service\.EventBus \.listeners -> \d+ list \[0\] -> \d+ method \.__self__ -> ")
+        self.assertIn("violations 1", report)
+        self.assertIsNone(report_of(lambda: day(False)))
+
+    def test_cache_outgrows_its_limit(self):
+        def fill(evict):
+            cache = Cache(10)
+            with self.audited(cache=cache) as recorder:
+                recorder.assert_instances(Entry, cache.limit)
+                for key in range(30):
+                    cache.put("key%d" % key, evict)
+        report = report_of(lambda: fill(False))
+        self.assertRegex(report, r"instances tests\.test_python\.Entry limit 10 found 30: root cache -> 1 \S+ \.entries -> \d+ dict \['key10'\] -> ")
+        self.assertIsNone(report_of(lambda: fill(True)))
+
+    def test_doubled_singleton(self):
+        def start(doubled):
+            app = App(config=Config(), plugins={})
+            app.plugins["mail"] = App(config=Config() if doubled else app.config)
+            with self.audited(app=app) as recorder:
+                recorder.assert_instances(Config, 1)
+        report = report_of(lambda: start(True))
+        self.assertRegex(report, r"Config limit 1 found 2: root app -> \d+ \S+App \.plugins -> \d+ dict \['mail'\] -> .* \.config -> ")
+        self.assertIsNone(report_of(lambda: start(False)))
+
+    def test_element_kept_past_its_container(self):
+        def run(kept):
+            class Box:
+                pass
+            app, box, item = App(), Box(), Entry()
+            app.box, app.recent, box.item = box, [], item
+            with self.audited(app=app) as recorder:
+                recorder.assert_owned_by(box, item)
+                recorder.collect()
+                if kept:
+                    app.recent.append(item)
+                del app.box, box, item
+        report = report_of(lambda: run(True))
+        self.assertRegex(report, r"gc 2 ownedby \d+ \S+Entry owner \d+: root app -> 1 \S+App \.recent -> \d+ list \[0\] -> ")
+        self.assertIsNone(report_of(lambda: run(False)))
+
+    def test_element_held_beside_its_container(self):
+        class Box:
+            pass
+        app, box, item = App(), Box(), Entry()
+        app.box, app.recent, box.item = box, [item], item
+        with self.audited(app=app) as recorder:  # reached by the owner too: no violation
+            recorder.assert_owned_by(box, item)
+        del box.item
+        with self.assertRaises(HeapViolation):
+            with self.audited(app=app) as recorder:
+                recorder.assert_owned_by(box, item)
+
+    def test_owner_that_died_before_the_first_collection(self):
+        app, item = App(), Entry()
+        app.item, box = item, Entry(item)
+        with self.assertRaisesRegex(HeapViolation, r"ownedby \d+ \S+Entry owner \d+"):
+            with self.audited(app=app) as recorder:
+                recorder.assert_owned_by(box, item)
+                del box
+
+    def test_shared_nodes_of_a_tree(self):
+        def grow(shared):
+            leaf = Node()
+            tree = Node(Node(leaf), Node(leaf if shared else Node()))
+            with self.audited(tree=tree) as recorder:
+                recorder.assert_unshared(leaf)
+        report = report_of(lambda: grow(True))
+        self.assertRegex(report, r"unshared \d+ \S+Node refs 2: root tree -> .* \[0\] -> \d+ \S+Node \.children -> \d+ list \[0\] -> \d+ \S+Node \| root tree")
+        self.assertIsNone(report_of(lambda: grow(False)))
+
+    def test_region(self):
+        def serve(leaks):
+            log = []
+            with audited({"app": App(log=log)}, self.path("trace.jsonl"), PROGRAM) as recorder:
+                pass
+            app = App(log=log, old={"n": 1})
+            with self.audited(app=app) as recorder:
+                with recorder.region():
+                    request = {"user": "ada", "body": bytearray(10)}
+                    app.old["now tracked"] = app  # an old dict that begins to hold an object is not new
+                    if leaks:
+                        log.append(request)
+                    del request
+        report = report_of(lambda: serve(True))
+        self.assertRegex(report, r"dead \d+ dict: root app -> \d+ \S+App \.log -> \d+ list \[0\] -> ")
+        self.assertIn("violations 2", report)
+        self.assertIsNone(report_of(lambda: serve(False)))
+
+    def test_region_with_a_dict_of_plain_values(self):
+        app = App(log=[])
+        with self.assertRaisesRegex(HeapViolation, r"\.log -> \d+ list \[0\] -> \d+ dict"):
+            with self.audited(app=app) as recorder:
+                with recorder.region():
+                    app.log.append({"n": 1})
+
+    def test_regions_within_each_other(self):
+        app = App(log=[])
+        with self.assertRaisesRegex(HeapViolation, "violations 2"):
+            with self.audited(app=app) as recorder:
+                with recorder.region():
+                    app.log.append(Entry())
+                    with recorder.region():
+                        app.log.append(Entry())
+                        recorder.collect()
+
+    def test_weak_slots_keep_nothing_alive(self):
+        item = Entry()
+        app = App(ref=weakref.ref(item), proxy=weakref.proxy(item), cache=weakref.WeakValueDictionary(a=item))
+        with self.audited(app=app) as recorder:
+            recorder.assert_dead(item)
+            recorder.collect()
+            del item
+        self.assertEqual([e["weak"] for e in events(self.path("trace.jsonl")) if e["op"] == "set-weak"][:1], [True])
+
+    def test_dead_again_after_it_was_unreached(self):
+        app, item = App(items=[]), Entry()
+        with self.assertRaisesRegex(HeapViolation, "gc 2 dead"):
+            with self.audited(app=app) as recorder:
+                recorder.assert_dead(item)
+                recorder.collect()
+                app.items.append(item)
+
+    def test_paths_through_functions_and_generators(self):
+        def generate(held):
+            yield
+            return held
+        item, other = Entry(), Entry()
+        waiting = generate(other)
+        next(waiting)
+        app = App(callback=lambda: item, waiting=waiting)
+        with self.assertRaises(HeapViolation) as caught:
+            with self.audited(app=app) as recorder:
+                recorder.assert_dead(item)
+                recorder.assert_dead(other)
+        self.assertRegex(caught.exception.named, r"\.callback -> \d+ function \(variable item\) -> \d+ cell \.cell_contents -> ")
+        self.assertRegex(caught.exception.named, r"\.waiting -> \d+ generator \(local\) -> ")
+
+    def test_a_class_and_a_module_as_roots(self):
+        class Registry:
+            entries = [Entry()]
+        module = types.ModuleType("settings")
+        module.entry = Entry()
+        with self.assertRaises(HeapViolation) as caught:
+            with self.audited(registry=Registry, settings=module) as recorder:
+                recorder.assert_dead(Registry.entries[0])
+                recorder.assert_dead(module.entry)
+        self.assertRegex(caught.exception.named, r"root registry -> \d+ type \.entries -> \d+ list \[0\] -> ")
+        self.assertRegex(caught.exception.named, r"root settings -> \d+ module \.entry -> ")
+
+
+class Traces(InFolder):
+    """What a trace says, and that gcaudit refuses no line of it."""
+
+    def setUp(self):
+        super().setUp()
+        self.trace = self.path("trace.jsonl")
+
+    def recorder(self, **roots):
+        return Recorder(self.trace, roots)
+
+    def clean(self, recorder):
+        recorder.close()
+        if PROGRAM:
+            return Recorder.check(recorder, PROGRAM)
+
+    def ids_of(self, type_end):
+        return [e["id"] for e in events(self.trace) if e["op"] == "alloc" and e["type"].endswith(type_end)]
+
+    def test_long_names_and_control_characters(self):
+        long = [type("C" * 300 + end, (), {})() for end in "ab"]
+        odd = type("bad\x01\x7f\nname", (), {})()
+        holder = Entry({"k" * 300: long, "\x00\x1b[31m\ud800": odd, "é" * 300: Entry()})
+        recorder = self.recorder(**{"r" * 300: holder, "r" * 299 + "\n": long[0], "": odd})
+        setattr(holder, "x" * 300, Entry())
+        setattr(holder, "y\n\x00", Entry())
+        recorder.assert_instances(type(long[0]), 1)
+        self.clean(recorder)
+        names = [e["type"] for e in events(self.trace) if e["op"] == "alloc"]
+        self.assertEqual(len([n for n in set(names) if "CCCC" in n]), 2)
+        for name in names + [e["name"] for e in events(self.trace) if e["op"] == "root"]:
+            self.assertTrue(1 <= len(name.encode()) <= 256 and name.isprintable(), name)
+        self.assertEqual(len([e for e in events(self.trace) if e["op"] == "root"]), 3)
+
+    def test_100000_objects(self):
+        first = None
+        for _ in range(50000):
+            first = Slotted(first)
+        chain = Entry([first, [Entry() for _ in range(50000)]])
+        recorder = self.recorder(chain=chain)
+        recorder.collect()
+        chain.value[1].append(Entry())
+        recorder.collect()
+        report = self.clean(recorder)
+        if report:
+            self.assertRegex(report, r"gc 1 live 10000\d traced 10000\d freed 0\n")
+
+    def test_cycles(self):
+        one, two = Entry(), Slotted()
+        one.value, two.next, two.note = two, one, two
+        recorder = self.recorder(one=one)
+        recorder.collect()
+        self.clean(recorder)
+        self.assertEqual(len([e for e in events(self.trace) if e["op"] == "alloc"]), 2)
+
+    def test_ids_stay_while_objects_live(self):
+        items = [Entry() for _ in range(5)]
+        pinned = Slotted()
+        app = App(items=items, slotted=Slotted(items[0]), pinned=pinned)
+        recorder = self.recorder(app=app)
+        recorder.assert_unshared(pinned)
+        for _ in range(3):
+            recorder.collect()
+        self.clean(recorder)
+        self.assertEqual(len(self.ids_of("Entry")), 5)
+        self.assertEqual(len(self.ids_of("Slotted")), 2)
+        self.assertEqual(len(self.ids_of("list")), 1)
+
+    def test_addresses_used_again(self):
+        for make in (Entry, Slotted, lambda: Slotted([]), lambda: [1], dict):
+            recorder = self.recorder()
+            app = App()
+            recorder.root("app", app)
+            again = 0
+            for _ in range(6):
+                app.item = make()
+                address = id(app.item)
+                recorder.collect()
+                made = []
+                app.item = None
+                app.item = at_address(make, address, made)
+                again += id(app.item) == address
+                recorder.collect()
+                app.item = None
+            self.clean(recorder)
+            ids = [e["to"] for e in events(self.trace) if e["op"] == "store" and e.get("label") == ".item" and e["to"]]
+            self.assertEqual(len(set(ids)), 12)
+            if sys.implementation.name == "cpython":
+                self.assertGreater(again, 0)
+
+    def test_address_used_again_under_an_assertion(self):
+        app = App(item=Slotted())
+        recorder = self.recorder(app=app)
+        for _ in range(10):
+            recorder.assert_dead(app.item)
+            app.item = None
+            recorder.collect()
+            app.item = Slotted()
+        self.clean(recorder)  # the new ones are not dead
+
+    def test_a_dict_as_root_is_replaced(self):
+        recorder = self.recorder()
+        for _ in range(10):
+            recorder.root("table", {"a": Entry()})
+            recorder.collect()
+        self.clean(recorder)
+        self.assertEqual(len(set(self.ids_of("dict"))), 10)
+
+    def test_contents_that_grow_and_shrink(self):
+        app = App(items=[])
+        recorder = self.recorder(app=app)
+        for count in (0, 1, 2, 3, 4, 5, 9, 40, 200, 3, 1000, 0, 50):
+            app.items[:] = [weakref.ref(app) if n % 3 else Entry() for n in range(count)]
+            recorder.collect()
+        recorder.assert_dead(app.items[0])
+        self.assertEqual(recorder._known[id(app)].number, 1)
+        recorder.close()
+        if PROGRAM:
+            with self.assertRaisesRegex(HeapViolation, r"\.items -> \d+ list \[0\] -> "):
+                recorder.check(PROGRAM)
+
+    @needs_program
+    def test_path_through_further_slots(self):
+        app = App(items=[])
+        recorder = self.recorder(app=app)
+        recorder.collect()
+        app.items += [Entry() for _ in range(100)]
+        recorder.assert_dead(app.items[99])
+        with self.assertRaisesRegex(HeapViolation, r"\.items -> \d+ list \[99\] -> \d+ \S+Entry\n"):
+            recorder.check(PROGRAM)
+
+    def test_keeps_nothing_alive(self):
+        app = App(items=[Entry(), Slotted(Entry())])
+        recorder = self.recorder(app=app)
+        watched = [weakref.ref(app.items[0]), weakref.ref(app.items[1].next), weakref.ref(app)]
+        recorder.assert_unshared(app.items[0])
+        with recorder.region():
+            app.items.append([Entry()])
+            inner = weakref.ref(app.items[2][0])
+            recorder.collect()
+            app.items.clear()
+            self.assertEqual([w() for w in watched[:2]], [None, None])
+        del app
+        gc.collect()
+        self.assertEqual([w() for w in watched] + [inner()], [None] * 4)
+        self.clean(recorder)
+
+    def test_holds_what_has_no_weak_references_until_it_is_not_found(self):
+        inner = Entry()
+        app = App(item=Slotted(inner))
+        recorder = self.recorder(app=app)
+        recorder.assert_unshared(app.item)
+        recorder.collect()
+        app.item, inner = None, weakref.ref(inner)
+        self.assertIsNotNone(inner())
+        recorder.collect()
+        self.assertIsNone(inner())
+        self.clean(recorder)
+
+    def test_nothing_of_the_program_runs(self):
+        class Touchy:
+            def __getattribute__(self, name):
+                raise AssertionError("touched")
+            __eq__ = __hash__ = __repr__ = __bool__ = __len__ = __iter__ = lambda self, *other: 1 / 0
+        class Table(dict):
+            __getitem__ = __iter__ = items = keys = values = lambda self, *other: 1 / 0
+        touchy = Touchy()
+        app = App(table=Table(a=touchy), items=[touchy])
+        recorder = self.recorder(app=app)
+        recorder.collect()
+        self.clean(recorder)
+        self.assertEqual(len(self.ids_of("Touchy")), 1)
+
+    def test_other_containers(self):
+        import collections, functools, threading, itertools
+        entry = Entry()
+        values = [collections.deque([entry]), collections.OrderedDict(a=entry), collections.defaultdict(list, a=[entry]),
+                  {entry}, frozenset([entry]), functools.partial(print, entry), itertools.chain([entry]), threading.Lock(),
+                  ValueError(entry), memoryview(bytearray(5)), collections.ChainMap({"a": entry}), {(1, "a"): entry, entry: 1},
+                  collections.namedtuple("Pair", "a b")(entry, 1), property(lambda self: entry), object(), [].append]
+        app = App(values=values)
+        recorder = self.recorder(app=app)
+        recorder.collect()
+        self.clean(recorder)
+        number = self.ids_of("test_python.Entry")[0]
+        self.assertGreaterEqual(len([e for e in events(self.trace) if e["op"] == "store" and e["to"] == number]), 13)
+
+    def test_no_partial_file(self):
+        with contextlib.suppress(ZeroDivisionError):
+            with self.recorder() as recorder:
+                recorder.collect()
+                1 / 0
+        self.assertEqual(os.listdir(self.folder), [])
+
+    def test_a_file_that_was_there_stays_where_the_block_raises(self):
+        with open(self.trace, "w") as file:
+            file.write("old")
+        with contextlib.suppress(ZeroDivisionError):
+            with self.recorder():
+                1 / 0
+        with open(self.trace) as file:
+            self.assertEqual(file.read(), "old")
+
+    def test_open_file(self):
+        text = io.StringIO()
+        entry = Entry()
+        with Recorder(text, {"a": entry}):
+            pass
+        self.assertEqual(text.getvalue().count("\n"), 3)
+
+    def test_what_is_refused(self):
+        recorder = self.recorder()
+        for wrong in (lambda: recorder.assert_dead("text"), lambda: recorder.assert_dead(Entry), lambda: recorder.root("r", 5),
+                      lambda: recorder.assert_instances("Entry", 1), lambda: recorder.assert_instances(Entry, -1),
+                      lambda: recorder.assert_instances(str, 1), lambda: recorder.assert_dead(recorder)):
+            self.assertRaises(TraceError, wrong)
+        entry = Entry()
+        self.assertRaises(TraceError, lambda: recorder.assert_owned_by(entry, entry))
+        recorder.close()
+        self.assertRaises(TraceError, recorder.collect)
+        self.assertRaises(TraceError, lambda: recorder.check("/no/such/gcaudit"))
+        self.assertRaises(TraceError, lambda: Recorder(self.path("no/such/folder")))
+
+
+@needs_program
+class Plugin(InFolder):
+    def test_fixture(self):
+        try:
+            import pytest
+        except ImportError:
+            self.skipTest("pytest is not there")
+        import subprocess
+        from tests.support import RECORDERS
+        with open(self.path("test_it.py"), "w") as file:
+            file.write("class Thing: pass\n"
+                       "def check(heap, kept):\n    app, thing = Thing(), Thing()\n    app.thing = thing if kept else None\n"
+                       "    heap.root('app', app)\n    heap.assert_dead(thing)\n    del thing\n    return app\n"
+                       "def test_leak(heap):\n    global kept\n    kept = check(heap, True)\n"
+                       "def test_none(heap):\n    global kept\n    kept = check(heap, False)\n")
+        run = subprocess.run([sys.executable, "-m", "pytest", "-p", "gcaudit_recorder.pytest_plugin", "--gcaudit", PROGRAM, "test_it.py"],
+                             cwd=self.folder, stdout=subprocess.PIPE, env=dict(os.environ, PYTHONPATH=RECORDERS))
+        said = run.stdout.decode()
+        self.assertIn("1 failed, 1 passed", said)
+        self.assertIn("root app -> 1 test_it.Thing .thing -> 2 test_it.Thing", said)
+
+
+if __name__ == "__main__":
+    unittest.main()
