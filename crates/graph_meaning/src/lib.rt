@@ -8,6 +8,7 @@ mod examples;
 mod laws;
 mod lists;
 mod paths;
+mod reaction;
 mod refusal;
 mod roles;
 mod shown_paths;
@@ -47,6 +48,7 @@ pub use laws::{
 };
 pub use lists::Sequence;
 pub use paths::{PathFrom, PathStep, PathView, Shown, StepList};
+pub use reaction::React;
 pub use refusal::{FieldName, Refusal, Stop};
 pub use roles::{OwnerRole, Roles};
 pub use shown_paths::is_path;
