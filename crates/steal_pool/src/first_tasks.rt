@@ -64,4 +64,9 @@ impl FirstTasks {
     {
         self.lists[worker as usize].as_slice()
     }
+
+    /// How many workers have a task.
+    pub(crate) fn busy(&self) -> usize {
+        self.lists.iter().filter(|list| !list.is_empty()).count()
+    }
 }

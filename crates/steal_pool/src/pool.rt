@@ -17,7 +17,7 @@ use crate::lending::lend_all;
 use crate::place::{Count, Place};
 use crate::queue::Queue;
 use crate::returning::take_back_all;
-use crate::running::{finish_all, run_all};
+use crate::running::{finish_all, run_all, threads_for};
 use crate::seating::{begin_all, seat_jobs, unseat_jobs};
 use crossbeam_utils::CachePadded;
 use heap_base::{Gate, OutOfMemory};
@@ -123,23 +123,24 @@ fn run_on<R: Threads + Sync, S: Sync, J: Job<S> + Send + Drop, G: Gate>(
     rt: &R,
     shared: &S,
     places: &mut [CachePadded<Place<J>>],
-    _room: u64,
+    room: u64,
     jobs: &mut Vec<J>,
     first: &FirstTasks,
     gate: &G,
 )
-    requires { CanRun J.meaning shared.now (places.old, _room) (jobs.old.items, first.now.lists) }
+    requires { CanRun J.meaning shared.now (places.old, room) (jobs.old.items, first.now.lists) }
     ensures ran { Run J.meaning shared.now first.now.lists jobs.old.items jobs.new.items }
     ensures ready { AreReady J.meaning shared.now jobs.new.items }
     ensures same_fit { ShareFit J.meaning shared.now (fit_tasks J.meaning shared.now jobs.old.items) jobs.new.items }
     ensures turns { TurnsLast J.meaning (most_tasks J.meaning jobs.old.items first.now.lists) jobs.old.items jobs.new.items }
     ensures count { length places.new ≡ length places.old }
-    ensures rest { All (λ p. IsAtRest (length places.old) _room (padded_value p)) places.new }
+    ensures rest { All (λ p. IsAtRest (length places.old) room (padded_value p)) places.new }
 {
     seat_jobs(jobs, places);
     begin_all(places, shared, first, 0);
     lend_all(places);
-    run_all(rt, shared, places, gate);
+    let threads = threads_for(first, places.len(), room);
+    run_all(rt, shared, places, threads, gate);
     take_back_all(places);
     finish_all(places, shared, gate);
     unseat_jobs(jobs, places);

@@ -1,5 +1,6 @@
 //! All workers at the same time, and then the caller.
-ghost use Rattle.std.specs.Prelude.{◌≡◌, ℕ, ◌<◌, length, slice_index_or};
+ghost use Rattle.std.specs.Prelude.{◌≡◌, ℕ, ◌<◌, ◌≤◌, length, slice_index_or};
+ghost use Rattle.steal_pool.specs.declared.working.TheConstants.{PATIENCE};
 ghost use Rattle.std.specs.List.{All, AllByRecursion};
 ghost use Rattle.crossbeam_utils.specs.Padded.{padded_value};
 ghost use Rattle.steal_pool.specs.Lanes.{own_hand, HasTakenFew};
@@ -7,41 +8,71 @@ ghost use Rattle.steal_pool.specs.Lists.{Each};
 ghost use Rattle.steal_pool.specs.Places.{MayStart, MayFinish, FinishesWork};
 ghost use Rattle.steal_pool.specs.Workers.{EndsWork};
 
+use crate::first_tasks::FirstTasks;
 use crate::job::Job;
 use crate::place::Place;
+use crate::working::PATIENCE;
 use crossbeam_utils::CachePadded;
 use heap_base::Gate;
 use std::thread;
 use std::thread::Threads;
 
-fn run_place<S: Sync, J: Job<S>, G: Gate>(place: &mut CachePadded<Place<J>>, shared: &S, gate: &G)
-    requires { MayStart J.meaning shared.now (padded_value place.old) }
+/// How many tasks a run may have for each thread that is started though no worker begins with a task on it: to start one costs
+/// about as much as to do so many.
+const TASKS_A_THREAD: u64 = 500;
+
+/// How many threads pay for a run that has at most `room` tasks at a worker: one for each worker that begins with a task, and one for
+/// each `TASKS_A_THREAD` tasks, at most one for each worker. Workers that share a thread take their turns one after another.
+pub fn threads_for(first: &FirstTasks, workers: usize, room: u64) -> usize
+    requires { 0 < workers }
+    ensures { 0 < result }
+{
+    let long_run = (room / TASKS_A_THREAD) as usize;
+    first.busy().max(long_run).clamp(1, workers)
+}
+
+fn run_place<S: Sync, J: Job<S>, G: Gate>(
+    place: &mut CachePadded<Place<J>>,
+    shared: &S,
+    patience: u32,
+    gate: &G,
+)
+    requires may { MayStart J.meaning shared.now (padded_value place.old) }
+    requires patience { patience ≤ PATIENCE }
     ensures { EndsWork J.meaning shared.now (padded_value place.old) (padded_value place.new) }
 {
     let place: &mut Place<J> = place;
-    place.work_until_idle(shared, gate);
+    place.work_until_idle(shared, patience, gate);
 }
 
-/// Each worker does tasks until it was idle long enough.
+// How many idle turns in a row a worker makes before it stops. On one thread nobody offers a task while another waits for it.
+fn patience_for(threads: usize) -> u32
+    ensures { result ≤ PATIENCE }
+{
+    if threads == 1 { 1 } else { PATIENCE }
+}
+
+/// Each worker does tasks until it was idle long enough, in so many threads.
 pub fn run_all<R: Threads + Sync, S: Sync, J: Job<S> + Send, G: Gate>(
     rt: &R,
     shared: &S,
     places: &mut [CachePadded<Place<J>>],
+    threads: usize,
     gate: &G,
 )
-    requires some { 0 < length places.old }
+    requires threads { 0 < threads }
     requires able { All (λ p. MayStart J.meaning shared.now (padded_value p)) places.old }
     ensures { (i : ℕ) (d : _) → i < length places.old → EndsWork J.meaning shared.now (padded_value (slice_index_or places.old i d)) (padded_value (slice_index_or places.new i d)) }
 {
-    let threads = places.len();
+    let patience = patience_for(threads);
     thread::for_each_mut(
         rt,
         places,
         threads,
         &|_, place: &mut CachePadded<Place<J>>|
-            requires { MayStart J.meaning shared.now (padded_value place.old) }
+            requires { MayStart J.meaning shared.now (padded_value place.old) × (patience ≤ PATIENCE) }
             ensures { EndsWork J.meaning shared.entry.now (padded_value place.old) (padded_value place.new) }
-        { run_place(place, shared, gate) },
+        { run_place(place, shared, patience, gate) },
     );
 }
 

@@ -402,3 +402,39 @@ fn a_worker_goes_on_while_another_is_held(rt: HostRuntime) -> Result<(), Fail> {
     assert!(rt; !gate.watch.gave_up());
     Ok(())
 }
+
+/// Counts the tasks and the idle turns of all workers.
+#[derive(Drop)]
+struct Counting {
+    tasks: AtomicU64,
+    idle: AtomicU64,
+}
+
+impl Gate for Counting {
+    fn task(&self, _worker: u32, _nth: u64) {
+        self.tasks.fetch_add(1, Ordering::SeqCst);
+    }
+
+    fn idle(&self, _worker: u32, _turn: u32) {
+        self.idle.fetch_add(1, Ordering::SeqCst);
+    }
+}
+
+#[test]
+fn a_short_run_with_one_first_task_has_one_thread(rt: HostRuntime) -> Result<(), Fail> {
+    let cells = Cells {
+        count: 100,
+        shape: Shape::Tree,
+    };
+    let gate = Counting {
+        tasks: AtomicU64::new(0),
+        idle: AtomicU64::new(0),
+    };
+    let mut crew = Crew::make(rt.alloc(), 16, 105)?;
+    let jobs = run_cells(&rt, rt.alloc(), &mut crew, &cells, &[(3, 0)], &gate)?;
+    assert!(rt; are_seen(jobs.as_slice(), 100, 1));
+    // Nobody else is waited for: each worker stops at its first turn without a task.
+    assert!(rt; gate.tasks.load(Ordering::SeqCst) == 100);
+    assert!(rt; gate.idle.load(Ordering::SeqCst) == 16);
+    Ok(())
+}

@@ -1,6 +1,7 @@
 //! One worker's turns.
 ghost use Rattle.std.specs.Prelude.{◌≡◌, ◌+◌, ◌≤◌, cond, false};
 ghost use Rattle.steal_pool.specs.Lanes.{own_hand, HasTakenFew};
+ghost use Rattle.steal_pool.specs.declared.working.TheConstants.{PATIENCE};
 ghost use Rattle.steal_pool.specs.Workers.{CanStart, EndsWork, HasNone, tasks_left};
 
 use crate::finding::find_task;
@@ -10,8 +11,8 @@ use crate::place::Place;
 use heap_base::Gate;
 use std::thread;
 
-/// How many idle turns in a row a worker makes before it stops.
-const PATIENCE: u32 = 4096;
+/// How many idle turns in a row a worker makes at most before it stops.
+pub const PATIENCE: u32 = 4096;
 
 impl<J> Place<J> {
     /// One turn: a task is found and done, and some of those that wait are offered to the others. It answers whether
@@ -42,16 +43,17 @@ impl<J> Place<J> {
         true
     }
 
-    /// Does tasks until it was idle long enough.
-    pub fn work_until_idle<S: Sync, G: Gate>(&mut self, shared: &S, gate: &G)
+    /// Does tasks until it was idle for so many turns in a row.
+    pub fn work_until_idle<S: Sync, G: Gate>(&mut self, shared: &S, patience: u32, gate: &G)
     where
         J: Job<S>,
         requires can { CanStart J.meaning shared.now self.old }
         requires few { HasTakenFew self.old.lane }
+        requires patience { patience ≤ PATIENCE }
         ensures { EndsWork J.meaning shared.now self.old self.new }
     {
         let mut idle = 0;
-        while idle < PATIENCE {
+        while idle < patience {
             if self.turn(shared, gate) {
                 idle = 0;
             } else {
