@@ -21,7 +21,7 @@ use Rattle.graph_meaning.specs.Collecting.{slot_without, object_without, with_on
 use Rattle.graph_meaning.specs.Step.{with_kind, with_object, with_slot, with_changed_slot}
 use Rattle.object_table.specs.declared.slot.Slot.{Slot as CellSlot}
 use Rattle.object_table.specs.Placed.{TakesCell, KeepsCells, kept_ids, cells_for_one_more}
-use Rattle.object_table.specs.Residents.{Resident, no_edge, is_kept, slot_after, resident_after, held_at, held_after, id_held, is_taken, next_cell, with_resident}
+use Rattle.object_table.specs.Residents.{Resident, no_edge, is_flagged, slot_after, resident_after, held_at, held_after, id_held, is_taken, next_cell, with_resident}
 use Rattle.object_table.specs.Parts.{Parts, slot_of, object_of, nobody, object_at_cell, placed_of, HoldsTaken, slots_at_cell, IsLaidOut}
 use Rattle.object_table.proofs.Positions.{any-position}
 use Rattle.object_table.proofs.Chains.{next-taken, next-empty}
@@ -285,7 +285,7 @@ held_within (c ∷ cells) zero o is = omega arith
 held_within (c ∷ cells) (suc cell) o is = let rest = held_within cells cell o is in omega arith
 
 -- objects that a change turns into others
-changed_objects : (ids : List (ℕ × ℕ)) (f g : ℕ → Object) (change : Object → Object) → All (λ e. f e.1 ≡ change (g e.1)) ids → map (λ e. f e.1) ids ≡ map change (map (λ e. g e.1) ids)
+pub changed_objects : (ids : List (ℕ × ℕ)) (f g : ℕ → Object) (change : Object → Object) → All (λ e. f e.1 ≡ change (g e.1)) ids → map (λ e. f e.1) ids ≡ map change (map (λ e. g e.1) ids)
 changed_objects [] f g change same = refl
 changed_objects (e ∷ ids) f g change same =
     ap (λ o. o ∷ map (λ e. f e.1) ids) (same 0 e (omega arith)) ∙ ap (λ l. change (g e.1) ∷ l) (changed_objects ids f g change (λ k d h. same (suc k) d (omega arith)))
@@ -394,6 +394,43 @@ or_false_left : (a b : Bool) → a ≡ false → (a || b) ≡ true → b ≡ tru
 or_false_left true b out either = absurd (false≢true (sym out))
 or_false_left false b out either = either
 
+-- the id of an object whose cell is flagged is among those of the flagged cells, and the other way round
+pub kept_has : (cells : List (Option ℕ)) (flags : List Bool) (c id : ℕ) → get_or cells c None ≡ Some id → get_or flags c false ≡ true → has_id (kept_ids cells flags) id ≡ true
+kept_has [] flags c id is flag = absurd cc
+kept_has (x ∷ cells) [] c id is flag = absurd (false≢true flag)
+kept_has (None ∷ cells) (b ∷ flags) zero id is flag = absurd cc
+kept_has (Some x ∷ cells) (true ∷ flags) zero id is flag = let same : x ≡ id = same_Some x id is in grind (arith, nat_tests)
+kept_has (Some x ∷ cells) (false ∷ flags) zero id is flag = absurd (false≢true flag)
+kept_has (None ∷ cells) (true ∷ flags) (suc c) id is flag = kept_has cells flags c id is flag
+kept_has (Some x ∷ cells) (true ∷ flags) (suc c) id is flag = let rest = kept_has cells flags c id is flag in grind (arith, nat_tests)
+kept_has (x ∷ cells) (false ∷ flags) (suc c) id is flag = kept_has cells flags c id is flag
+
+pub has_kept : (cells : List (Option ℕ)) (flags : List Bool) (id : ℕ) → has_id (kept_ids cells flags) id ≡ true → (c : ℕ) × (get_or cells c None ≡ Some id) × (get_or flags c false ≡ true)
+has_kept [] flags id has = absurd (false≢true has)
+has_kept (x ∷ cells) [] id has = absurd (false≢true has)
+has_kept (x ∷ cells) (false ∷ flags) id has = let rest = has_kept cells flags id has in (suc rest.0, rest.1, rest.2)
+has_kept (None ∷ cells) (true ∷ flags) id has = let rest = has_kept cells flags id has in (suc rest.0, rest.1, rest.2)
+has_kept (Some x ∷ cells) (true ∷ flags) id has = ⊎_elim
+    (λ (same : x ≡ id). (0, ap Some same, refl))
+    (λ apart.
+    let left : has_id (kept_ids cells flags) id ≡ true = or_false_left (eqb x id) (has_id (kept_ids cells flags) id) (ne_eqb x id apart) has in
+    let rest = has_kept cells flags id left in
+    (suc rest.0, rest.1, rest.2))
+    (cases_eq x id)
+
+-- the id of an object is among those of the flagged cells exactly where its cell is flagged
+pub kept_cell : (p : Parts) → IsLaidOut p → (kept : List Bool) (cell id : ℕ) → id_held p.cells cell ≡ Some id → has_id (kept_ids (placed_of p).cells kept) id ≡ is_flagged kept cell
+kept_cell p laid kept cell id is = both (has_id (kept_ids (placed_of p).cells kept) id) (is_flagged kept cell) refl refl
+  where
+    both : (a b : Bool) → has_id (kept_ids (placed_of p).cells kept) id ≡ a → is_flagged kept cell ≡ b → a ≡ b
+    both true true x y = refl
+    both false false x y = refl
+    both true false x y =
+        let (c, at, flag) = has_kept (placed_of p).cells kept id x in
+        let same : c ≡ cell = same_Some c cell (sym (found_held p laid id c (sym (id_in-cells p.cells c) ∙ at)) ∙ found_held p laid id cell is) in
+        absurd (false≢true (sym y ∙ ap (is_flagged kept) (sym same) ∙ flag))
+    both false true x y = absurd (false≢true (sym x ∙ kept_has (placed_of p).cells kept cell id (id_in-cells p.cells cell ∙ is) y))
+
 module _ (p : Parts) (laid : IsLaidOut p) (kept : List Bool) (later : List (Option Resident)) (after : (cell : ℕ) → held_at later cell ≡ held_after kept p.cells cell) where
   abbrev pub kept_now : List ℕ
   kept_now = kept_ids (placed_of p).cells kept
@@ -401,47 +438,11 @@ module _ (p : Parts) (laid : IsLaidOut p) (kept : List Bool) (later : List (Opti
   abbrev gone : ℕ → Bool
   gone id = not (has_id kept_now id)
 
-  kept_has : (cells : List (Option ℕ)) (flags : List Bool) (c id : ℕ) → get_or cells c None ≡ Some id → get_or flags c false ≡ true → has_id (kept_ids cells flags) id ≡ true
-  kept_has [] flags c id is flag = absurd cc
-  kept_has (x ∷ cells) [] c id is flag = absurd (false≢true flag)
-  kept_has (None ∷ cells) (b ∷ flags) zero id is flag = absurd cc
-  kept_has (Some x ∷ cells) (true ∷ flags) zero id is flag = let same : x ≡ id = same_Some x id is in grind (arith, nat_tests)
-  kept_has (Some x ∷ cells) (false ∷ flags) zero id is flag = absurd (false≢true flag)
-  kept_has (None ∷ cells) (true ∷ flags) (suc c) id is flag = kept_has cells flags c id is flag
-  kept_has (Some x ∷ cells) (true ∷ flags) (suc c) id is flag = let rest = kept_has cells flags c id is flag in grind (arith, nat_tests)
-  kept_has (x ∷ cells) (false ∷ flags) (suc c) id is flag = kept_has cells flags c id is flag
-
-  has_kept : (cells : List (Option ℕ)) (flags : List Bool) (id : ℕ) → has_id (kept_ids cells flags) id ≡ true → (c : ℕ) × (get_or cells c None ≡ Some id) × (get_or flags c false ≡ true)
-  has_kept [] flags id has = absurd (false≢true has)
-  has_kept (x ∷ cells) [] id has = absurd (false≢true has)
-  has_kept (x ∷ cells) (false ∷ flags) id has = let rest = has_kept cells flags id has in (suc rest.0, rest.1, rest.2)
-  has_kept (None ∷ cells) (true ∷ flags) id has = let rest = has_kept cells flags id has in (suc rest.0, rest.1, rest.2)
-  has_kept (Some x ∷ cells) (true ∷ flags) id has = ⊎_elim
-      (λ (same : x ≡ id). (0, ap Some same, refl))
-      (λ apart.
-      let left : has_id (kept_ids cells flags) id ≡ true = or_false_left (eqb x id) (has_id (kept_ids cells flags) id) (ne_eqb x id apart) has in
-      let rest = has_kept cells flags id left in
-      (suc rest.0, rest.1, rest.2))
-      (cases_eq x id)
-
-  -- an object is kept exactly where its cell is
-  kept_cell : (cell id : ℕ) → id_held p.cells cell ≡ Some id → has_id kept_now id ≡ is_kept kept cell
-  kept_cell cell id is = both (has_id kept_now id) (is_kept kept cell) refl refl
-    where
-      both : (a b : Bool) → has_id kept_now id ≡ a → is_kept kept cell ≡ b → a ≡ b
-      both true true x y = refl
-      both false false x y = refl
-      both true false x y =
-          let (c, at, flag) = has_kept (placed_of p).cells kept id x in
-          let same : c ≡ cell = same_Some c cell (sym (found_held p laid id c (sym (id_in-cells p.cells c) ∙ at)) ∙ found_held p laid id cell is) in
-          absurd (false≢true (sym y ∙ ap (is_kept kept) (sym same) ∙ flag))
-      both false true x y = absurd (false≢true (sym x ∙ kept_has (placed_of p).cells kept cell id (id_in-cells p.cells cell ∙ is) y))
-
-  kept_held : (cell : ℕ) (o : Resident) → held_at p.cells cell ≡ Some o → is_kept kept cell ≡ true → held_at later cell ≡ Some (resident_after kept o)
+  kept_held : (cell : ℕ) (o : Resident) → held_at p.cells cell ≡ Some o → is_flagged kept cell ≡ true → held_at later cell ≡ Some (resident_after kept o)
   kept_held cell o is flag = after cell ∙ ap (λ b. cond b (option_map (resident_after kept) (held_at p.cells cell)) None) flag ∙ ap (option_map (resident_after kept)) is
 
-  later_taken : (cell : ℕ) → is_taken later cell ≡ (is_kept kept cell && is_taken p.cells cell)
-  later_taken cell = ap is_some (after cell) ∙ go (is_kept kept cell) (held_at p.cells cell)
+  later_taken : (cell : ℕ) → is_taken later cell ≡ (is_flagged kept cell && is_taken p.cells cell)
+  later_taken cell = ap is_some (after cell) ∙ go (is_flagged kept cell) (held_at p.cells cell)
     where
       go : (b : Bool) (o : Option Resident) → is_some (cond b (option_map (resident_after kept) o) None) ≡ (b && is_some o)
       go true None = refl
@@ -452,7 +453,7 @@ module _ (p : Parts) (laid : IsLaidOut p) (kept : List Bool) (later : List (Opti
   slot_swept : (s : CellSlot) → HoldsTaken p.cells s → slot_of later (slot_after kept s) ≡ slot_without gone (slot_of p.cells s)
   slot_swept s taken = go s.held taken
     where
-      flagged : (c y : ℕ) (b : Bool) → id_held p.cells c ≡ Some y → is_kept kept c ≡ b → slot_of later (cond (not b) (record { held = None; weak = s.weak }) (record { held = Some c; weak = s.weak })) ≡ cond (not b) (record { held = None; weak = s.weak }) (record { held = Some y; weak = s.weak })
+      flagged : (c y : ℕ) (b : Bool) → id_held p.cells c ≡ Some y → is_flagged kept c ≡ b → slot_of later (cond (not b) (record { held = None; weak = s.weak }) (record { held = Some c; weak = s.weak })) ≡ cond (not b) (record { held = None; weak = s.weak }) (record { held = Some y; weak = s.weak })
       flagged c y true has flag =
           let (o, held, same) = held_with_id p.cells c y has in
           ap (λ id. record { held = id; weak = s.weak }) (ap (option_map (λ (q : Resident). q.id)) (kept_held c o held flag) ∙ ap Some same)
@@ -463,8 +464,8 @@ module _ (p : Parts) (laid : IsLaidOut p) (kept : List Bool) (later : List (Opti
       go (Some c) taken =
           let (o, held) = held_taken p.cells c taken in
           let has : id_held p.cells c ≡ Some o.id = ap (option_map (λ (q : Resident). q.id)) held in
-          flagged c o.id (is_kept kept c) has refl
-          ∙ ap (λ b. cond (not b) (record { held = None; weak = s.weak }) (record { held = Some o.id; weak = s.weak })) (sym (kept_cell c o.id has))
+          flagged c o.id (is_flagged kept c) has refl
+          ∙ ap (λ b. cond (not b) (record { held = None; weak = s.weak }) (record { held = Some o.id; weak = s.weak })) (sym (kept_cell p laid kept c o.id has))
           ∙ sym (ap (λ id. slot_without gone (record { held = id; weak = s.weak })) has)
 
   slots_swept : (slots : List CellSlot) → All (HoldsTaken p.cells) slots → map (slot_of later) (map (slot_after kept) slots) ≡ map (slot_without gone) (map (slot_of p.cells) slots)
@@ -473,44 +474,44 @@ module _ (p : Parts) (laid : IsLaidOut p) (kept : List Bool) (later : List (Opti
       ap (λ x. x ∷ map (slot_of later) (map (slot_after kept) slots)) (slot_swept s (All-head (HoldsTaken p.cells) s slots taken))
       ∙ ap (λ l. slot_without gone (slot_of p.cells s) ∷ l) (slots_swept slots (All-tail (HoldsTaken p.cells) s slots taken))
 
-  object_swept : (cell : ℕ) (o : Resident) → held_at p.cells cell ≡ Some o → is_kept kept cell ≡ true → object_at_cell p.kinds later cell ≡ object_without gone (object_at_cell p.kinds p.cells cell)
+  object_swept : (cell : ℕ) (o : Resident) → held_at p.cells cell ≡ Some o → is_flagged kept cell ≡ true → object_at_cell p.kinds later cell ≡ object_without gone (object_at_cell p.kinds p.cells cell)
   object_swept cell o is flag =
       ap (λ c. object_of p.kinds later (unwrap_or c nobody)) (kept_held cell o is flag)
       ∙ ap (λ l. record { id = o.id; kind = get_or p.kinds o.kind []; slots = l }) (slots_swept o.slots (of_some (λ u. All (HoldsTaken p.cells) u.slots) (held_at p.cells cell) o (laid.leads cell) is))
       ∙ sym (ap (λ c. object_without gone (object_of p.kinds p.cells (unwrap_or c nobody))) is)
 
-  objects_swept : (ids : List (ℕ × ℕ)) → All (λ e. id_held p.cells e.1 ≡ Some e.0) ids → map (λ e. object_at_cell p.kinds later e.1) (filter (λ e. is_kept kept e.1) ids) ≡ map (object_without gone) (filter (λ o. has_id kept_now o.id) (map (λ e. object_at_cell p.kinds p.cells e.1) ids))
+  objects_swept : (ids : List (ℕ × ℕ)) → All (λ e. id_held p.cells e.1 ≡ Some e.0) ids → map (λ e. object_at_cell p.kinds later e.1) (filter (λ e. is_flagged kept e.1) ids) ≡ map (object_without gone) (filter (λ o. has_id kept_now o.id) (map (λ e. object_at_cell p.kinds p.cells e.1) ids))
   objects_swept [] stands = refl
   objects_swept (e ∷ ids) stands =
       let (o, held, same) = held_with_id p.cells e.1 e.0 (stands 0 e (omega arith)) in
       let its_id : (object_at_cell p.kinds p.cells e.1).id ≡ e.0 = ap (λ c. (unwrap_or c nobody).id) held ∙ same in
-      go (is_kept kept e.1) refl (ap (has_id kept_now) its_id ∙ kept_cell e.1 e.0 (stands 0 e (omega arith))) (object_swept e.1 o held) (objects_swept ids (λ k d h. stands (suc k) d (omega arith)))
+      go (is_flagged kept e.1) refl (ap (has_id kept_now) its_id ∙ kept_cell p laid kept e.1 e.0 (stands 0 e (omega arith))) (object_swept e.1 o held) (objects_swept ids (λ k d h. stands (suc k) d (omega arith)))
     where
       old : Object
       old = object_at_cell p.kinds p.cells e.1
 
       front : List Object
-      front = map (λ e. object_at_cell p.kinds later e.1) (filter (λ e. is_kept kept e.1) ids)
+      front = map (λ e. object_at_cell p.kinds later e.1) (filter (λ e. is_flagged kept e.1) ids)
 
       back : List Object
       back = filter (λ o. has_id kept_now o.id) (map (λ e. object_at_cell p.kinds p.cells e.1) ids)
 
-      go : (b : Bool) → is_kept kept e.1 ≡ b → has_id kept_now old.id ≡ is_kept kept e.1 → (is_kept kept e.1 ≡ true → object_at_cell p.kinds later e.1 ≡ object_without gone old) → front ≡ map (object_without gone) back → map (λ f. object_at_cell p.kinds later f.1) (cond (is_kept kept e.1) (e ∷ filter (λ f. is_kept kept f.1) ids) (filter (λ f. is_kept kept f.1) ids)) ≡ map (object_without gone) (cond (has_id kept_now old.id) (old ∷ back) back)
+      go : (b : Bool) → is_flagged kept e.1 ≡ b → has_id kept_now old.id ≡ is_flagged kept e.1 → (is_flagged kept e.1 ≡ true → object_at_cell p.kinds later e.1 ≡ object_without gone old) → front ≡ map (object_without gone) back → map (λ f. object_at_cell p.kinds later f.1) (cond (is_flagged kept e.1) (e ∷ filter (λ f. is_flagged kept f.1) ids) (filter (λ f. is_flagged kept f.1) ids)) ≡ map (object_without gone) (cond (has_id kept_now old.id) (old ∷ back) back)
       go true flag has swept rest = rw (has, flag) (ap (λ x. x ∷ front) (swept flag) ∙ ap (λ l. object_without gone old ∷ l) rest)
       go false flag has swept rest = rw (has, flag) rest
 
   abbrev pub with_kept : ℕ → Parts
-  with_kept slots = record { cells = later; ids = filter (λ e. is_kept kept e.1) p.ids; roots = p.roots; kinds = p.kinds; greatest = p.greatest; slots = slots }
+  with_kept slots = record { cells = later; ids = filter (λ e. is_flagged kept e.1) p.ids; roots = p.roots; kinds = p.kinds; greatest = p.greatest; slots = slots }
 
   pub kept_is : (slots : ℕ) → (placed_of (with_kept slots)).table ≡ with_only kept_now (placed_of p).table
   unfolding with_only
   kept_is slots = ap (λ l. record { objects = l; roots = p.roots; greatest = p.greatest; kinds = p.kinds }) (objects_swept p.ids laid.stands)
 
-  kept_filter : (xs : List (ℕ × ℕ)) → map (λ e. e.1) (filter (λ e. is_kept kept e.1) xs) ≡ filter (is_kept kept) (map (λ e. e.1) xs)
+  kept_filter : (xs : List (ℕ × ℕ)) → map (λ e. e.1) (filter (λ e. is_flagged kept e.1) xs) ≡ filter (is_flagged kept) (map (λ e. e.1) xs)
   kept_filter [] = refl
-  kept_filter (e ∷ xs) = go (is_kept kept e.1) (kept_filter xs)
+  kept_filter (e ∷ xs) = go (is_flagged kept e.1) (kept_filter xs)
     where
-      go : (b : Bool) → map (λ e. e.1) (filter (λ e. is_kept kept e.1) xs) ≡ filter (is_kept kept) (map (λ e. e.1) xs) → map (λ e. e.1) (cond b (e ∷ filter (λ e. is_kept kept e.1) xs) (filter (λ e. is_kept kept e.1) xs)) ≡ cond b (e.1 ∷ filter (is_kept kept) (map (λ e. e.1) xs)) (filter (is_kept kept) (map (λ e. e.1) xs))
+      go : (b : Bool) → map (λ e. e.1) (filter (λ e. is_flagged kept e.1) xs) ≡ filter (is_flagged kept) (map (λ e. e.1) xs) → map (λ e. e.1) (cond b (e ∷ filter (λ e. is_flagged kept e.1) xs) (filter (λ e. is_flagged kept e.1) xs)) ≡ cond b (e.1 ∷ filter (is_flagged kept) (map (λ e. e.1) xs)) (filter (is_flagged kept) (map (λ e. e.1) xs))
       go true rest = ap (λ l. e.1 ∷ l) rest
       go false rest = rest
 
@@ -518,13 +519,13 @@ module _ (p : Parts) (laid : IsLaidOut p) (kept : List Bool) (later : List (Opti
   holds_after : (s : CellSlot) → HoldsTaken p.cells s → HoldsTaken later (slot_after kept s)
   holds_after s taken = go s.held taken
     where
-      flagged : (c : ℕ) (b : Bool) → is_kept kept c ≡ b → IsTrue (is_taken p.cells c) → HoldsTaken later (cond (not b) (record { held = None; weak = s.weak }) (record { held = Some c; weak = s.weak }))
+      flagged : (c : ℕ) (b : Bool) → is_flagged kept c ≡ b → IsTrue (is_taken p.cells c) → HoldsTaken later (cond (not b) (record { held = None; weak = s.weak }) (record { held = Some c; weak = s.weak }))
       flagged c true flag taken = later_taken c ∙ rw (flag, taken) refl
       flagged c false flag taken = tt
 
       go : (h : Option ℕ) → IfSome h (λ cell. IsTrue (is_taken p.cells cell)) → HoldsTaken later (slot_after kept (record { held = h; weak = s.weak }))
       go None taken = tt
-      go (Some c) taken = flagged c (is_kept kept c) refl taken
+      go (Some c) taken = flagged c (is_flagged kept c) refl taken
 
   after_known : (b : Bool) (o : Option Resident) → IfSome o (λ q. q.kind < length p.kinds) → IfSome (cond b (option_map (resident_after kept) o) None) (λ q. q.kind < length p.kinds)
   after_known true None known = tt
@@ -538,21 +539,21 @@ module _ (p : Parts) (laid : IsLaidOut p) (kept : List Bool) (later : List (Opti
 
   pub kept_laid : (slots : ℕ) → length later ≡ length p.cells → IsLaidOut (with_kept slots)
   kept_laid slots long = record {
-    rising = AllPairs-filter (λ a b. a.0 < b.0) (λ e. is_kept kept e.1) p.ids laid.rising;
+    rising = AllPairs-filter (λ a b. a.0 < b.0) (λ e. is_flagged kept e.1) p.ids laid.rising;
     stands = λ k d h.
-        let ids : List (ℕ × ℕ) = filter (λ e. is_kept kept e.1) p.ids in
+        let ids : List (ℕ × ℕ) = filter (λ e. is_flagged kept e.1) p.ids in
         let e : ℕ × ℕ = get_or ids k d in
-        let there : id_held p.cells e.1 ≡ Some e.0 = All-filter (λ e. is_kept kept e.1) (λ e. id_held p.cells e.1 ≡ Some e.0) p.ids laid.stands k d h in
+        let there : id_held p.cells e.1 ≡ Some e.0 = All-filter (λ e. is_flagged kept e.1) (λ e. id_held p.cells e.1 ≡ Some e.0) p.ids laid.stands k d h in
         let (o, held, same) = held_with_id p.cells e.1 e.0 there in
-        ap (option_map (λ (q : Resident). q.id)) (kept_held e.1 o held (filter_passes (λ e. is_kept kept e.1) p.ids k d h)) ∙ ap Some same;
+        ap (option_map (λ (q : Resident). q.id)) (kept_held e.1 o held (filter_passes (λ e. is_flagged kept e.1) p.ids k d h)) ∙ ap Some same;
     once = λ c.
         ap (times c) (kept_filter p.ids)
-        ∙ times-filter (is_kept kept) c (map (λ e. e.1) p.ids)
-        ∙ ap (λ n. cond (is_kept kept c) n 0) (laid.once c)
-        ∙ counted (is_kept kept c) (is_taken p.cells c)
+        ∙ times-filter (is_flagged kept) c (map (λ e. e.1) p.ids)
+        ∙ ap (λ n. cond (is_flagged kept c) n 0) (laid.once c)
+        ∙ counted (is_flagged kept c) (is_taken p.cells c)
         ∙ ap bit (sym (later_taken c));
-    known = λ c. subst (λ o. IfSome o (λ q. q.kind < length p.kinds)) (sym (after c)) (after_known (is_kept kept c) (held_at p.cells c) (laid.known c));
-    leads = λ c. subst (λ o. IfSome o (λ q. All (HoldsTaken later) q.slots)) (sym (after c)) (after_leads (is_kept kept c) (held_at p.cells c) (laid.leads c));
+    known = λ c. subst (λ o. IfSome o (λ q. q.kind < length p.kinds)) (sym (after c)) (after_known (is_flagged kept c) (held_at p.cells c) (laid.known c));
+    leads = λ c. subst (λ o. IfSome o (λ q. All (HoldsTaken later) q.slots)) (sym (after c)) (after_leads (is_flagged kept c) (held_at p.cells c) (laid.leads c));
     few = omega (arith, long, laid.few);
   }
     where
@@ -565,7 +566,7 @@ module _ (p : Parts) (laid : IsLaidOut p) (kept : List Bool) (later : List (Opti
     others = λ cell id is has.
         let at : id_held p.cells cell ≡ Some id = sym (id_in-cells p.cells cell) ∙ is in
         let (o, held, same) = held_with_id p.cells cell id at in
-        id_in-cells later cell ∙ ap (option_map (λ (q : Resident). q.id)) (kept_held cell o held (sym (kept_cell cell id at) ∙ has)) ∙ ap Some same;
+        id_in-cells later cell ∙ ap (option_map (λ (q : Resident). q.id)) (kept_held cell o held (sym (kept_cell p laid kept cell id at) ∙ has)) ∙ ap Some same;
     count = length-map later (option_map (λ o. o.id)) ∙ long ∙ sym (length-map p.cells (option_map (λ o. o.id)));
   }
 

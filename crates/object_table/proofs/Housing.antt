@@ -10,9 +10,9 @@ use Rattle.object_table.specs.declared.slot.Slot.{Slot}
 use Rattle.object_table.specs.declared.cell.Cell.{Cell}
 use Rattle.object_table.specs.declared.cell.Cell.TheVariants.{Taken, Empty}
 use Rattle.object_table.specs.Paged.{Roomy}
-use Rattle.object_table.specs.Residents.{Resident, is_kept, resident_after, held_at, held_after, next_cell, with_resident}
-use Rattle.object_table.specs.Chains.{resident_in, empty_from, first_empty, next_in, HasSlot, with_slot_put, cell_after, cells_after, IsHoused}
-use Rattle.object_table.proofs.Chains.{first-none, first-some, linked_put, linked_push, linked_slot, linked_after, length-cells_after, held_at-after}
+use Rattle.object_table.specs.Residents.{Resident, is_flagged, resident_after, held_at, held_after, next_cell, with_resident}
+use Rattle.object_table.specs.Chains.{resident_in, empty_from, first_empty, next_in, HasSlot, with_slot_put, with_slots_cleared, cell_after, cells_after, IsHoused}
+use Rattle.object_table.proofs.Chains.{first-none, first-some, linked_put, linked_push, linked_slot, linked_cleared, linked_after, length-cells_after, held_at-after}
 
 -- ---- one cell is changed
 
@@ -118,6 +118,17 @@ slot_is cells k slot value later changed = go (held_at (map resident_in cells) k
         let is_later : later ≡ set cells k (with_slot_put slot value (Taken o)) = rw (taken_cell cells k o e) at changed in
         ap (map resident_in) is_later ∙ map-set resident_in cells k (with_slot_put slot value (Taken o))
 
+-- ---- slots are cleared
+
+pub cleared_housed : (marked : List Bool) (cells : List Cell) (first : Option ℕ) → IsHoused cells first → IsHoused (map (with_slots_cleared marked) cells) first
+cleared_housed marked cells first is =
+    let (same, linked) = linked_cleared marked 0 cells is.linked in
+    record {
+      first_is = is.first_is ∙ sym same;
+      linked = linked;
+      few = omega (arith, length-map cells (with_slots_cleared marked), is.few);
+    }
+
 -- ---- cells are emptied, from the last to the first
 
 -- The cells from place i on are those after the sweep, the others are as they were, and this is the first empty one of those.
@@ -145,19 +156,19 @@ seam_set : (xs ys : List Cell) (x y : Cell) (j : ℕ) → length xs ≡ j → se
 seam_set xs ys x y j long = ap (λ k. set (xs ++ x ∷ ys) k y) (sym long) ∙ set-append_seam xs x ys y
 
 -- the cell at j is swept, after those from j + 1 on
-swept_at : (kept : List Bool) (old now later : List Cell) (j : ℕ) (first new : Option ℕ) → IsSwept kept old now (j + 1) first → IfSome (slice_get now j) (λ c. later ≡ set now j (cell_after (is_kept kept j) kept first c)) → IfSome (slice_get now j) (λ c. new ≡ empty_from j (cell_after (is_kept kept j) kept first c) first) → IsSwept kept old later j new
+swept_at : (kept : List Bool) (old now later : List Cell) (j : ℕ) (first new : Option ℕ) → IsSwept kept old now (j + 1) first → IfSome (slice_get now j) (λ c. later ≡ set now j (cell_after (is_flagged kept j) kept first c)) → IfSome (slice_get now j) (λ c. new ≡ empty_from j (cell_after (is_flagged kept j) kept first c) first) → IsSwept kept old later j new
 swept_at kept old now later j first new is put new_is =
     let within = is.within in
     let x : Cell = get_or old j (Empty None) in
     let rest : List Cell = cells_after kept (j + 1) (drop (j + 1) old) in
-    let y : Cell = cell_after (is_kept kept j) kept (first_empty (j + 1) rest) x in
+    let y : Cell = cell_after (is_flagged kept j) kept (first_empty (j + 1) rest) x in
     let here : drop j old ≡ x ∷ drop (j + 1) old = rw add-one (drop-cons old j (Empty None) (omega arith)) in
     let long : length (take j old) ≡ j = length-take-le j old (omega arith) in
     let before : now ≡ take j old ++ x ∷ rest = is.cells ∙ ap (λ l. l ++ rest) (take_more old j (Empty None) (omega arith)) ∙ append_assoc (take j old) (x ∷ []) rest in
     let at : slice_get now j ≡ Some x = ap (λ l. slice_get l j) before ∙ seam_get (take j old) rest x j long in
-    let swept : cell_after (is_kept kept j) kept first x ≡ y = ap (λ o. cell_after (is_kept kept j) kept o x) is.first_is in
-    let is_later : later ≡ set now j (cell_after (is_kept kept j) kept first x) = rw at at put in
-    let is_new : new ≡ empty_from j (cell_after (is_kept kept j) kept first x) first = rw at at new_is in
+    let swept : cell_after (is_flagged kept j) kept first x ≡ y = ap (λ o. cell_after (is_flagged kept j) kept o x) is.first_is in
+    let is_later : later ≡ set now j (cell_after (is_flagged kept j) kept first x) = rw at at put in
+    let is_new : new ≡ empty_from j (cell_after (is_flagged kept j) kept first x) first = rw at at new_is in
     record {
       within = omega arith;
       cells = is_later
@@ -171,7 +182,7 @@ swept_at kept old now later j first new is put new_is =
           ∙ ap (λ l. first_empty j (cells_after kept j l)) (sym here);
     }
 
-pub swept_more : (kept : List Bool) (old now later : List Cell) (i : ℕ) (first new : Option ℕ) → IsSwept kept old now i first → 0 < i → IfSome (slice_get now (i - 1)) (λ c. later ≡ set now (i - 1) (cell_after (is_kept kept (i - 1)) kept first c)) → IfSome (slice_get now (i - 1)) (λ c. new ≡ empty_from (i - 1) (cell_after (is_kept kept (i - 1)) kept first c) first) → IsSwept kept old later (i - 1) new
+pub swept_more : (kept : List Bool) (old now later : List Cell) (i : ℕ) (first new : Option ℕ) → IsSwept kept old now i first → 0 < i → IfSome (slice_get now (i - 1)) (λ c. later ≡ set now (i - 1) (cell_after (is_flagged kept (i - 1)) kept first c)) → IfSome (slice_get now (i - 1)) (λ c. new ≡ empty_from (i - 1) (cell_after (is_flagged kept (i - 1)) kept first c) first) → IsSwept kept old later (i - 1) new
 swept_more kept old now later i first new is positive put new_is =
     let next : i ≡ (i - 1) + 1 = omega arith in
     swept_at kept old now later (i - 1) first new (subst (λ k. IsSwept kept old now k first) next is) put new_is
@@ -200,4 +211,4 @@ swept_held kept old now all cell =
     let same : 0 + cell ≡ cell = omega arith in
     ap (λ l. held_at (map resident_in l) cell) all
     ∙ held_at-after kept 0 cell old
-    ∙ ap (λ k. cond (is_kept kept k) (option_map (resident_after kept) (held_at (map resident_in old) cell)) None) same
+    ∙ ap (λ k. cond (is_flagged kept k) (option_map (resident_after kept) (held_at (map resident_in old) cell)) None) same

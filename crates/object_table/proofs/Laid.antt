@@ -1,11 +1,15 @@
 -- Lists that stand in runs, one after another: where a run starts, and what an edit of one run does to the list.
-use Rattle.std.proofs.Common.{◌≡◌, ℕ, zero, suc, ◌+◌, ◌<◌, ◌≤◌, List, [], ◌∷◌, ◌++◌, length, take, drop, get_or, true, false, leb, ◌∙◌, ap, arith, length-append}
+use Rattle.std.proofs.Common.{◌≡◌, ℕ, zero, suc, ◌+◌, ◌<◌, ◌≤◌, List, [], ◌∷◌, ◌++◌, length, map, filter, not, Bool, cond, take, drop, get_or, true, false, leb, refl, sym, ◌∙◌, ap, arith, length-append}
+use Rattle.std.specs.Prelude.{nat_lt}
 use Rattle.std.specs.List.Sorted.{IsPartitionPoint, IsNonDecreasingBy}
 use Rattle.std.proofs.lemmas.Bool.{leb-true, leb-false}
+use Rattle.std.proofs.lemmas.Bool.Decides.{nat_tests}
 use Rattle.std.proofs.lemmas.List.{take_more, take_all, take-append-drop}
 use Rattle.std.proofs.lemmas.List.Concat.{flat_map-append}
+use Rattle.std.proofs.lemmas.List.Elements.{All-weaker, filter-append, filter_passes}
 use Rattle.std.proofs.lemmas.List.Sorted.{IsNonDecreasingBy-from_all_adjacent}
-use Rattle.object_table.specs.Blocks.{Run, all_roots, IsLaid, IsRunOf}
+use Rattle.object_table.specs.Blocks.{Run, all_roots, IsLaid, IsRunOf, NoneEmpty, roots_cleared, run_cleared}
+use Rattle.object_table.specs.Located.{is_marked}
 
 module _ {X : Type 0} where
   pub all_roots-append : (qs rs : List (Run X)) → all_roots (qs ++ rs) ≡ all_roots qs ++ all_roots rs
@@ -53,3 +57,28 @@ module _ {X : Type 0} where
       let inner : k + 1 < length runs → place < length (all_roots (take (k + 1) runs)) = λ l. omega (arith, start_is runs (k + 1) empty_run laid l, leb-false (get_or runs (k + 1) empty_run).start place (parted.1 (k + 1) empty_run (omega arith) l)) in
       let last : length runs ≤ k + 1 → length (all_roots (take (k + 1) runs)) ≡ length (all_roots runs) = length-all runs (k + 1) in
       record { in_range = omega arith; begins = begins; reaches = grind (arith, inner, last); ends = λ l. grind (arith, inner, last) }
+
+  -- ---- runs are taken away that have no root
+
+  -- the runs that have one
+  abbrev pub with_roots : List (Run X) → List (Run X)
+  with_roots runs = filter (λ r. nat_lt 0 (length r.roots)) runs
+
+  pub all_roots-some : (runs : List (Run X)) → all_roots (with_roots runs) ≡ all_roots runs
+  all_roots-some [] = refl
+  all_roots-some (r ∷ runs) = go r.roots (all_roots-some runs)
+    where
+      go : (roots : List X) → all_roots (with_roots runs) ≡ all_roots runs → all_roots (cond (nat_lt 0 (length roots)) (record { start = r.start; roots = roots } ∷ with_roots runs) (with_roots runs)) ≡ roots ++ all_roots runs
+      go [] rest = rest
+      go (x ∷ roots) rest =
+          let some : nat_lt 0 (length (x ∷ roots)) ≡ true = grind (arith, nat_tests) in
+          rw some (ap (λ l. (x ∷ roots) ++ l) rest)
+
+  pub none_empty-some : (runs : List (Run X)) → NoneEmpty (with_roots runs)
+  none_empty-some runs = All-weaker (λ r. nat_lt 0 (length r.roots) ≡ true) (λ r. 0 < length r.roots) (λ r some. grind (arith, nat_tests)) (with_roots runs) (filter_passes (λ r. nat_lt 0 (length r.roots)) runs)
+
+-- the roots of runs that were cleared
+pub all_roots-cleared : (ids : List (ℕ × ℕ)) (flags : List Bool) (runs : List (Run (List ℕ × ℕ))) → all_roots (map (run_cleared ids flags) runs) ≡ roots_cleared ids flags (all_roots runs)
+all_roots-cleared ids flags [] = refl
+all_roots-cleared ids flags (r ∷ runs) =
+    ap (λ l. roots_cleared ids flags r.roots ++ l) (all_roots-cleared ids flags runs) ∙ sym (filter-append (λ e. not (is_marked ids flags e.1)) r.roots (all_roots runs))

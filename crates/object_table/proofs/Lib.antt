@@ -1,5 +1,6 @@
 pub mod Chains
 pub mod Changes
+pub mod Cleared
 pub mod Entries
 pub mod Housing
 pub mod Indexes
@@ -10,6 +11,7 @@ pub mod Numbering
 pub mod Paging
 pub mod Parted
 pub mod Parts
+pub mod Passes
 pub mod Positions
 pub mod Refusals
 pub mod Searches

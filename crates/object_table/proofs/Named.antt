@@ -1,6 +1,6 @@
 -- A search for a name among the roots, and what an edit where it ends does.
-use Rattle.std.proofs.Common.{◌≡◌, ℕ, ◌+◌, ◌<◌, ◌≤◌, List, [], length, set, get_or, slice_get, IfSome, None, is_some, Result, Ok, Err, is_ok, IfOk, IfErr, OnErr, Ordering, Less, Equal, Greater, refl, sym, ◌∙◌, ap, arith}
-use Rattle.std.specs.List.{insert, remove}
+use Rattle.std.proofs.Common.{◌≡◌, ℕ, ◌+◌, ◌<◌, ◌≤◌, List, [], length, not, Bool, set, get_or, slice_get, IfSome, None, is_some, Result, Ok, Err, is_ok, IfOk, IfErr, OnErr, Ordering, Less, Equal, Greater, refl, sym, ◌∙◌, ap, arith}
+use Rattle.std.specs.List.{insert, remove, count_by}
 use Rattle.std.specs.List.Sorted.{IsNonDecreasingBy, IsSearchInRange, IsBinarySearchResult}
 use Rattle.std.specs.Ordering.{ordering_index, ordering_reverse, is_lt}
 use Rattle.std.specs.Cmp.{IsTotalOrder}
@@ -9,10 +9,16 @@ use Rattle.std.specs.BTreeMap.{insert_entry, is_at}
 use Rattle.std.proofs.lemmas.Cmp.{nat_list_cmp_total}
 use Rattle.std.proofs.lemmas.Option.{slice_get-get_or}
 use Rattle.std.proofs.lemmas.List.Edits.{length-insert, length-remove}
+use Rattle.std.proofs.lemmas.List.Filters.{length-filter_both}
+use Rattle.std.proofs.lemmas.List.Kept.{AllPairs-filter}
 use Rattle.std.proofs.lemmas.List.Quantifiers.{all_pairs_remove}
 use Rattle.std.proofs.lemmas.List.Sorted.{searchable_from_sorted}
+use Rattle.std.proofs.lemmas.List.Sums.{length-filter}
 use Rattle.heap_base.specs.declared.limits.TheConstants.{MOST_ROOTS}
 use Rattle.graph_meaning.specs.Heap.{name_cmp}
+use Rattle.graph_meaning.proofs.Membership.{length-filter_le}
+use Rattle.object_table.specs.Blocks.{roots_cleared}
+use Rattle.object_table.specs.Located.{is_marked}
 use Rattle.object_table.specs.Ordered.{IsOrdered, RisesByName, IsNamedAt, IsGapFor}
 use Rattle.object_table.proofs.Entries.{insert_at_gap, insert_at_place, remove_at_gap, remove_at_place, lookup-gap, lookup-place, rises-insert}
 
@@ -77,6 +83,21 @@ lookup_none roots name i h gap = lookup-gap total name roots i h gap
 pub found_is : (roots : Roots) (name : List ℕ) (r : Result ℕ ℕ) → IsOrdered roots → IsSearchInRange r (length roots) → IfOk r (IsNamedAt name roots) → IfErr r (IsGapFor name roots) → is_ok r ≡ is_some (lookup (is_at (name_cmp name)) roots)
 found_is roots name (Ok i) ordered h named gap = sym (lookup-place total name roots i ordered.rising h named)
 found_is roots name (Err i) ordered h named gap = ap is_some (sym (lookup-gap total name roots i h gap))
+
+-- ---- roots are taken away by what they hold
+
+pub IsOrdered-cleared : (ids : List (ℕ × ℕ)) (flags : List Bool) (roots : Roots) → IsOrdered roots → IsOrdered (roots_cleared ids flags roots)
+IsOrdered-cleared ids flags roots ordered = record {
+  rising = AllPairs-filter (λ a b. name_cmp a.0 b.0 ≡ Less) (λ r. not (is_marked ids flags r.1)) roots ordered.rising;
+  few = omega (arith, length-filter_le (λ r. not (is_marked ids flags r.1)) roots, ordered.few);
+}
+
+-- what is left and what is taken away
+pub cleared_count : (ids : List (ℕ × ℕ)) (flags : List Bool) (roots : Roots) → length (roots_cleared ids flags roots) + count_by (λ r. is_marked ids flags r.1) roots ≡ length roots
+cleared_count ids flags roots =
+    let all = length-filter_both (λ r. is_marked ids flags r.1) (λ r. not (is_marked ids flags r.1)) (λ r. refl) roots in
+    let taken = length-filter (λ r. is_marked ids flags r.1) roots in
+    omega arith
 
 -- what holds anyway holds where a call fails
 pub OnErr-always : {T E P : Type 0} (r : Result T E) → P → OnErr r P

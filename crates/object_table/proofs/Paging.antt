@@ -132,6 +132,13 @@ module _ {X : Type 0} where
       | inr past ↦ absurd (omega (arith, past.0, used_place))
     ]
 
+    -- the other way round
+    pub used_holds_back : (P : X → Type 0) → IfSome (slice_get page (i % 1024)) P → IfSome (slice_get (paged pages count).cells i) P
+    used_holds_back P holds = elim (slice_get_cases (paged pages count).cells i).1 [
+      | inl there ↦ rw there.2 (rw (used_read_back there.0 there.2) at holds)
+      | inr past ↦ absurd (omega (arith, past.0))
+    ]
+
     -- the element that stood there, changed
     pub used_change : (f : X → X) (later : List X) → IfSome (slice_get page (i % 1024)) (λ x. later ≡ set page (i % 1024) (f x)) → IsPaged (set pages (i / 1024) later) count × IfSome (slice_get (paged pages count).cells i) (λ x. paged (set pages (i / 1024) later) count ≡ record (paged pages count) { cells = set (paged pages count).cells i (f x) })
     used_change f later changed = elim (slice_get_cases (paged pages count).cells i).1 [

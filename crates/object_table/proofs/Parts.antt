@@ -6,7 +6,7 @@ use Rattle.std.proofs.lemmas.Bool.{false≢true, cases_eq}
 use Rattle.std.proofs.lemmas.Bool.Decides.{nat_tests}
 use Rattle.std.proofs.lemmas.List.{length-map, get_or-map}
 use Rattle.std.proofs.lemmas.Option.{same_Some, slice_get_within, get_or_from_slice_get}
-use Rattle.heap_base.specs.Counting.{bit, times}
+use Rattle.heap_base.specs.Counting.{bit, total, times, AsOften}
 use Rattle.heap_base.proofs.Counting.{total-ones, as_often-from_times}
 use Rattle.graph_meaning.specs.Heap.{Object, empty_slot, object_at, is_live}
 use Rattle.object_table.specs.declared.slot.Slot.{Slot as CellSlot}
@@ -144,6 +144,9 @@ taken_from n (Some o ∷ cells) = n ∷ taken_from (n + 1) cells
 taken_from n (None ∷ cells) = taken_from (n + 1) cells
 
 module _ where
+  next : (n k : ℕ) → (n + 1) + k ≡ n + suc k
+  next n k = omega arith
+
   times-below : (n c : ℕ) (cells : List (Option Resident)) → c < n → times c (taken_from n cells) ≡ 0
   unfolding taken_from
   times-below n c [] h = refl
@@ -170,6 +173,19 @@ module _ where
       let next : n + suc k ≡ (n + 1) + k = omega arith in
       ap (λ c. times c (taken_from (n + 1) cells)) next ∙ times-taken (n + 1) k cells
 
+  -- what the taken cells add up to, of cells that stand in a longer list from n on
+  total-taken : (f : Option Resident → ℕ) → f None ≡ 0 → (whole : List (Option Resident)) (n : ℕ) (cells : List (Option Resident)) → ((k : ℕ) → held_at whole (n + k) ≡ held_at cells k) → total (λ c. f (held_at whole c)) (taken_from n cells) ≡ total f cells
+  unfolding taken_from
+  total-taken f none whole n [] at = refl
+  total-taken f none whole n (Some o ∷ cells) at =
+      let first : n ≡ n + 0 = omega arith in
+      let here : f (held_at whole n) ≡ f (Some o) = ap (λ k. f (held_at whole k)) first ∙ ap f (at 0) in
+      let rest = total-taken f none whole (n + 1) cells (λ k. ap (held_at whole) (next n k) ∙ at (suc k)) in
+      omega arith
+  total-taken f none whole n (None ∷ cells) at =
+      let rest = total-taken f none whole (n + 1) cells (λ k. ap (held_at whole) (next n k) ∙ at (suc k)) in
+      omega (arith, none)
+
   length-taken : (n : ℕ) (cells : List (Option Resident)) → length (taken_from n cells) ≤ length cells
   unfolding taken_from
   length-taken n [] = omega arith
@@ -192,14 +208,20 @@ module _ where
   length-not_full n (None ∷ cells) h = let rest = length-taken (n + 1) cells in omega arith
 
 module _ (p : Parts) (laid : IsLaidOut p) where
+  zero-add : (c : ℕ) → 0 + c ≡ c
+  zero-add c = omega arith
+
+  -- the ids lead to the taken cells, to each once
+  to_taken : AsOften (map (λ e. e.1) p.ids) (taken_from 0 p.cells)
+  to_taken = as_often-from_times (map (λ e. e.1) p.ids) (taken_from 0 p.cells) (λ c. laid.once c ∙ sym (times-taken 0 c p.cells) ∙ ap (λ k. times k (taken_from 0 p.cells)) (zero-add c))
+
   -- there are as many ids as taken cells
   length-ids : length p.ids ≡ length (taken_from 0 p.cells)
-  length-ids =
-      let often = as_often-from_times (map (λ e. e.1) p.ids) (taken_from 0 p.cells) (λ c. laid.once c ∙ sym (times-taken 0 c p.cells) ∙ ap (λ k. times k (taken_from 0 p.cells)) (zero-add c)) in
-      sym (length-map p.ids (λ e. e.1)) ∙ sym (total-ones (map (λ e. e.1) p.ids)) ∙ often (λ _. 1) ∙ total-ones (taken_from 0 p.cells)
-    where
-      zero-add : (c : ℕ) → 0 + c ≡ c
-      zero-add c = omega arith
+  length-ids = sym (length-map p.ids (λ e. e.1)) ∙ sym (total-ones (map (λ e. e.1) p.ids)) ∙ to_taken (λ _. 1) ∙ total-ones (taken_from 0 p.cells)
+
+  -- what the ids' cells add up to is what all cells add up to, where an empty one adds nothing
+  pub total-cells : (f : Option Resident → ℕ) → f None ≡ 0 → total (λ c. f (held_at p.cells c)) (map (λ e. e.1) p.ids) ≡ total f p.cells
+  total-cells f none = to_taken (λ c. f (held_at p.cells c)) ∙ total-taken f none p.cells 0 p.cells (λ k. ap (held_at p.cells) (zero-add k))
 
   pub full_cells : next_cell p.cells ≡ length p.cells → length p.ids ≡ length p.cells
   full_cells full = length-ids ∙ length-full 0 p.cells full

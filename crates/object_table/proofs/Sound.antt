@@ -1,6 +1,9 @@
 -- What holds of every table holds after each operation that is not refused, and after objects are freed.
 use Rattle.std.proofs.Common.{◌≡◌, ℕ, ◌<◌, ◌≤◌, List, [], ◌∷◌, ◌++◌, length, map, filter, Bool, true, false, not, ◌==◌, cond, get_or, slice_set, IsTrue, Option, None, Some, IfOk, refl, sym, ◌∙◌, ap, subst, arith}
-use Rattle.std.specs.List.{All, AllPairs, list_any, sum_by, IsDistinct}
+use Rattle.std.specs.List.{All, AllPairs, AllByRecursion, list_any, sum_by, IsDistinct}
+use Rattle.std.specs.List.Sorted.{IsStrictlySortedBy}
+use Rattle.std.specs.Map.{keys_of}
+use Rattle.std.specs.declared.cmp.Ordering.TheVariants.{Less}
 use Rattle.std.specs.Option.{IfSome}
 use Rattle.std.specs.Str.{bytes_eq}
 use Rattle.std.specs.Cmp.{IsEquivalence}
@@ -16,17 +19,17 @@ use Rattle.heap_base.specs.declared.limits.TheConstants.{MOST_THREADS}
 use Rattle.graph_meaning.specs.declared.event.Event.{Event}
 use Rattle.graph_meaning.specs.declared.event.Event.TheVariants.{Alloc, Store, SetWeak, Root, AssertInstances}
 use Rattle.graph_meaning.specs.declared.refusal.Refusal.{Refusal}
-use Rattle.graph_meaning.specs.Heap.{Slot, Object, Table, Heap, empty_slot, empty_table, empty_heap, ids, is_live, is_seen}
+use Rattle.graph_meaning.specs.Heap.{Slot, Object, Table, Heap, empty_slot, empty_table, empty_heap, name_cmp, ids, is_live, is_seen, slot_count}
 use Rattle.graph_meaning.specs.Reach.{has_id}
 use Rattle.graph_meaning.specs.Assertions.{root_ids}
-use Rattle.graph_meaning.specs.Collecting.{slot_without, object_without, with_only}
+use Rattle.graph_meaning.specs.Collecting.{slot_without, object_without, with_only, cut_off}
 use Rattle.graph_meaning.specs.Step.{slot_made_weak, alloc_refusal, slot_refusal, store_refusal, root_refusal, kind_refusal, with_object, with_kind, with_slot, with_changed_slot, slot_holding, with_root, heap_unless, step}
 use Rattle.graph_meaning.specs.Laws.{AllLive, HoldsLive, RefersToLive, IdsRise, IsOrdered, IsWithinLimits}
-use Rattle.graph_meaning.proofs.Membership.{length-filter_le}
-use Rattle.graph_meaning.proofs.HeapLemmas.{is_live-with_only}
+use Rattle.graph_meaning.proofs.Membership.{length-filter_le, map-filter}
+use Rattle.graph_meaning.proofs.HeapLemmas.{is_live-with_only, is_live-cut_off}
 use Rattle.graph_meaning.proofs.Keeping.{heaps_refer_to_live}
 use Rattle.graph_meaning.proofs.Orders.{limits_are_kept}
-use Rattle.graph_meaning.proofs.Rising.{ids_always_rise, ids-with_only}
+use Rattle.graph_meaning.proofs.Rising.{ids_always_rise, ids-with_only, ids-cut_off}
 use Rattle.object_table.specs.Placed.{IsSound, LeadsToKept}
 
 -- the heap with this table, where nothing is asserted
@@ -252,3 +255,72 @@ sound_with_only t kept sound leads =
   where
     root_kept : (k d : ℕ) → k < length (root_ids t) → has_id kept (get_or (root_ids t) k d) ≡ true
     root_kept = All-map (λ id. IsTrue (has_id kept id)) (λ r. r.1) t.roots leads.by_roots
+
+-- ---- slots and roots that are cleared
+
+-- the names of the roots that are left, by what they hold
+names_left : (stays : ℕ → Bool) (roots : List (List ℕ × ℕ)) → List (List ℕ)
+names_left stays roots = keys_of (filter (λ r. stays r.1) roots)
+
+below_left : (stays : ℕ → Bool) (name : List ℕ) (roots : List (List ℕ × ℕ)) → AllByRecursion (λ y. name_cmp name y ≡ Less) (keys_of roots) → AllByRecursion (λ y. name_cmp name y ≡ Less) (names_left stays roots)
+unfolding names_left
+below_left stays name [] below = tt
+below_left stays name (r ∷ roots) below = go (stays r.1) (below_left stays name roots below.1)
+  where
+    go : (b : Bool) → AllByRecursion (λ y. name_cmp name y ≡ Less) (names_left stays roots) → AllByRecursion (λ y. name_cmp name y ≡ Less) (keys_of (cond b (r ∷ filter (λ q. stays q.1) roots) (filter (λ q. stays q.1) roots)))
+    go true rest = (below.0, rest)
+    go false rest = rest
+
+sorted_left : (stays : ℕ → Bool) (roots : List (List ℕ × ℕ)) → IsStrictlySortedBy name_cmp (keys_of roots) → IsStrictlySortedBy name_cmp (names_left stays roots)
+unfolding IsStrictlySortedBy names_left
+sorted_left stays [] sorted = tt
+sorted_left stays (r ∷ roots) sorted = go (stays r.1) (sorted_left stays roots sorted.1)
+  where
+    go : (b : Bool) → IsStrictlySortedBy name_cmp (names_left stays roots) → IsStrictlySortedBy name_cmp (keys_of (cond b (r ∷ filter (λ q. stays q.1) roots) (filter (λ q. stays q.1) roots)))
+    go true rest = (below_left stays r.0 roots sorted.0, rest)
+    go false rest = rest
+
+-- a slot holds what it held, or nothing
+cleared_slot : (t : Table) (gone : ℕ → Bool) (s : Slot) → HoldsLive t s → HoldsLive (cut_off gone t) (slot_without gone s)
+cleared_slot t gone s held = go s.held held
+  where
+    by : (id : ℕ) (b : Bool) → IsTrue (is_live t id) → IfSome (cond b (record s { held = None }) (record s { held = Some id })).held (λ x. IsTrue (is_live (cut_off gone t) x))
+    by id true live = tt
+    by id false live = is_live-cut_off gone t id ∙ live
+
+    go : (o : Option ℕ) → IfSome o (λ id. IsTrue (is_live t id)) → HoldsLive (cut_off gone t) (slot_without gone (record s { held = o }))
+    go None held = tt
+    go (Some id) held = by id (gone id) held
+
+-- as many slots as before
+pub slot_count-cut_off : (gone : ℕ → Bool) (t : Table) → slot_count (cut_off gone t) ≡ slot_count t
+slot_count-cut_off gone t = go t.objects
+  where
+    go : (objects : List Object) → sum_by (λ o. length o.slots) (map (object_without gone) objects) ≡ sum_by (λ o. length o.slots) objects
+    go [] = refl
+    go (o ∷ objects) =
+        let rest = go objects in
+        let after = sum_by-cons (λ (u : Object). length u.slots) (object_without gone o) (map (object_without gone) objects) in
+        let before = sum_by-cons (λ (u : Object). length u.slots) o objects in
+        let same = length-map o.slots (slot_without gone) in
+        omega arith
+
+pub sound_cut_off : (t : Table) (gone : ℕ → Bool) → IsSound t → IsSound (cut_off gone t)
+unfolding names_left
+sound_cut_off t gone sound =
+    let stays : ℕ → Bool = λ id. not (gone id) in
+    let same = length-map t.objects (object_without gone) in
+    let fewer = length-filter_le (λ (r : List ℕ × ℕ). stays r.1) t.roots in
+    let limits = sound.limits in
+    record {
+      ids = record {
+        rising = subst (AllPairs (λ x y. x < y)) (sym (ids-cut_off gone t)) sound.ids.rising;
+        within = subst (All (λ id. id ≤ t.greatest)) (sym (ids-cut_off gone t)) sound.ids.within;
+      };
+      kinds = sound.kinds;
+      seen = All-map (λ o. IsTrue (is_seen t.kinds o.kind)) (object_without gone) t.objects sound.seen;
+      names = sorted_left stays t.roots sound.names;
+      roots = subst (All (λ id. IsTrue (is_live (cut_off gone t) id))) (sym (map-filter stays (λ r. r.1) t.roots)) (All-filter stays (λ id. IsTrue (is_live (cut_off gone t) id)) (root_ids t) (All-weaker (λ id. IsTrue (is_live t id)) (λ id. IsTrue (is_live (cut_off gone t) id)) (λ id live. is_live-cut_off gone t id ∙ live) (root_ids t) sound.roots));
+      slots = All-map (λ o. All (HoldsLive (cut_off gone t)) o.slots) (object_without gone) t.objects (λ k d h. All-map (HoldsLive (cut_off gone t)) (slot_without gone) (get_or t.objects k d).slots (All-weaker (HoldsLive t) (λ s. HoldsLive (cut_off gone t) (slot_without gone s)) (cleared_slot t gone) (get_or t.objects k d).slots (sound.slots k d h)));
+      limits = record { objects = omega arith; slots = omega (arith, slot_count-cut_off gone t); roots = omega arith; kinds = limits.kinds };
+    }

@@ -16,7 +16,7 @@ use Rattle.graph_meaning.specs.Step.{not_live, slots_of, alloc_refusal, store_re
 use Rattle.object_table.specs.declared.slot.Slot.{Slot as CellSlot}
 use Rattle.object_table.specs.declared.table.ObjectTable.TheInside.{Inside}
 use Rattle.object_table.specs.Placed.{id_in, slot_in, IsSound, kept_ids, LeadsToKept}
-use Rattle.object_table.specs.Residents.{Resident, is_kept, held_at, held_after, id_held, is_taken, next_cell}
+use Rattle.object_table.specs.Residents.{Resident, is_flagged, held_at, held_after, id_held, is_taken, next_cell}
 use Rattle.object_table.specs.Parts.{Parts, slot_of, object_of, nobody, object_at_cell, placed_of, HoldsTaken, slots_at_cell, IsTable}
 use Rattle.object_table.proofs.Lookups.{found}
 use Rattle.object_table.proofs.Refusals.{alloc_fits, slot_fits, root_taken}
@@ -258,16 +258,16 @@ module _ (p : Parts) (is : IsTable p) where
     sound_kept : (slots : ℕ) → IsSound (placed_of (with_kept p is.laid kept later after slots)).table
     sound_kept slots = subst IsSound (sym (kept_is p is.laid kept later after slots)) (sound_with_only (placed_of p).table (kept_ids (placed_of p).cells kept) is.sound leads)
 
-    pub kept_taken : All (λ e. IsTrue (is_taken later e.1)) (filter (λ e. is_kept kept e.1) p.ids)
+    pub kept_taken : All (λ e. IsTrue (is_taken later e.1)) (filter (λ e. is_flagged kept e.1) p.ids)
     kept_taken k d h =
-        let e : ℕ × ℕ = get_or (filter (λ e. is_kept kept e.1) p.ids) k d in
+        let e : ℕ × ℕ = get_or (filter (λ e. is_flagged kept e.1) p.ids) k d in
         let (o, held, same) = held_with_id later e.1 e.0 ((kept_laid p is.laid kept later after 0 long).stands k d h) in
         ap is_some held
 
-    pub kept_few : sum_by (λ e. slots_at_cell later e.1) (filter (λ e. is_kept kept e.1) p.ids) ≤ MOST_SLOTS
+    pub kept_few : sum_by (λ e. slots_at_cell later e.1) (filter (λ e. is_flagged kept e.1) p.ids) ≤ MOST_SLOTS
     kept_few = omega (arith, (sound_kept 0).limits.slots, slot_count-is (with_kept p is.laid kept later after 0))
 
-    pub table_kept : (slots : ℕ) → slots ≡ sum_by (λ e. slots_at_cell later e.1) (filter (λ e. is_kept kept e.1) p.ids) → IsTable (with_kept p is.laid kept later after slots)
+    pub table_kept : (slots : ℕ) → slots ≡ sum_by (λ e. slots_at_cell later e.1) (filter (λ e. is_flagged kept e.1) p.ids) → IsTable (with_kept p is.laid kept later after slots)
     table_kept slots counted = record {
       laid = kept_laid p is.laid kept later after slots long;
       counted = counted ∙ sym (slot_count-is (with_kept p is.laid kept later after slots));

@@ -1,8 +1,9 @@
 -- A list that stands in blocks, one after another.
-use Rattle.std.specs.Prelude.{◌≡◌, ℕ, ◌+◌, ◌<◌, ◌≤◌, List, [], ◌∷◌, length, take, All, Bool, false}
+use Rattle.std.specs.Prelude.{◌≡◌, ℕ, ◌+◌, ◌<◌, ◌≤◌, List, [], ◌∷◌, length, take, filter, All, Bool, false, not}
 use Rattle.std.specs.List.{flat_map}
 use Rattle.std.specs.Ordering.{is_gt}
 use Rattle.graph_meaning.specs.Heap.{name_cmp}
+use Rattle.object_table.specs.Located.{is_marked}
 
 -- A run of the list: its roots, and the place of the first.
 pub record Run (X : Type 0) : Type 0 where
@@ -38,3 +39,11 @@ laid_from start (r ∷ runs) = record { start = start; roots = r.roots } ∷ lai
 abbrev pub begins_above : List ℕ → List (List ℕ × ℕ) → Bool
 begins_above name [] = false
 begins_above name (r ∷ roots) = is_gt (name_cmp r.0 name)
+
+-- the roots that don't hold the object of a marked cell
+abbrev pub roots_cleared : List (ℕ × ℕ) → List Bool → List (List ℕ × ℕ) → List (List ℕ × ℕ)
+roots_cleared ids marked roots = filter (λ r. not (is_marked ids marked r.1)) roots
+
+-- the run with those roots alone
+abbrev pub run_cleared : List (ℕ × ℕ) → List Bool → Run (List ℕ × ℕ) → Run (List ℕ × ℕ)
+run_cleared ids marked run = record run { roots = roots_cleared ids marked run.roots }

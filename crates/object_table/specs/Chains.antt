@@ -2,7 +2,7 @@
 use Rattle.std.specs.Prelude.{◌≡◌, ℕ, ◌+◌, ◌<◌, ◌≤◌, List, [], ◌∷◌, length, Option, None, Some, Bool, true, false, slice_set}
 use Rattle.heap_base.specs.declared.limits.TheConstants.{MOST_OBJECTS}
 use Rattle.object_table.specs.declared.slot.Slot.{Slot}
-use Rattle.object_table.specs.Residents.{Resident, is_kept, resident_after}
+use Rattle.object_table.specs.Residents.{Resident, is_flagged, resident_after, resident_cleared, holders_held}
 use Rattle.object_table.specs.declared.cell.Cell.{Cell}
 use Rattle.object_table.specs.declared.cell.Cell.TheVariants.{Taken, Empty}
 
@@ -57,11 +57,20 @@ abbrev pub with_slots_after : List Bool → Cell → Cell
 with_slots_after kept (Taken o) = Taken (resident_after kept o)
 with_slots_after kept (Empty next) = Empty next
 
+-- the cell, with no slot of the object in it that holds the object of a marked cell
+abbrev pub with_slots_cleared : List Bool → Cell → Cell
+with_slots_cleared marked (Taken o) = Taken (resident_cleared marked o)
+with_slots_cleared marked (Empty next) = Empty next
+
+-- how many slots of the object in the cell hold the object of a marked cell
+abbrev pub holders_at : List Bool → Cell → ℕ
+holders_at marked c = holders_held marked (resident_in c)
+
 -- the cells after those that are not kept were emptied, where they are numbered from n on
 abbrev pub cells_after : List Bool → ℕ → List Cell → List Cell
 cells_after kept n [] = []
 cells_after kept n (c ∷ cells) =
-    let rest = cells_after kept (n + 1) cells in cell_after (is_kept kept n) kept (first_empty (n + 1) rest) c ∷ rest
+    let rest = cells_after kept (n + 1) cells in cell_after (is_flagged kept n) kept (first_empty (n + 1) rest) c ∷ rest
 
 -- Each empty cell leads to the next, this is the first, and there are no more cells than there may be objects.
 pub record IsHoused (cells : List Cell) (first : Option ℕ) : Type 0 where

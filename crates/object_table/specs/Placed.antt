@@ -78,6 +78,10 @@ kept_ids (c ∷ cells) [] = []
 kept_ids (c ∷ cells) (true ∷ kept) = cons_option c (kept_ids cells kept)
 kept_ids (c ∷ cells) (false ∷ kept) = kept_ids cells kept
 
+-- the ids of the objects in marked cells
+abbrev pub marked_ids : List (Option ℕ) → List Bool → List ℕ
+marked_ids cells marked = kept_ids cells marked
+
 -- No root names and no edge of a kept object leads to an object that is not kept.
 pub record LeadsToKept (t : Table) (kept : List ℕ) : Type 0 where
   pub by_roots : All (λ r. IsTrue (has_id kept r.1)) t.roots

@@ -1,6 +1,6 @@
 -- Objects as they stand in cells: a slot holds a cell and not an id.
 use Rattle.std.specs.Prelude.{ℕ, List, [], ◌∷◌, ◌++◌, length, map, Bool, not, false, nat_lt, if◌then◌else◌, Option, None, Some, is_some, slice_set, slice_index_or}
-use Rattle.std.specs.List.{position_or_len}
+use Rattle.std.specs.List.{count_by, position_or_len}
 use Rattle.std.specs.Option.{option_map, option_map_or}
 use Rattle.object_table.specs.declared.slot.Slot.{Slot}
 
@@ -14,17 +14,33 @@ pub record Resident : Type 0 where
 abbrev pub no_edge : Slot
 no_edge = record { held = None; weak = false }
 
--- whether the cell is among those that are kept
-abbrev pub is_kept : List Bool → ℕ → Bool
-is_kept kept cell = slice_index_or kept cell false
+-- whether the flag of the cell is set
+abbrev pub is_flagged : List Bool → ℕ → Bool
+is_flagged kept cell = slice_index_or kept cell false
 
 -- the slot after the cells that are not kept were emptied
 abbrev pub slot_after : List Bool → Slot → Slot
-slot_after kept slot = if option_map_or (λ cell. not (is_kept kept cell)) slot.held false then record slot { held = None } else slot
+slot_after kept slot = if option_map_or (λ cell. not (is_flagged kept cell)) slot.held false then record slot { held = None } else slot
 
 -- the object after the cells that are not kept were emptied
 abbrev pub resident_after : List Bool → Resident → Resident
 resident_after kept o = record o { slots = map (slot_after kept) o.slots }
+
+-- whether the slot holds the object of a marked cell
+abbrev pub holds_marked : List Bool → Slot → Bool
+holds_marked marked slot = option_map_or (is_flagged marked) slot.held false
+
+-- the slot, emptied if it holds the object of a marked cell
+abbrev pub slot_cleared : List Bool → Slot → Slot
+slot_cleared marked slot = if holds_marked marked slot then record slot { held = None } else slot
+
+-- the object with no slot that holds the object of a marked cell
+abbrev pub resident_cleared : List Bool → Resident → Resident
+resident_cleared marked o = record o { slots = map (slot_cleared marked) o.slots }
+
+-- how many slots of the object hold the object of a marked cell
+abbrev pub holders_in : List Bool → Resident → ℕ
+holders_in marked o = count_by (holds_marked marked) o.slots
 
 -- ---- what the cells hold
 
@@ -50,4 +66,8 @@ with_resident cells o =
 
 -- what a cell holds after those that are not kept were emptied
 abbrev pub held_after : List Bool → List (Option Resident) → ℕ → Option Resident
-held_after kept cells cell = if is_kept kept cell then option_map (resident_after kept) (held_at cells cell) else None
+held_after kept cells cell = if is_flagged kept cell then option_map (resident_after kept) (held_at cells cell) else None
+
+-- how many slots of the object that a cell holds, if any, hold the object of a marked cell
+abbrev pub holders_held : List Bool → Option Resident → ℕ
+holders_held marked held = option_map_or (holders_in marked) held 0

@@ -2,9 +2,11 @@ ghost use Rattle.std.specs.Prelude.{◌≡◌, ◌+◌, ◌<◌, ◌≤◌, ◌�
 ghost use Rattle.std.specs.List.{insert, remove};
 ghost use Rattle.std.specs.List.Sorted.{IsSearchInRange};
 ghost use Rattle.heap_base.specs.declared.limits.TheConstants.{MOST_ROOTS};
-ghost use Rattle.object_table.specs.Blocks.{Run, begins_above};
+ghost use Rattle.object_table.specs.Blocks.{Run, begins_above, run_cleared};
+ghost use Rattle.object_table.specs.Located.{RisesById};
 ghost use Rattle.object_table.specs.Ordered.{IsNamedAt, IsGapFor, RisesByName};
 
+use crate::ids::Ids;
 use crate::root::Root;
 use heap_base::{Name, ObjId, OutOfMemory};
 use std::alloc::Global;
@@ -115,6 +117,14 @@ impl Block {
         ensures { self.new ≡ record self.old { roots = remove self.old.roots place } }
     {
         self.roots.remove(place);
+    }
+
+    /// Takes away the roots that hold the object of a marked cell.
+    pub fn clear_to(&mut self, ids: &Ids, marked: &[bool])
+        requires { RisesById ids.now }
+        ensures { self.new ≡ run_cleared ids.now marked.now self.old }
+    {
+        self.roots.retain(|root| !ids.is_marked(root.id(), marked));
     }
 
     /// Takes the roots from this place on into a block of their own.

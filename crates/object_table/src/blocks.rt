@@ -2,10 +2,12 @@ ghost use Rattle.std.specs.Prelude.{◌≡◌, ◌+◌, ◌<◌, ◌≤◌, ◌+
 ghost use Rattle.std.specs.List.{insert, remove};
 ghost use Rattle.std.specs.List.Sorted.{IsSearchInRange};
 ghost use Rattle.heap_base.specs.declared.limits.TheConstants.{MOST_ROOTS};
-ghost use Rattle.object_table.specs.Blocks.{all_roots, IsLaid, IsRunOf, NoneEmpty, laid_from};
+ghost use Rattle.object_table.specs.Blocks.{all_roots, IsLaid, IsRunOf, NoneEmpty, laid_from, roots_cleared};
+ghost use Rattle.object_table.specs.Located.{RisesById};
 ghost use Rattle.object_table.specs.Ordered.{IsOrdered, IsNamedAt, IsGapFor};
 
 use crate::block::Block;
+use crate::ids::Ids;
 use crate::root::Root;
 use heap_base::{Name, ObjId, OutOfMemory};
 use std::alloc::Global;
@@ -124,6 +126,19 @@ impl Blocks {
         merge_with_next(&mut self.blocks, at.saturating_sub(1));
         renumber(&mut self.blocks);
     }
+
+    /// Takes away the roots that hold the object of a marked cell. Blocks that then have few roots together become
+    /// one.
+    pub fn clear_to(&mut self, ids: &Ids, marked: &[bool])
+        requires rising { RisesById ids.now }
+        requires few { length self.old ≤ MOST_ROOTS }
+        ensures { self.new ≡ roots_cleared ids.now marked.now self.old }
+    {
+        clear_blocks(&mut self.blocks, ids, marked);
+        drop_empty(&mut self.blocks);
+        merge_neighbours(&mut self.blocks);
+        renumber(&mut self.blocks);
+    }
 }
 
 // The block of the root at this place, and at the list's end the last block.
@@ -214,6 +229,37 @@ fn take(blocks: &mut Vec<Block>, at: usize, place: usize)
         let block = &mut blocks[at];
         let start = block.start();
         block.remove(place - start);
+    }
+}
+
+// Takes away the roots of each block that hold the object of a marked cell.
+fn clear_blocks(blocks: &mut Vec<Block>, ids: &Ids, marked: &[bool])
+    requires { RisesById ids.now }
+    ensures { all_roots blocks.new.items ≡ roots_cleared ids.now marked.now (all_roots blocks.old.items) }
+{
+    for at in 0..blocks.len() {
+        let block = &mut blocks[at];
+        block.clear_to(ids, marked);
+    }
+}
+
+// Takes the blocks away that have no root.
+fn drop_empty(blocks: &mut Vec<Block>)
+    ensures some { NoneEmpty blocks.new.items }
+    ensures same { all_roots blocks.new.items ≡ all_roots blocks.old.items }
+{
+    blocks.retain(|block| block.len() > 0);
+}
+
+// Makes one block of neighbours that have few roots together. From the last to the first block: one that has become
+// longer is too long for the next one as well.
+fn merge_neighbours(blocks: &mut Vec<Block>)
+    requires { NoneEmpty blocks.old.items }
+    ensures some { NoneEmpty blocks.new.items }
+    ensures same { all_roots blocks.new.items ≡ all_roots blocks.old.items }
+{
+    for at in (0..blocks.len()).rev() {
+        merge_with_next(blocks, at);
     }
 }
 

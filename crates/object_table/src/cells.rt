@@ -1,13 +1,13 @@
-ghost use Rattle.std.specs.Prelude.{◌≡◌, ℕ, ◌<◌, ◌≤◌, [], length, IsTrue, Some, IsSome, IfSome, OnOk, slice_get, slice_set};
+ghost use Rattle.std.specs.Prelude.{◌≡◌, ℕ, ◌<◌, ◌≤◌, [], length, map, sum_by, IsTrue, Some, IsSome, IfSome, OnOk, slice_get, slice_set};
 ghost use Rattle.std.specs.Option.{option_map};
-ghost use Rattle.heap_base.specs.declared.limits.TheConstants.{MOST_OBJECTS};
-ghost use Rattle.object_table.specs.Residents.{held_at, held_after, id_held, is_kept, next_cell, with_resident};
-ghost use Rattle.object_table.specs.Chains.{first_empty, IsLinked, cells_after, cell_after, empty_from};
+ghost use Rattle.heap_base.specs.declared.limits.TheConstants.{MOST_OBJECTS, MOST_SLOTS};
+ghost use Rattle.object_table.specs.Residents.{held_at, held_after, id_held, is_flagged, next_cell, with_resident, resident_cleared, holders_held};
+ghost use Rattle.object_table.specs.Chains.{first_empty, IsLinked, cells_after, cell_after, empty_from, with_slots_cleared, holders_at};
 
 use crate::cell::Cell;
 use crate::object::Object;
 use crate::pages::Pages;
-use crate::slot::{Slot, is_kept};
+use crate::slot::{Slot, is_flagged};
 use heap_base::{ObjId, OutOfMemory};
 use std::alloc::Global;
 use std::marker::Model;
@@ -124,6 +124,15 @@ impl Cells {
     {
         self.first_empty = sweep(&mut self.pages, kept);
     }
+
+    /// Empties the slots, weak or not, that hold the object of a marked cell. Answers how many these were.
+    pub fn clear_to(&mut self, marked: &[bool]) -> u32
+        requires few { sum_by (holders_held marked.now) self.old.cells ≤ MOST_SLOTS }
+        ensures cleared { self.new.cells ≡ map (option_map (resident_cleared marked.now)) self.old.cells }
+        ensures count { result ≡ sum_by (holders_held marked.now) self.old.cells }
+    {
+        clear_slots(&mut self.pages, marked)
+    }
 }
 
 // Empties the cells that are not kept, and each slot that holds what stood in one. It answers the first empty cell.
@@ -142,14 +151,27 @@ fn sweep(pages: &mut Pages, kept: &[bool]) -> Option<u32>
 // kept. It answers the first empty cell from this one on, where `later` is the first after it.
 fn sweep_cell(pages: &mut Pages, cell: u32, later: Option<u32>, kept: &[bool]) -> Option<u32>
     requires { cell < length pages.old.cells }
-    ensures put { IfSome (slice_get pages.old.cells cell) (λ c. pages.new ≡ record pages.old { cells = slice_set pages.old.cells cell (cell_after (is_kept kept.now cell) kept.now later c) }) }
-    ensures first { IfSome (slice_get pages.old.cells cell) (λ c. result ≡ empty_from cell (cell_after (is_kept kept.now cell) kept.now later c) later) }
+    ensures put { IfSome (slice_get pages.old.cells cell) (λ c. pages.new ≡ record pages.old { cells = slice_set pages.old.cells cell (cell_after (is_flagged kept.now cell) kept.now later c) }) }
+    ensures first { IfSome (slice_get pages.old.cells cell) (λ c. result ≡ empty_from cell (cell_after (is_flagged kept.now cell) kept.now later c) later) }
 {
-    if is_kept(kept, cell) && matches!(pages.at(cell), Cell::Taken(_)) {
+    if is_flagged(kept, cell) && matches!(pages.at(cell), Cell::Taken(_)) {
         pages.keep(cell, kept);
         later
     } else {
         pages.put(cell, Cell::Empty(later));
         Some(cell)
     }
+}
+
+// Empties the slots, weak or not, that hold the object of a marked cell. It answers how many these were.
+fn clear_slots(pages: &mut Pages, marked: &[bool]) -> u32
+    requires few { sum_by (holders_at marked.now) pages.old.cells ≤ MOST_SLOTS }
+    ensures cleared { pages.new.cells ≡ map (with_slots_cleared marked.now) pages.old.cells }
+    ensures count { result ≡ sum_by (holders_at marked.now) pages.old.cells }
+{
+    let mut cleared = 0;
+    for cell in 0..pages.len() {
+        cleared += pages.clear_to(cell, marked);
+    }
+    cleared
 }

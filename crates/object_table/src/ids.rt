@@ -2,11 +2,11 @@ ghost use Rattle.std.specs.Prelude.{◌≡◌, ◌-◌, ◌<◌, ◌≤◌, ◌+
 ghost use Rattle.std.specs.Map.{lookup};
 ghost use Rattle.std.specs.Ordering.{nat_cmp};
 ghost use Rattle.std.specs.BTreeMap.{is_at};
-ghost use Rattle.object_table.specs.Residents.{is_kept};
-ghost use Rattle.object_table.specs.Located.{RisesById};
+ghost use Rattle.object_table.specs.Residents.{is_flagged};
+ghost use Rattle.object_table.specs.Located.{RisesById, is_marked};
 
 use crate::directory::Directory;
-use crate::slot::is_kept;
+use crate::slot::is_flagged;
 use heap_base::{ObjId, OutOfMemory};
 use std::alloc::Global;
 use std::marker::Model;
@@ -53,6 +53,17 @@ impl Ids {
         match near.binary_search_by_key(&id.number(), |entry| entry.0.number()) {
             Ok(place) => Some(near[place].1),
             Err(_) => None,
+        }
+    }
+
+    /// Whether the object with this id stands in a marked cell.
+    pub fn is_marked(&self, id: ObjId, marked: &[bool]) -> bool
+        requires { RisesById self.now }
+        ensures { result ≡ is_marked self.now marked.now id }
+    {
+        match self.find(id) {
+            Some(cell) => is_flagged(marked, cell),
+            None => false,
         }
     }
 
@@ -122,9 +133,9 @@ impl Ids {
 
     /// Takes the ids away whose cells are not kept.
     pub fn keep(&mut self, kept: &[bool])
-        ensures { self.new ≡ filter (λ e. is_kept kept.now e.1) self.old }
+        ensures { self.new ≡ filter (λ e. is_flagged kept.now e.1) self.old }
     {
-        self.entries.retain(|entry| is_kept(kept, entry.1));
+        self.entries.retain(|entry| is_flagged(kept, entry.1));
         self.directory.keep(&self.entries);
     }
 }

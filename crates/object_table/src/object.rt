@@ -1,6 +1,6 @@
 ghost use Rattle.std.specs.Prelude.{◌≡◌, ◌<◌, ◌≤◌, length, map, replicate, slice_get, slice_set, Some, IfOk};
 ghost use Rattle.heap_base.specs.declared.limits.TheConstants.{MOST_SLOTS};
-ghost use Rattle.object_table.specs.Residents.{Resident, no_edge, slot_after};
+ghost use Rattle.object_table.specs.Residents.{Resident, no_edge, slot_after, holders_in, resident_cleared};
 
 use crate::slot::Slot;
 use heap_base::{ObjId, OutOfMemory};
@@ -86,5 +86,17 @@ impl Object {
         for slot in 0..self.slots.len() {
             self.slots[slot] = self.slots[slot].after(kept);
         }
+    }
+
+    /// Empties the slots, weak or not, that hold the object of a marked cell. Answers how many these were.
+    pub fn clear_to(&mut self, marked: &[bool]) -> u32
+        ensures cleared { self.new ≡ resident_cleared marked.now self.old }
+        ensures count { result ≡ holders_in marked.now self.old }
+    {
+        let mut cleared = 0;
+        for slot in 0..self.slots.len() {
+            cleared += u32::from(self.slots[slot].clear_to(marked));
+        }
+        cleared
     }
 }

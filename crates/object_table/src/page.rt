@@ -1,5 +1,5 @@
 ghost use Rattle.std.specs.Prelude.{◌≡◌, ◌<◌, length, slice_get, slice_set, Some, IfSome, IfOk};
-ghost use Rattle.object_table.specs.Chains.{HasSlot, with_slot_put, with_slots_after};
+ghost use Rattle.object_table.specs.Chains.{HasSlot, with_slot_put, with_slots_after, with_slots_cleared, holders_at};
 
 use crate::cell::Cell;
 use crate::slot::Slot;
@@ -72,6 +72,19 @@ impl Page {
     {
         if let Cell::Taken(object) = &mut self.cells[place] {
             object.keep(kept);
+        }
+    }
+
+    /// Empties the slots of the object in the cell at a place of the page, weak or not, that hold the object of a
+    /// marked cell. Answers how many these were.
+    pub fn clear_to(&mut self, place: usize, marked: &[bool]) -> u32
+        requires { place < length self.old }
+        ensures cleared { IfSome (slice_get self.old place) (λ c. self.new ≡ slice_set self.old place (with_slots_cleared marked.now c)) }
+        ensures count { IfSome (slice_get self.old place) (λ c. result ≡ holders_at marked.now c) }
+    {
+        match &mut self.cells[place] {
+            Cell::Taken(object) => object.clear_to(marked),
+            Cell::Empty(_) => 0,
         }
     }
 }

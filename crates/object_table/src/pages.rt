@@ -1,6 +1,6 @@
 ghost use Rattle.std.specs.Prelude.{◌≡◌, ◌-◌, ◌<◌, ◌≤◌, ◌++◌, ◌∷◌, [], length, slice_get, slice_set, Some, IfSome, OnOk};
 ghost use Rattle.heap_base.specs.declared.limits.TheConstants.{MOST_OBJECTS};
-ghost use Rattle.object_table.specs.Chains.{HasSlot, with_slot_put, with_slots_after};
+ghost use Rattle.object_table.specs.Chains.{HasSlot, with_slot_put, with_slots_after, with_slots_cleared, holders_at};
 
 use crate::cell::Cell;
 use crate::page::{PAGE, Page};
@@ -86,6 +86,18 @@ impl Pages {
         let cell = cell as usize;
         let page = &mut self.pages[cell / PAGE];
         page.keep(cell % PAGE, kept);
+    }
+
+    /// Empties the slots of the object in the cell with this number, weak or not, that hold the object of a marked
+    /// cell. Answers how many these were.
+    pub fn clear_to(&mut self, cell: u32, marked: &[bool]) -> u32
+        requires { cell < length self.old.cells }
+        ensures cleared { IfSome (slice_get self.old.cells cell) (λ c. self.new ≡ record self.old { cells = slice_set self.old.cells cell (with_slots_cleared marked.now c) }) }
+        ensures count { IfSome (slice_get self.old.cells cell) (λ c. result ≡ holders_at marked.now c) }
+    {
+        let cell = cell as usize;
+        let page = &mut self.pages[cell / PAGE];
+        page.clear_to(cell % PAGE, marked)
     }
 
     /// Takes memory for one more cell where there is none.

@@ -1,12 +1,16 @@
 ghost use Rattle.std.specs.Prelude.{◌≡◌, ◌<◌, ◌≤◌, [], length, is_some, slice_get, IfSome, IfOk, IfErr, OnOk, OnErr, None};
+ghost use Rattle.std.specs.List.{count_by};
 ghost use Rattle.std.specs.List.Sorted.{IsSearchInRange};
 ghost use Rattle.std.specs.Map.{lookup, remove_entry};
 ghost use Rattle.std.specs.BTreeMap.{insert_entry, is_at};
 ghost use Rattle.heap_base.specs.declared.limits.TheConstants.{MOST_ROOTS};
 ghost use Rattle.graph_meaning.specs.Heap.{name_cmp};
+ghost use Rattle.object_table.specs.Blocks.{roots_cleared};
+ghost use Rattle.object_table.specs.Located.{RisesById, is_marked};
 ghost use Rattle.object_table.specs.Ordered.{IsOrdered, IsNamedAt, IsGapFor};
 
 use crate::blocks::Blocks;
+use crate::ids::Ids;
 use crate::root::Root;
 use heap_base::{Name, ObjId, OutOfMemory};
 use std::alloc::Global;
@@ -98,6 +102,18 @@ impl Roots {
         if let Ok(place) = self.search(name) {
             self.blocks.remove(place);
         }
+    }
+
+    /// Takes away the roots that hold the object of a marked cell. Answers how many these were.
+    pub fn clear_to(&mut self, ids: &Ids, marked: &[bool]) -> u32
+        requires { RisesById ids.now }
+        ensures cleared { self.new ≡ roots_cleared ids.now marked.now self.old }
+        ensures count { result ≡ count_by (λ r. is_marked ids.now marked.now r.1) self.old }
+        ensures few { result ≤ MOST_ROOTS }
+    {
+        let before = self.len();
+        self.blocks.clear_to(ids, marked);
+        before - self.len()
     }
 
     // Where the name is, or where it would go.

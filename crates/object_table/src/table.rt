@@ -4,10 +4,11 @@ ghost use Rattle.std.specs.Str.{bytes_eq};
 ghost use Rattle.heap_base.specs.declared.limits.TheConstants.{MOST_SLOTS};
 ghost use Rattle.graph_meaning.specs.Answers.{RefusesBy};
 ghost use Rattle.graph_meaning.specs.Heap.{edge_of, ids, is_live};
-ghost use Rattle.graph_meaning.specs.Collecting.{with_only};
+ghost use Rattle.graph_meaning.specs.Collecting.{with_only, cut_off, holders_of};
+ghost use Rattle.graph_meaning.specs.Reach.{has_id};
 ghost use Rattle.graph_meaning.specs.Step.{alloc_refusal, with_object, not_live, slot_refusal, target_refusal, store_refusal, with_changed_slot, slot_holding, slot_made_weak, root_refusal, with_root, is_root, kind_refusal, with_kind};
 ghost use Rattle.graph_meaning.specs.Views.{heap_view};
-ghost use Rattle.object_table.specs.Placed.{nothing_placed, id_in, object_in, slots_in, slot_in, IsPlaced, IsSound, TakesCell, KeepsCells, kept_ids, LeadsToKept};
+ghost use Rattle.object_table.specs.Placed.{nothing_placed, id_in, object_in, slots_in, slot_in, IsPlaced, IsSound, TakesCell, KeepsCells, kept_ids, marked_ids, LeadsToKept};
 ghost use Rattle.object_table.specs.Residents.{is_taken};
 ghost use Rattle.object_table.specs.Parts.{slots_at_cell};
 
@@ -314,6 +315,20 @@ impl ObjectTable {
         self.cells.keep(kept);
         self.ids.keep(kept);
         self.slots = slots_of(&self.ids, &self.cells);
+    }
+
+    /// Empties every slot, weak or not, that holds the object of a marked cell, and takes away every root that names
+    /// one. A slot stays weak where it is, and each object keeps its cell. Answers how many slots and roots these
+    /// were.
+    pub fn clear_to(&mut self, marked: &[bool]) -> u32
+        requires each { length marked.now ≡ length self.old.cells }
+        ensures cleared { self.new.table ≡ cut_off (has_id (marked_ids self.old.cells marked.now)) self.old.table }
+        ensures count { result ≡ holders_of (has_id (marked_ids self.old.cells marked.now)) self.old.table }
+        ensures cells { self.new.cells ≡ self.old.cells }
+    {
+        let roots = self.roots.clear_to(&self.ids, marked);
+        let slots = self.cells.clear_to(marked);
+        slots + roots
     }
 
     // Why a new object may not have this type.

@@ -1,6 +1,6 @@
 use Rattle.std.proofs.Common.{◌-◌, arith}
 use Rattle.object_table.specs.Chains.{cell_after}
-use Rattle.object_table.specs.Residents.{is_kept}
+use Rattle.object_table.specs.Residents.{is_flagged}
 use Rattle.object_table.proofs.Housing.{put_alone, swept_within, swept_none, swept_more, swept_all}
 use Rattle.object_table.proofs.cells.sweep.Goals as goal
 
@@ -12,7 +12,7 @@ sweep_cell-first-requires c = swept_within c.args.kept.now c.args.pages.now.cell
 
 pub loop-cell-preserved : goal.loop-cell-preserved
 loop-cell-preserved c =
-    let change = cell_after (is_kept c.args.kept.now (c.loop-cell.cell - 1)) c.args.kept.now c.loop-cell.first in
+    let change = cell_after (is_flagged c.args.kept.now (c.loop-cell.cell - 1)) c.args.kept.now c.loop-cell.first in
     swept_more c.args.kept.now c.args.pages.now.cells c.loop-cell.pages.cells c.sweep_cell-first.new.pages.cells c.loop-cell.cell c.loop-cell.first c.sweep_cell-first.result c.loop-cell.invariant c.loop-cell-test.true (put_alone c.loop-cell.pages c.sweep_cell-first.new.pages (c.loop-cell.cell - 1) change c.sweep_cell-first.ensures.put) c.sweep_cell-first.ensures.first
 
 pub returns-clause-cells : goal.returns-clause-cells
