@@ -18,3 +18,4 @@ pub mod Searches
 pub mod Shown
 pub mod Sound
 pub mod Tables
+pub mod TestEdges

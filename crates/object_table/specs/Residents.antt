@@ -16,7 +16,7 @@ no_edge = record { held = None; weak = false }
 
 -- whether the flag of the cell is set
 abbrev pub is_flagged : List Bool → ℕ → Bool
-is_flagged kept cell = slice_index_or kept cell false
+is_flagged flags cell = slice_index_or flags cell false
 
 -- the slot after the cells that are not kept were emptied
 abbrev pub slot_after : List Bool → Slot → Slot

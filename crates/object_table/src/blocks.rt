@@ -251,8 +251,8 @@ fn drop_empty(blocks: &mut Vec<Block>)
     blocks.retain(|block| block.len() > 0);
 }
 
-// Makes one block of neighbours that have few roots together. From the last to the first block: one that has become
-// longer is too long for the next one as well.
+// Makes one block of neighbours that have few roots together. It goes from the last block to the first: one that takes
+// its neighbour in still has too many roots together with the one after.
 fn merge_neighbours(blocks: &mut Vec<Block>)
     requires { NoneEmpty blocks.old.items }
     ensures some { NoneEmpty blocks.new.items }

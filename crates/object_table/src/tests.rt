@@ -1,8 +1,9 @@
-ghost use Rattle.std.specs.Prelude.{◌≡◌, ◌<◌};
+ghost use Rattle.std.specs.Prelude.{◌≡◌, ◌<◌, ℕ, [], length, IfOk, OnOk};
+ghost use Rattle.graph_meaning.specs.Heap.{targets};
 
 use crate::ObjectTable;
 use graph_meaning::{HeapView, Refusal, Stop};
-use heap_base::{Name, ObjId};
+use heap_base::{Name, ObjId, OutOfMemory};
 use std::alloc::Global;
 use std::test::Fail;
 
@@ -120,11 +121,30 @@ fn see_types(alloc: Global, table: &mut ObjectTable) -> Result<bool, Fail> {
     Ok(true)
 }
 
+// The name of the last type.
+fn last_type(table: &ObjectTable) -> Option<&str> {
+    let last = table.kinds().checked_sub(1)?;
+    Some(table.kind_name(last).as_str())
+}
+
+// Why an object of this type without slots is refused.
+fn add_of(
+    alloc: Global,
+    table: &mut ObjectTable,
+    id: ObjId,
+    kind: &str,
+) -> Result<Option<Stop>, Fail> {
+    let kind = name(alloc, kind)?;
+    Ok(table.alloc_object(id, &kind, 0).err())
+}
+
 #[test]
 fn types_are_limited(rt: HostRuntime) -> Result<(), Fail> {
     let mut table = ObjectTable::make(rt.alloc())?;
     assert!(rt; see_types(rt.alloc(), &mut table)?);
-    let more = refused(rt.alloc(), &mut table, id(1), 0)?;
+    assert_eq!(rt; last_type(&table), Some("n65535"));
+    assert_eq!(rt; add_of(rt.alloc(), &mut table, id(1), "n65535")?, None);
+    let more = refused(rt.alloc(), &mut table, id(2), 0)?;
     assert_eq!(rt; more, Some(Stop::Refused(Refusal::TooManyTypes)));
     Ok(())
 }
@@ -258,6 +278,92 @@ fn weak_slots_are_refused_in_order(rt: HostRuntime) -> Result<(), Fail> {
     Ok(())
 }
 
+// ---- cells
+
+// Adds an object to a table without roots and edges.
+fn add_apart(table: &mut ObjectTable, id: ObjId, kind: &Name, slots: u32) -> Result<(), Stop>
+    requires roots { table.old.table.roots ≡ [] }
+    requires edges { (x : ℕ) → targets table.old.table x ≡ [] }
+    ensures roots { OnOk result (table.new.table.roots ≡ []) }
+    ensures edges { OnOk result ((x : ℕ) → targets table.new.table x ≡ []) }
+{
+    table.alloc_object(id, kind, slots)?;
+    Ok(())
+}
+
+// A table with objects of these ids, each with this many slots, and without roots and edges.
+fn table_apart(alloc: Global, ids: &[ObjId], kind: &Name, slots: u32) -> Result<ObjectTable, Stop>
+    ensures roots { IfOk result (λ t. t.table.roots ≡ []) }
+    ensures edges { IfOk result (λ t. (x : ℕ) → targets t.table x ≡ []) }
+{
+    let mut table = ObjectTable::make(alloc)?;
+    for id in ids {
+        add_apart(&mut table, *id, kind, slots)?;
+    }
+    Ok(table)
+}
+
+// Frees one object of a table without roots and edges.
+fn free(alloc: Global, table: &mut ObjectTable, id: ObjId) -> Result<(), OutOfMemory>
+    requires roots { table.old.table.roots ≡ [] }
+    requires edges { (x : ℕ) → targets table.old.table x ≡ [] }
+{
+    let mut kept = vec![in alloc; true; table.cells() as usize]?;
+    if let Some(cell) = table.cell_of(id) {
+        // what is true of every table
+        let cells = table.cells();
+        prove!(cell < cells);
+        kept[cell as usize] = false;
+    }
+    table.keep(kept.as_slice());
+    Ok(())
+}
+
+// The objects 3, 5 and 8, of which 5 is freed.
+fn with_a_gap(alloc: Global) -> Result<ObjectTable, Fail> {
+    let kind = name(alloc, "A")?;
+    let mut table = table_apart(alloc, &[id(3), id(5), id(8)], &kind, 1)?;
+    free(alloc, &mut table, id(5))?;
+    Ok(table)
+}
+
+// The id of the object that is this number among all by their ids.
+fn nth(table: &ObjectTable, number: u32) -> Option<u32> {
+    if number >= table.live() {
+        return None;
+    }
+    number_in(table, Some(table.nth_cell(number)))
+}
+
+#[test]
+fn objects_are_numbered_by_id_after_one_is_freed(rt: HostRuntime) -> Result<(), Fail> {
+    let table = with_a_gap(rt.alloc())?;
+    assert_eq!(rt;
+        (nth(&table, 0), nth(&table, 1), nth(&table, 2)),
+        (Some(3), Some(8), None)
+    );
+    assert_eq!(rt; table.cells(), 3);
+    Ok(())
+}
+
+#[test]
+fn objects_are_numbered_by_id_in_cells_used_again(rt: HostRuntime) -> Result<(), Fail> {
+    let mut table = with_a_gap(rt.alloc())?;
+    add_all(rt.alloc(), &mut table, &[id(9), id(12)], 1)?;
+    assert_eq!(rt; table.cells(), 4);
+    assert!(rt; table.cell_of(id(9)) < table.cell_of(id(8)));
+    for (number, object) in [
+        (0, Some(3)),
+        (1, Some(8)),
+        (2, Some(9)),
+        (3, Some(12)),
+        (4, None),
+    ] {
+        assert_eq!(rt; nth(&table, number), object, "number {number}");
+    }
+    Ok(())
+}
+
 // ---- roots
 
 // Lets each root hold the object.
@@ -363,6 +469,111 @@ fn many_roots_are_taken_away(rt: HostRuntime) -> Result<(), Fail> {
     assert!(rt; stand_in_order(rt.alloc(), &table, 1, 2)?);
     take_half(rt.alloc(), &mut table, true)?;
     assert_eq!(rt; table.roots(), 0);
+    Ok(())
+}
+
+// ---- what is cleared
+
+// For each cell, whether its object has one of these ids.
+fn flags_of(alloc: Global, table: &ObjectTable, ids: &[ObjId]) -> Result<Vec<bool>, OutOfMemory>
+    ensures { IfOk result (λ flags. length flags.items ≡ length table.now.cells) }
+{
+    let mut flags = Vec::with_capacity(alloc, table.cells() as usize)?;
+    for cell in 0..table.cells() {
+        flags.push(table.id_at(cell).is_some_and(|id| ids.contains(&id)))?;
+    }
+    Ok(flags)
+}
+
+// How many slots and roots are cleared that hold objects of these ids.
+fn clear(alloc: Global, table: &mut ObjectTable, ids: &[ObjId]) -> Result<u32, OutOfMemory> {
+    let marked = flags_of(alloc, table, ids)?;
+    Ok(table.clear_to(marked.as_slice()))
+}
+
+// Object 1 holds 2 twice, once weakly, and 3; object 2 holds itself and 3; object 3 holds 1.
+fn tangle(table: &mut ObjectTable) -> Result<(), Refusal> {
+    for (at, slot, to) in [
+        (id(1), 0, id(2)),
+        (id(1), 1, id(2)),
+        (id(1), 2, id(3)),
+        (id(2), 0, id(2)),
+        (id(2), 1, id(3)),
+        (id(3), 0, id(1)),
+    ] {
+        table.store(at, slot, Some(to))?;
+    }
+    table.set_weak(id(1), 1, true)
+}
+
+// Those objects with three slots each, and roots: `b` and `c` hold 2, `a` holds 1, `d` holds 3.
+fn tangled(alloc: Global) -> Result<ObjectTable, Fail> {
+    let mut table = table_of(alloc, &[id(1), id(2), id(3)], 3)?;
+    tangle(&mut table)?;
+    set_all(alloc, &mut table, &["b", "c"], id(2))?;
+    set_all(alloc, &mut table, &["a"], id(1))?;
+    set_all(alloc, &mut table, &["d"], id(3))?;
+    Ok(table)
+}
+
+// What a slot of an object holds, and whether it is weak.
+fn held(table: &ObjectTable, at: ObjId, slot: u32) -> Option<(Option<u32>, bool)> {
+    let (_, holds, weak) = slot_of(table, at, slot)?;
+    Some((holds, weak))
+}
+
+#[test]
+fn slots_that_hold_a_marked_object_are_emptied(rt: HostRuntime) -> Result<(), Fail> {
+    let mut table = tangled(rt.alloc())?;
+    assert_eq!(rt; clear(rt.alloc(), &mut table, &[id(2)])?, 5);
+    assert_eq!(rt; held(&table, id(1), 0), Some((None, false)));
+    assert_eq!(rt; held(&table, id(1), 1), Some((None, true)));
+    assert_eq!(rt; held(&table, id(1), 2), Some((Some(3), false)));
+    assert_eq!(rt; held(&table, id(2), 0), Some((None, false)));
+    assert_eq!(rt; held(&table, id(2), 1), Some((Some(3), false)));
+    assert_eq!(rt; held(&table, id(3), 0), Some((Some(1), false)));
+    Ok(())
+}
+
+#[test]
+fn roots_that_hold_a_marked_object_are_taken_away(rt: HostRuntime) -> Result<(), Fail> {
+    let mut table = tangled(rt.alloc())?;
+    assert_eq!(rt; clear(rt.alloc(), &mut table, &[id(2), id(1)])?, 7);
+    assert_eq!(rt; table.roots(), 1);
+    assert!(rt; root_is(&table, 0, "d", table.cell_of(id(3))));
+    assert_eq!(rt; table.live(), 3);
+    Ok(())
+}
+
+#[test]
+fn nothing_is_cleared_where_nothing_is_marked(rt: HostRuntime) -> Result<(), Fail> {
+    let mut table = tangled(rt.alloc())?;
+    assert_eq!(rt; clear(rt.alloc(), &mut table, &[])?, 0);
+    assert_eq!(rt; held(&table, id(1), 1), Some((Some(2), true)));
+    assert_eq!(rt; table.roots(), 4);
+    Ok(())
+}
+
+#[test]
+fn an_object_in_a_cell_used_again_is_cut_off(rt: HostRuntime) -> Result<(), Fail> {
+    let mut table = with_a_gap(rt.alloc())?;
+    add_all(rt.alloc(), &mut table, &[id(9)], 1)?;
+    table.store(id(3), 0, Some(id(9)))?;
+    table.store(id(8), 0, Some(id(3)))?;
+    set_all(rt.alloc(), &mut table, &["a"], id(9))?;
+    assert_eq!(rt; clear(rt.alloc(), &mut table, &[id(9)])?, 2);
+    assert_eq!(rt; held(&table, id(3), 0), Some((None, false)));
+    assert_eq!(rt; held(&table, id(8), 0), Some((Some(3), false)));
+    Ok(())
+}
+
+#[test]
+fn many_roots_are_cleared(rt: HostRuntime) -> Result<(), Fail> {
+    let mut table = table_of(rt.alloc(), &[id(1), id(2)], 0)?;
+    scatter(rt.alloc(), &mut table)?;
+    assert_eq!(rt; clear(rt.alloc(), &mut table, &[id(1)])?, 1_000);
+    assert_eq!(rt; table.roots(), 1_000);
+    assert!(rt; stand_in_order(rt.alloc(), &table, 1, 2)?);
     Ok(())
 }
 
