@@ -1,25 +1,24 @@
-ghost use Rattle.std.specs.Prelude.{◌≡◌, ◌<◌, length, All, slice_set, IfSome, IfOk, IsSome};
-ghost use Rattle.std.specs.Bool.{OnTrue};
-ghost use Rattle.graph_meaning.specs.declared.roles.OwnerRole.TheVariants.{NotOwned, OwnerCell};
-ghost use Rattle.graph_meaning.specs.Roles.{AreRolesOf, cells_of, owner_in, id_at};
-ghost use Rattle.object_table.specs.Placed.{id_in};
+ghost use Rattle.std.specs.Prelude.{◌≡◌, ◌≤◌, ℕ, [], length, IfSome, IfOk, OnOk};
+ghost use Rattle.graph_meaning.specs.Heap.{targets};
 ghost use Rattle.path_cert.specs.Levels.{AreLevelsIn};
 
-use crate::{Levels, Start, finds, levels, root_path};
-use graph_meaning::{OwnerRole, PathFrom, PathView, Roles};
+mod cases;
+mod heaps;
+mod owners;
+
+use crate::tests::cases::{
+    FINDS, FROM_OWNERS, FROM_ROOTS, FindCase, LEVELS, LevelCase, NAMED, OWNER_STEPS, PathCase,
+    STEPS, Shown, StepCase,
+};
+use crate::tests::heaps::{CELLS_USED_AGAIN, DIAMOND, Heap};
+use crate::tests::owners::{cell, roles_of};
+use crate::{Levels, Start, finds, levels, owner_step, root_path};
+use graph_meaning::{HeapView, PathFrom, PathStep, PathView, StepList, is_path};
 use heap_base::{Name, ObjId, OutOfMemory};
 use object_table::ObjectTable;
 use std::alloc::Global;
 use std::test::Fail;
-
-// The objects of a heap (id, type and number of slots), what slots hold, the roots, and the owners of ownees.
-#[derive(Clone, Copy)]
-struct Heap {
-    objects: &'static [(u32, &'static str, u32)],
-    stores: &'static [(u32, u32, u32)],
-    roots: &'static [(&'static str, u32)],
-    owned: &'static [(u32, u32)],
-}
+use std::thread::Builder;
 
 fn id(n: u32) -> Result<ObjId, Fail> {
     Ok(ObjId::of(n).ok_or("an id is not 0")?)
@@ -29,13 +28,50 @@ fn name(alloc: Global, text: &str) -> Result<Name, Fail> {
     Ok(Name::of(alloc, text)?.ok_or("not a name")?)
 }
 
-fn build(alloc: Global, heap: Heap) -> Result<ObjectTable, Fail> {
+// ---- heaps as tables
+
+// Adds an object. A table without roots and edges has none afterwards.
+fn add(alloc: Global, table: &mut ObjectTable, object: (u32, &'static str, u32)) -> Result<(), Fail>
+    ensures roots { OnOk result (table.old.table.roots ≡ [] → table.new.table.roots ≡ []) }
+    ensures edges { OnOk result (((x : ℕ) → targets table.old.table x ≡ []) → (x : ℕ) → targets table.new.table x ≡ []) }
+{
+    table.alloc_object(id(object.0)?, &name(alloc, object.1)?, object.2)?;
+    Ok(())
+}
+
+// A table of these objects, without roots and edges.
+fn table_of(alloc: Global, objects: &[(u32, &'static str, u32)]) -> Result<ObjectTable, Fail>
+    ensures roots { IfOk result (λ t. t.table.roots ≡ []) }
+    ensures edges { IfOk result (λ t. (x : ℕ) → targets t.table x ≡ []) }
+{
     let mut table = ObjectTable::make(alloc)?;
-    for object in heap.objects {
-        table.alloc_object(id(object.0)?, &name(alloc, object.1)?, object.2)?;
+    for object in objects {
+        add(alloc, &mut table, *object)?;
+    }
+    Ok(table)
+}
+
+// Frees these objects of a table without roots and edges.
+fn free(alloc: Global, table: &mut ObjectTable, ids: &[u32]) -> Result<(), OutOfMemory>
+    requires roots { table.old.table.roots ≡ [] }
+    requires edges { (x : ℕ) → targets table.old.table x ≡ [] }
+{
+    let kept = flags(alloc, table, ids, false)?;
+    table.keep(kept.as_slice());
+    Ok(())
+}
+
+fn build(alloc: Global, heap: Heap) -> Result<ObjectTable, Fail> {
+    let mut table = table_of(alloc, heap.objects)?;
+    free(alloc, &mut table, heap.freed)?;
+    for object in heap.later {
+        add(alloc, &mut table, *object)?;
     }
     for store in heap.stores {
         table.store(id(store.0)?, store.1, Some(id(store.2)?))?;
+    }
+    for slot in heap.weak {
+        table.set_weak(id(slot.0)?, slot.1, true)?;
     }
     for root in heap.roots {
         table.set_root(&name(alloc, root.0)?, Some(id(root.1)?))?;
@@ -43,121 +79,25 @@ fn build(alloc: Global, heap: Heap) -> Result<ObjectTable, Fail> {
     Ok(table)
 }
 
-// The cell of the object with this id.
-fn cell(table: &ObjectTable, n: u32) -> Option<u32>
-    ensures { IfSome result (λ c. IsSome (id_in table.now c)) }
-{
-    match ObjId::of(n) {
-        Some(id) => table.cell_of(id),
-        None => None,
-    }
-}
-
-// The id of the object in a cell, and 0 where it is empty or none of the table's.
-fn id_or_zero(table: &ObjectTable, cell: u32) -> u32
-    ensures { result ≡ id_at table.now.cells cell }
-{
-    if cell >= table.cells() {
-        return 0;
-    }
-    match table.id_at(cell) {
-        Some(id) => id.number(),
-        None => 0,
-    }
-}
-
-// Whether the object is nobody's ownee.
-fn is_free(roles: &Roles, cell: u32) -> bool
-    requires { cell < cells_of roles.now }
-    ensures { OnTrue result (owner_in roles.now cell ≡ NotOwned) }
-{
-    match roles.owner(cell) {
-        OwnerRole::NotOwned => true,
-        _ => false,
-    }
-}
-
-// Gives an ownee its owner, and says whether it has it now.
-fn give(roles: &mut Roles, owner: u32, ownee: u32) -> bool
-    requires { ownee < cells_of roles.old }
-    ensures set { roles.new ≡ record roles.old { ownees = slice_set roles.old.ownees ownee (OwnerCell owner) } }
-    ensures given { OnTrue result (owner_in roles.new ownee ≡ OwnerCell owner) }
-{
-    roles.set_owner(ownee, OwnerRole::OwnerCell(owner));
-    match roles.owner(ownee) {
-        OwnerRole::OwnerCell(cell) => cell == owner,
-        _ => false,
-    }
-}
-
-// Whether the ids of the objects in these cells are below that of the owner.
-fn is_above(table: &ObjectTable, owners: &[u32], owner: u32) -> bool
-    ensures { OnTrue result (All (λ other. id_at table.now.cells other < id_at table.now.cells owner) owners.now) }
-{
-    let number = id_or_zero(table, owner);
-    owners
-        .iter()
-        .all(|other| id_or_zero(table, *other) < number)
-}
-
-// Makes an object the owner of one that is nobody's ownee, and says whether it could: owners come by rising ids.
-fn own(table: &ObjectTable, roles: &mut Roles, owner: u32, ownee: u32) -> bool
-    requires roles { AreRolesOf table.now.cells (length table.now.table.kinds) roles.old }
-    requires owner { IsSome (id_in table.now owner) }
-    requires ownee { IsSome (id_in table.now ownee) }
-    ensures { OnTrue result (AreRolesOf table.now.cells (length table.now.table.kinds) roles.new) }
-{
-    if owner == ownee || !is_free(roles, ownee) || !give(roles, owner, ownee) {
-        return false;
-    }
-    if roles.is_owner(owner) {
-        return true;
-    }
-    if !is_above(table, roles.owners(), owner) {
-        return false;
-    }
-    roles.add_owner(owner);
-    true
-}
-
-fn no_roles(alloc: Global, table: &ObjectTable) -> Result<Roles, OutOfMemory>
-    ensures { IfOk result (λ r. AreRolesOf table.now.cells (length table.now.table.kinds) r) }
-{
-    Roles::make(alloc, table.cells(), table.kinds())
-}
-
-// The roles of a heap, where its owners come by rising ids.
-fn roles_of(
+// For each cell the value, where its object has one of these ids, and the other value elsewhere.
+fn flags(
     alloc: Global,
     table: &ObjectTable,
-    owned: &[(u32, u32)],
-) -> Result<Option<Roles>, OutOfMemory>
-    ensures { IfOk result (λ o. IfSome o (λ r. AreRolesOf table.now.cells (length table.now.table.kinds) r)) }
+    ids: &[u32],
+    value: bool,
+) -> Result<Vec<bool>, OutOfMemory>
+    ensures { IfOk result (λ flags. length flags.items ≡ length table.now.cells) }
 {
-    let mut roles = no_roles(alloc, table)?;
-    for pair in owned {
-        let (Some(owner), Some(ownee)) = (cell(table, pair.0), cell(table, pair.1)) else {
-            return Ok(None);
-        };
-        if !own(table, &mut roles, owner, ownee) {
-            return Ok(None);
-        }
-    }
-    Ok(Some(roles))
-}
-
-// For each cell whether its object has one of these ids.
-fn shut_cells(alloc: Global, table: &ObjectTable, ids: &[u32]) -> Result<Vec<bool>, OutOfMemory>
-    ensures { IfOk result (λ shut. length shut.items ≡ length table.now.cells) }
-{
-    let mut shut = vec![in alloc; false; table.cells() as usize]?;
+    let mut flags = vec![in alloc; !value; table.cells() as usize]?;
     for n in ids {
         if let Some(cell) = cell(table, *n) {
-            shut[cell as usize] = true;
+            flags[cell as usize] = value;
         }
     }
-    Ok(shut)
+    Ok(flags)
 }
+
+// ---- what is asked of tables
 
 // The levels of a heap from a start, where the objects with these ids are shut.
 fn levels_of(
@@ -172,7 +112,7 @@ fn levels_of(
     let Some(roles) = roles_of(alloc, table, owned)? else {
         return Ok(None);
     };
-    let shut = shut_cells(alloc, table, shut)?;
+    let shut = flags(alloc, table, shut, true)?;
     let found = levels(alloc, table, &roles, start, shut.as_slice())?;
     Ok(Some(found))
 }
@@ -205,14 +145,52 @@ fn path_by(
     found.path_then(table, cell, slot)
 }
 
-// A path by its parts: the name of its root, which is empty where it starts at an owner; the id and type of the object that it
-// starts at; and its steps, each by slot, id and type.
-#[derive(Clone, Copy)]
-struct Shown {
-    root: &'static str,
-    start: (u32, &'static str),
-    steps: &'static [(u32, u32, &'static str)],
+// The path of one step from the object with this id by a slot of it.
+fn owner_step_by(
+    alloc: Global,
+    table: &ObjectTable,
+    owner: u32,
+    slot: u32,
+) -> Result<Option<PathView>, OutOfMemory> {
+    let Some(cell) = cell(table, owner) else {
+        return Ok(None);
+    };
+    if slot >= table.slots_at(cell) || table.slot_at(cell, slot).is_none() {
+        return Ok(None);
+    }
+    Ok(Some(owner_step(alloc, table, cell, slot)?))
 }
+
+// The level of the object with this id.
+fn level_to(found: &Levels, table: &ObjectTable, to: u32) -> Option<u32>
+    requires { AreLevelsIn table.now found.now }
+{
+    let cell = cell(table, to)?;
+    // what is true of every table
+    let cells = table.cells();
+    prove!(cell < cells);
+    found.level(cell)
+}
+
+// Whether the owner with this id finds the object with that one.
+fn found_by(
+    alloc: Global,
+    table: &ObjectTable,
+    owned: &[(u32, u32)],
+    owner: u32,
+    ownee: u32,
+) -> Option<bool> {
+    let (Some(owner), Some(ownee)) = (cell(table, owner), cell(table, ownee)) else {
+        return None;
+    };
+    let Ok(Some(roles)) = roles_of(alloc, table, owned) else {
+        return None;
+    };
+    let found = finds(alloc, table, &roles, owner, &[ownee]).ok()?;
+    found.first().copied()
+}
+
+// ---- paths by their parts
 
 fn has_start(from: &PathFrom, shown: Shown) -> bool {
     match from {
@@ -244,247 +222,365 @@ fn has_steps(path: &PathView, steps: &[(u32, u32, &'static str)]) -> bool {
     path.steps.len() == place && path.left_out == 0
 }
 
-// Whether the path is there, and as shown.
-fn is(path: &Option<PathView>, shown: Shown) -> bool {
+fn is_shown(path: &PathView, shown: Shown) -> bool {
+    has_start(&path.from, shown) && has_steps(path, shown.steps)
+}
+
+// Whether the path is as shown, or there is none in both.
+fn is(path: &Option<PathView>, shown: Option<Shown>) -> bool {
     match path {
-        Some(path) => has_start(&path.from, shown) && has_steps(path, shown.steps),
+        Some(path) => is_there(path, shown),
+        None => shown.is_none(),
+    }
+}
+
+fn is_there(path: &PathView, shown: Option<Shown>) -> bool {
+    match shown {
+        Some(shown) => is_shown(path, shown),
         None => false,
     }
 }
 
-// The canonical path to an object.
-fn path_in(
-    alloc: Global,
-    heap: Heap,
-    start: Start,
-    shut: &[u32],
-    to: u32,
-) -> Result<Option<PathView>, Fail> {
-    let table = build(alloc, heap)?;
-    let Some(found) = levels_of(alloc, &table, heap.owned, start, shut)? else {
-        return Err("owners don't rise".into());
+// ---- paths, levels and finds, by their tables. Where memory is wanting or owners don't rise, there is no answer.
+
+fn has_path(alloc: Global, table: &ObjectTable, case: PathCase) -> Option<bool> {
+    let Ok(Some(found)) = levels_of(alloc, table, case.heap.owned, case.start, case.shut) else {
+        return None;
     };
-    Ok(path_to(&found, &table, to)?)
+    let path = path_to(&found, table, case.to).ok()?;
+    Some(is(&path, case.path))
 }
-
-// The path to a holder from the roots, and the step by a slot of it.
-fn step_in(alloc: Global, heap: Heap, holder: u32, slot: u32) -> Result<Option<PathView>, Fail> {
-    let table = build(alloc, heap)?;
-    let Some(found) = levels_of(alloc, &table, heap.owned, Start::Roots, &[])? else {
-        return Err("owners don't rise".into());
-    };
-    Ok(path_by(&found, &table, holder, slot)?)
-}
-
-// Whether the owner finds this object.
-fn finds_one(alloc: Global, heap: Heap, owner: u32, ownee: u32) -> Result<bool, Fail> {
-    let table = build(alloc, heap)?;
-    let found = found_by(alloc, &table, heap.owned, owner, ownee)?;
-    Ok(found.ok_or("no such owner or ownee")?)
-}
-
-fn found_by(
-    alloc: Global,
-    table: &ObjectTable,
-    owned: &[(u32, u32)],
-    owner: u32,
-    ownee: u32,
-) -> Result<Option<bool>, OutOfMemory> {
-    let (Some(owner), Some(ownee)) = (cell(table, owner), cell(table, ownee)) else {
-        return Ok(None);
-    };
-    let Some(roles) = roles_of(alloc, table, owned)? else {
-        return Ok(None);
-    };
-    let found = finds(alloc, table, &roles, owner, &[ownee])?;
-    Ok(found.first().copied())
-}
-
-const ORDER: Heap = Heap {
-    objects: &[(7, "Order", 0)],
-    stores: &[],
-    roots: &[("a", 7)],
-    owned: &[],
-};
-
-const DIAMOND: Heap = Heap {
-    objects: &[(1, "Top", 2), (2, "Mid", 2), (3, "Mid", 2), (4, "End", 0)],
-    stores: &[(1, 0, 3), (1, 1, 2), (3, 0, 4), (2, 1, 4)],
-    roots: &[("r", 1)],
-    owned: &[],
-};
-
-const PAIR: Heap = Heap {
-    objects: &[(1, "Pair", 2), (9, "Leaf", 1)],
-    stores: &[(1, 0, 9), (1, 1, 9)],
-    roots: &[("p", 1)],
-    owned: &[],
-};
-
-const CACHE: Heap = Heap {
-    objects: &[(1, "Map", 1), (2, "Cache", 1), (3, "Entry", 0)],
-    stores: &[(2, 0, 3)],
-    roots: &[("c", 2), ("m", 1)],
-    owned: &[(1, 3)],
-};
-
-const BOOK: Heap = Heap {
-    objects: &[(3, "Book", 1), (4, "Page", 1), (5, "Order", 0)],
-    stores: &[(3, 0, 4), (4, 0, 5)],
-    roots: &[],
-    owned: &[(3, 5)],
-};
-
-const MAP: Heap = Heap {
-    objects: &[(1, "Map", 2), (2, "Item", 2), (3, "Item", 0)],
-    stores: &[(1, 0, 2), (1, 1, 3), (2, 0, 1), (2, 1, 3)],
-    roots: &[("m", 1)],
-    owned: &[(1, 2), (1, 3)],
-};
-
-const POOLS: Heap = Heap {
-    objects: &[
-        (1, "Pool", 2),
-        (2, "Pool", 1),
-        (3, "Array", 1),
-        (4, "Job", 0),
-        (5, "Job", 0),
-    ],
-    stores: &[(1, 0, 3), (1, 1, 5), (2, 0, 3), (3, 0, 4)],
-    roots: &[("a", 1), ("b", 2), ("x", 4)],
-    owned: &[(1, 5), (2, 4)],
-};
-
-const LIST: Heap = Heap {
-    objects: &[
-        (1, "List", 1),
-        (2, "Node", 1),
-        (3, "Node", 1),
-        (4, "Node", 0),
-    ],
-    stores: &[(1, 0, 2), (2, 0, 3), (3, 0, 4)],
-    roots: &[("l", 1), ("x", 4)],
-    owned: &[(1, 2), (1, 3), (1, 4)],
-};
 
 #[test]
-fn the_path_of_a_root_has_no_step(rt: HostRuntime) -> Result<(), Fail> {
-    let shown = Shown {
-        root: "a",
-        start: (7, "Order"),
-        steps: &[],
-    };
-    let path = path_in(rt.alloc(), ORDER, Start::Roots, &[], 7)?;
-    assert!(rt; is(&path, shown));
+fn a_root_leads_to_what_it_names(rt: HostRuntime) -> Result<(), Fail> {
+    for case in NAMED {
+        let table = build(rt.alloc(), case.heap)?;
+        let has_path = has_path(rt.alloc(), &table, *case);
+        assert_eq!(rt; has_path, Some(true), "{}", case.what);
+    }
     Ok(())
 }
 
 #[test]
-fn the_least_predecessor_leads_on(rt: HostRuntime) -> Result<(), Fail> {
+fn paths_from_roots_are_canonical(rt: HostRuntime) -> Result<(), Fail> {
+    for case in FROM_ROOTS {
+        let table = build(rt.alloc(), case.heap)?;
+        let has_path = has_path(rt.alloc(), &table, *case);
+        assert_eq!(rt; has_path, Some(true), "{}", case.what);
+    }
+    Ok(())
+}
+
+#[test]
+fn paths_from_owners_are_canonical(rt: HostRuntime) -> Result<(), Fail> {
+    for case in FROM_OWNERS {
+        let table = build(rt.alloc(), case.heap)?;
+        let has_path = has_path(rt.alloc(), &table, *case);
+        assert_eq!(rt; has_path, Some(true), "{}", case.what);
+    }
+    Ok(())
+}
+
+fn goes_on(alloc: Global, table: &ObjectTable, case: StepCase) -> Option<bool> {
+    let Ok(Some(found)) = levels_of(alloc, table, case.heap.owned, case.start, &[]) else {
+        return None;
+    };
+    let path = path_by(&found, table, case.holder, case.slot).ok()?;
+    Some(is(&path, Some(case.path)))
+}
+
+#[test]
+fn a_path_goes_on_by_each_slot(rt: HostRuntime) -> Result<(), Fail> {
+    for case in STEPS {
+        let table = build(rt.alloc(), case.heap)?;
+        let goes_on = goes_on(rt.alloc(), &table, *case);
+        assert_eq!(rt; goes_on, Some(true), "{}", case.what);
+    }
+    Ok(())
+}
+
+fn begins(alloc: Global, table: &ObjectTable, case: StepCase) -> Option<bool> {
+    let path = owner_step_by(alloc, table, case.holder, case.slot).ok()?;
+    Some(is(&path, Some(case.path)))
+}
+
+#[test]
+fn a_path_begins_at_each_slot_of_an_owner(rt: HostRuntime) -> Result<(), Fail> {
+    for case in OWNER_STEPS {
+        let table = build(rt.alloc(), case.heap)?;
+        let begins = begins(rt.alloc(), &table, *case);
+        assert_eq!(rt; begins, Some(true), "{}", case.what);
+    }
+    Ok(())
+}
+
+fn has_level(alloc: Global, table: &ObjectTable, case: LevelCase) -> Option<bool> {
+    let Ok(Some(found)) = levels_of(alloc, table, case.heap.owned, case.start, case.shut) else {
+        return None;
+    };
+    Some(level_to(&found, table, case.of) == case.level)
+}
+
+#[test]
+fn levels_are_numbered_from_one(rt: HostRuntime) -> Result<(), Fail> {
+    for case in LEVELS {
+        let table = build(rt.alloc(), case.heap)?;
+        let has_level = has_level(rt.alloc(), &table, *case);
+        assert_eq!(rt; has_level, Some(true), "{}", case.what);
+    }
+    Ok(())
+}
+
+#[test]
+fn an_owner_finds_up_to_owners_and_ownees(rt: HostRuntime) -> Result<(), Fail> {
+    for case in FINDS {
+        let table = build(rt.alloc(), case.heap)?;
+        let found = found_by(rt.alloc(), &table, case.heap.owned, case.owner, case.ownee);
+        assert_eq!(rt; found, Some(case.found), "{}", case.what);
+    }
+    Ok(())
+}
+
+// That heap's order of cells isn't that of ids.
+#[test]
+fn a_cell_is_used_again(rt: HostRuntime) -> Result<(), Fail> {
+    let table = build(rt.alloc(), CELLS_USED_AGAIN)?;
+    assert!(rt; cell(&table, 4) < cell(&table, 3));
+    Ok(())
+}
+
+// Whether the first root is a path of its own, as shown.
+fn starts(alloc: Global, table: &ObjectTable, shown: Shown) -> Option<bool> {
+    if table.roots() == 0 {
+        return None;
+    }
+    let path = root_path(alloc, table, 0).ok()?;
+    Some(is_shown(&path, shown))
+}
+
+#[test]
+fn a_root_is_a_path_of_its_own(rt: HostRuntime) -> Result<(), Fail> {
     let shown = Shown {
         root: "r",
         start: (1, "Top"),
-        steps: &[(1, 2, "Mid"), (1, 4, "End")],
+        steps: &[],
     };
-    let path = path_in(rt.alloc(), DIAMOND, Start::Roots, &[], 4)?;
-    assert!(rt; is(&path, shown));
+    let table = build(rt.alloc(), DIAMOND)?;
+    assert_eq!(rt; starts(rt.alloc(), &table, shown), Some(true));
     Ok(())
 }
 
-const BY_THE_OTHER: Shown = Shown {
+// ---- paths through what is shown
+
+// The name, if it is one and memory is there.
+fn some_name(alloc: Global, text: &str) -> Option<Name> {
+    match Name::of(alloc, text) {
+        Ok(name) => name,
+        Err(_) => None,
+    }
+}
+
+// Goes on by a slot to an object of this id and type, and says whether it could.
+fn goes(alloc: Global, steps: &mut StepList, (slot, id, kind): (u32, u32, &str)) -> bool {
+    if steps.len() >= 64 {
+        return false;
+    }
+    match some_name(alloc, kind) {
+        Some(kind) => steps.push(PathStep { slot, id, kind }).is_ok(),
+        None => false,
+    }
+}
+
+// The steps from the top of the diamond to its end, where the last step is by this slot.
+fn diamond_steps(alloc: Global, last: u32) -> Option<StepList> {
+    let mut steps = StepList::empty(alloc);
+    if goes(alloc, &mut steps, (1, 2, "Mid")) && goes(alloc, &mut steps, (last, 4, "End")) {
+        Some(steps)
+    } else {
+        None
+    }
+}
+
+// Whether a path goes so, through what is shown of a heap.
+fn is_path_by(alloc: Global, view: &HeapView, steps: StepList) -> Option<bool> {
+    let name = some_name(alloc, "r")?;
+    let kind = some_name(alloc, "Top")?;
+    let path = PathView {
+        from: PathFrom::Root { name, id: 1, kind },
+        steps,
+        left_out: 0,
+    };
+    Some(is_path(view, &path))
+}
+
+fn is_path_in(alloc: Global, view: &HeapView, last: u32) -> Option<bool> {
+    is_path_by(alloc, view, diamond_steps(alloc, last)?)
+}
+
+#[test]
+fn a_path_leads_through_what_is_shown(rt: HostRuntime) -> Result<(), Fail> {
+    let view = build(rt.alloc(), DIAMOND)?.view()?;
+    for (last, is_path) in [(1, true), (0, false)] {
+        let found = is_path_in(rt.alloc(), &view, last);
+        assert_eq!(rt; found, Some(is_path), "by the slot {last}");
+    }
+    Ok(())
+}
+
+// ---- large heaps, each on a thread with a small stack
+
+const SMALL_STACK: usize = 256 * 1024;
+
+// Whether an object could be added.
+fn adds(table: &mut ObjectTable, n: u32, kind: &Name, slots: u32) -> bool {
+    match ObjId::of(n) {
+        Some(id) => table.alloc_object(id, kind, slots).is_ok(),
+        None => false,
+    }
+}
+
+// Whether a slot could hold an object.
+fn holds(table: &mut ObjectTable, at: u32, slot: u32, to: u32) -> bool {
+    match (ObjId::of(at), ObjId::of(to)) {
+        (Some(at), Some(to)) => table.store(at, slot, Some(to)).is_ok(),
+        _ => false,
+    }
+}
+
+// A table with one object of this type, with the id 1, which the root `r` names.
+fn rooted(alloc: Global, kind: &str, slots: u32) -> Option<ObjectTable> {
+    let kind = some_name(alloc, kind)?;
+    let root = some_name(alloc, "r")?;
+    let mut table = ObjectTable::make(alloc).ok()?;
+    if adds(&mut table, 1, &kind, slots) && table.set_root(&root, ObjId::of(1)).is_ok() {
+        Some(table)
+    } else {
+        None
+    }
+}
+
+// Adds the objects from 2 up to `length`, each in the only slot of the one before. It says whether it could.
+fn adds_links(table: &mut ObjectTable, kind: &Name, length: u32) -> bool {
+    for n in 1..length {
+        if !adds(table, n + 1, kind, 1) || !holds(table, n, 0, n + 1) {
+            return false;
+        }
+    }
+    true
+}
+
+// A chain of so many objects, from a root on.
+fn chain(alloc: Global, length: u32) -> Option<ObjectTable> {
+    let kind = some_name(alloc, "Link")?;
+    let mut table = rooted(alloc, "Link", 1)?;
+    if adds_links(&mut table, &kind, length) {
+        Some(table)
+    } else {
+        None
+    }
+}
+
+const START_OF_CHAIN: Shown = Shown {
     root: "r",
-    start: (1, "Top"),
-    steps: &[(0, 3, "Mid"), (0, 4, "End")],
+    start: (1, "Link"),
+    steps: &[],
 };
 
-#[test]
-fn a_step_goes_on_from_any_holder(rt: HostRuntime) -> Result<(), Fail> {
-    let path = step_in(rt.alloc(), DIAMOND, 3, 0)?;
-    assert!(rt; is(&path, BY_THE_OTHER));
-    Ok(())
+// Whether the path leads along a chain of so many objects, and shows its first 32 steps and its last 32.
+fn is_along_chain(path: &PathView, length: u32) -> bool
+    requires { 65 ≤ length }
+{
+    for place in 0..32 {
+        if !has_step(path, place, (0, place + 2, "Link"))
+            || !has_step(path, place + 32, (0, length - 31 + place, "Link"))
+        {
+            return false;
+        }
+    }
+    has_start(&path.from, START_OF_CHAIN) && path.steps.len() == 64 && path.left_out == length - 65
 }
 
-#[test]
-fn a_path_goes_round_what_is_shut(rt: HostRuntime) -> Result<(), Fail> {
-    let path = path_in(rt.alloc(), DIAMOND, Start::Roots, &[2], 4)?;
-    assert!(rt; is(&path, BY_THE_OTHER));
-    Ok(())
-}
-
-#[test]
-fn no_path_goes_through_what_is_shut(rt: HostRuntime) -> Result<(), Fail> {
-    let path = path_in(rt.alloc(), DIAMOND, Start::Roots, &[2, 3], 4)?;
-    assert!(rt; path.is_none());
-    Ok(())
-}
-
-#[test]
-fn the_path_to_a_met_ownee_goes_round_owners(rt: HostRuntime) -> Result<(), Fail> {
-    let shown = Shown {
-        root: "c",
-        start: (2, "Cache"),
-        steps: &[(0, 3, "Entry")],
+// Whether the path to the last object of a chain of so many objects leads along the chain.
+fn leads_along_chain(alloc: Global, length: u32) -> Option<bool>
+    requires { 65 ≤ length }
+{
+    let table = chain(alloc, length)?;
+    let Ok(Some(found)) = levels_of(alloc, &table, &[], Start::Roots, &[]) else {
+        return None;
     };
-    let path = path_in(rt.alloc(), CACHE, Start::Roots, &[1, 3], 3)?;
-    assert!(rt; is(&path, shown));
-    Ok(())
+    let path = path_to(&found, &table, length).ok()??;
+    Some(is_along_chain(&path, length))
 }
 
 #[test]
-fn each_slot_is_a_step_of_its_own(rt: HostRuntime) -> Result<(), Fail> {
-    let shown = Shown {
-        root: "p",
-        start: (1, "Pair"),
-        steps: &[(1, 9, "Leaf")],
+fn a_long_path_shows_its_ends(rt: HostRuntime) {
+    assert_eq!(rt; leads_along_chain(rt.alloc(), 70), Some(true));
+}
+
+#[test]
+fn a_chain_of_a_million_objects_has_a_path(rt: HostRuntime) -> Result<(), Fail> {
+    let alloc = rt.alloc();
+    let thread = Builder::new()
+        .stack_size(SMALL_STACK)
+        .spawn(&rt, move || leads_along_chain(alloc, 1_000_000))?;
+    assert_eq!(rt; thread.join(&rt), Some(true));
+    Ok(())
+}
+
+// Adds 1,048,575 leaves, each of which the object 1 holds twice: its slots 2n - 4 and 2n - 3 hold the leaf with the id n. It says
+// whether it could.
+fn adds_leaves(table: &mut ObjectTable, kind: &Name) -> bool {
+    for n in 2..1_048_577u32 {
+        if !adds(table, n, kind, 0)
+            || !holds(table, 1, 2 * n - 4, n)
+            || !holds(table, 1, 2 * n - 3, n)
+        {
+            return false;
+        }
+    }
+    true
+}
+
+// A hub with 2,097,150 slots, which a root names, and its leaves.
+fn hub(alloc: Global) -> Option<ObjectTable> {
+    let kind = some_name(alloc, "Leaf")?;
+    let mut table = rooted(alloc, "Hub", 2_097_150)?;
+    if adds_leaves(&mut table, &kind) {
+        Some(table)
+    } else {
+        None
+    }
+}
+
+const BY_FIRST_SLOT: Shown = Shown {
+    root: "r",
+    start: (1, "Hub"),
+    steps: &[(2_097_148, 1_048_576, "Leaf")],
+};
+
+const BY_SECOND_SLOT: Shown = Shown {
+    root: "r",
+    start: (1, "Hub"),
+    steps: &[(2_097_149, 1_048_576, "Leaf")],
+};
+
+// Whether the hub leads to its last leaf by the first of its two slots, and a step goes on by the second.
+fn leads_from_hub(alloc: Global) -> Option<bool> {
+    let table = hub(alloc)?;
+    let Ok(Some(found)) = levels_of(alloc, &table, &[], Start::Roots, &[]) else {
+        return None;
     };
-    let path = step_in(rt.alloc(), PAIR, 1, 1)?;
-    assert!(rt; is(&path, shown));
-    Ok(())
+    let path = path_to(&found, &table, 1_048_576).ok()?;
+    let step = path_by(&found, &table, 1, 2_097_149).ok()?;
+    Some(is(&path, Some(BY_FIRST_SLOT)) && is(&step, Some(BY_SECOND_SLOT)))
 }
 
 #[test]
-fn an_owner_that_nothing_reaches_is_a_start(rt: HostRuntime) -> Result<(), Fail> {
-    let shown = Shown {
-        root: "",
-        start: (3, "Book"),
-        steps: &[(0, 4, "Page"), (0, 5, "Order")],
-    };
-    let path = path_in(rt.alloc(), BOOK, Start::Owners, &[], 5)?;
-    assert!(rt; is(&path, shown));
-    Ok(())
-}
-
-#[test]
-fn an_owner_on_a_cycle_has_a_path(rt: HostRuntime) -> Result<(), Fail> {
-    let shown = Shown {
-        root: "",
-        start: (1, "Map"),
-        steps: &[(0, 2, "Item"), (0, 1, "Map")],
-    };
-    let path = path_in(rt.alloc(), MAP, Start::Owners, &[], 1)?;
-    assert!(rt; is(&path, shown));
-    Ok(())
-}
-
-#[test]
-fn an_owner_finds_through_what_is_no_border(rt: HostRuntime) -> Result<(), Fail> {
-    assert!(rt; finds_one(rt.alloc(), POOLS, 2, 4)?);
-    assert!(rt; finds_one(rt.alloc(), LIST, 1, 2)?);
-    Ok(())
-}
-
-#[test]
-fn an_owner_finds_nothing_behind_an_ownee(rt: HostRuntime) -> Result<(), Fail> {
-    assert!(rt; !finds_one(rt.alloc(), LIST, 1, 3)?);
-    assert!(rt; !finds_one(rt.alloc(), CACHE, 1, 3)?);
-    Ok(())
-}
-
-#[test]
-fn a_root_and_an_edge_are_paths_of_their_own(rt: HostRuntime) -> Result<(), Fail> {
-    let table = build(rt.alloc(), DIAMOND)?;
-    assert!(rt; table.roots() == 1);
-    let path = root_path(rt.alloc(), &table, 0)?;
-    assert_eq!(rt; path.steps.len(), 0);
+fn a_hub_leads_to_a_leaf_by_its_first_slot(rt: HostRuntime) -> Result<(), Fail> {
+    let alloc = rt.alloc();
+    let thread = Builder::new()
+        .stack_size(SMALL_STACK)
+        .spawn(&rt, move || leads_from_hub(alloc))?;
+    assert_eq!(rt; thread.join(&rt), Some(true));
     Ok(())
 }

@@ -1,9 +1,9 @@
-use Rattle.std.proofs.Common.{◌≡◌, ℕ, length, sym, ap, subst, ◌∙◌, Result, Ok, Err}
+use Rattle.std.proofs.Common.{◌≡◌, length, sym, subst, ◌∙◌, Result, Ok, Err}
 use Rattle.std.specs.Result.{IfOk}
 use Rattle.heap_base.specs.declared.errors.OutOfMemory.{OutOfMemory}
 use Rattle.graph_meaning.specs.Roles.{RoleTable, AreRolesOf, no_roles}
 use Rattle.path_cert.proofs.TestOwners.{no-roles}
-use Rattle.path_cert.proofs.tests.no_roles.Goals as goal
+use Rattle.path_cert.proofs.tests.owners.no_roles.Goals as goal
 
 pub returns : goal.returns
 returns c = go c.make.result c.make.ensures

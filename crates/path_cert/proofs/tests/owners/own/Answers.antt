@@ -1,8 +1,7 @@
-use Rattle.std.proofs.Common.{◌≡◌, ℕ, ◌<◌, List, [], ◌∷◌, ◌++◌, length, sym, ap, subst, ◌∙◌, All}
-use Rattle.graph_meaning.specs.declared.roles.OwnerRole.TheVariants.{OwnerCell}
+use Rattle.std.proofs.Common.{◌<◌, [], ◌∷◌, ◌++◌, length, sym, ap, subst, ◌∙◌, All}
 use Rattle.graph_meaning.specs.Roles.{RoleTable, AreRolesOf, owner_in, id_at}
 use Rattle.path_cert.proofs.TestOwners.{more-roles}
-use Rattle.path_cert.proofs.tests.own.Goals as goal
+use Rattle.path_cert.proofs.tests.owners.own.Goals as goal
 
 pub returns : goal.returns
 returns c =
