@@ -1,0 +1,12 @@
+//! The settings of an audit, as the words of a command line ask for them.
+#![tactic(auto)]
+
+mod command;
+mod numbers;
+mod settings;
+#[cfg(test)]
+mod tests;
+mod values;
+
+pub use numbers::{LEAST_WORKERS, MOST_DIGITS, MOST_PATHS, USUAL_WORKERS};
+pub use settings::{Settings, SettingsError, settings_of};
