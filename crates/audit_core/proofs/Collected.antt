@@ -12,8 +12,7 @@ use Rattle.graph_meaning.specs.Heap.{Slot, Object, Table, Heap, is_live}
 use Rattle.graph_meaning.specs.Laws.{AllLive}
 use Rattle.graph_meaning.specs.Reach.{has_id}
 use Rattle.graph_meaning.specs.Assertions.{traced_ids, reference_count}
-use Rattle.graph_meaning.specs.Collecting.{Rules, after_sweep, holders_of, violating_dead, violating_kinds, violating_unshared, violating_ownees, dead_verdict, instances_verdict, unshared_verdict, ownedby_verdict, without_paths, all_verdicts, first_with_paths, collection_counted, collection_of}
-use Rattle.graph_meaning.proofs.Edges.{plain_leaves_swept}
+use Rattle.graph_meaning.specs.Collecting.{Rules, after_sweep, after_collection, holders_of, ids_to_clear, violating_dead, violating_kinds, violating_unshared, violating_ownees, dead_verdict, instances_verdict, unshared_verdict, ownedby_verdict, without_paths, all_verdicts, first_with_paths, collection_counted, collection_of}
 use Rattle.graph_meaning.specs.Roles.{RoleTable}
 use Rattle.object_table.specs.Placed.{Placed, IsPlaced, id_in, cell_of}
 use Rattle.assert_registry.specs.Laws.{StandFor}
@@ -22,34 +21,18 @@ use Rattle.heap_trace.specs.Traces.{CountsReferences}
 use Rattle.path_cert.proofs.ByIds.{cell_of-held}
 use Rattle.header_rule.specs.ClosedWords.{count_in}
 use Rattle.verdicts.specs.Verdicts.{counted_in}
-use Rattle.audit_core.specs.Audit.{Audit, AreItsRoles, placed_of, without_force, next_collection, next_counted, after_next}
-
--- ---- nothing is cut off
-
-zero_sum : {X : Type 0} (f : X → ℕ) → ((x : X) → f x ≡ 0) → (xs : List X) → sum_by f xs ≡ 0
-zero_sum f zero [] = refl
-zero_sum f zero (x ∷ xs) = let e = sum_by-cons f x xs in let r = zero_sum f zero xs in let z = zero x in omega arith
-
-holds_none : (o : Option ℕ) → option_map_or (has_id []) o false ≡ false
-holds_none None = refl
-holds_none (Some x) = refl
-
-nothing_held : (t : Table) → holders_of (has_id []) t ≡ 0
-nothing_held t =
-    let slots = zero_sum (λ (o : Object). count_by (λ s. option_map_or (has_id []) s.held false) o.slots) (λ o. zero_sum (λ (s : Slot). cond (option_map_or (has_id []) s.held false) 1 0) (λ s. ap (λ b. cond b 1 0) (holds_none s.held)) o.slots) t.objects in
-    let roots = zero_sum (λ (r : List ℕ × ℕ). cond (has_id [] r.1) 1 0) (λ r. refl) t.roots in
-    omega arith
+use Rattle.audit_core.specs.Audit.{Audit, AreItsRoles, placed_of, next_collection, next_counted, after_next}
 
 -- ---- the numbers and verdicts of a collection
 
-pub found_by : (count : ℕ → ℕ) (h : Heap) (paths number live traced freed : ℕ) (verdicts : List Verdict) → live ≡ length h.table.objects → traced ≡ length (traced_ids h) → freed ≡ length h.table.objects - length (traced_ids h) → verdicts ≡ first_with_paths paths (all_verdicts count h) → (let c : Collection = record { number = number; live = live; traced = traced; freed = freed; cleared = 0; verdicts = verdicts } in c) ≡ collection_counted count (without_force paths) number h
+pub found_by : (count : ℕ → ℕ) (h : Heap) (rules : Rules) (number live traced freed cleared : ℕ) (verdicts : List Verdict) → live ≡ length h.table.objects → traced ≡ length (traced_ids h) → freed ≡ length h.table.objects - length (traced_ids h) → cleared ≡ holders_of (has_id (ids_to_clear rules h)) (after_sweep h).table → verdicts ≡ first_with_paths rules.paths (all_verdicts count h) → (let c : Collection = record { number = number; live = live; traced = traced; freed = freed; cleared = cleared; verdicts = verdicts } in c) ≡ collection_counted count rules number h
 unfolding collection_counted
-found_by count h paths number live traced freed verdicts live_is traced_is freed_is verdicts_are = λ i. record {
+found_by count h rules number live traced freed cleared verdicts live_is traced_is freed_is cleared_is verdicts_are = λ i. record {
   number = number;
   live = live_is i;
   traced = traced_is i;
   freed = freed_is i;
-  cleared = sym (nothing_held (after_sweep h).table) i;
+  cleared = cleared_is i;
   verdicts = verdicts_are i;
 }
 
@@ -79,31 +62,34 @@ length-all_verdicts count other h =
     let f = length-map (violating_unshared h) (unshared_verdict other h) in
     omega (arith, a, b, c, d, e, f)
 
-verdicts-of : (count : ℕ → ℕ) (paths number : ℕ) (h : Heap) → (collection_counted count (without_force paths) number h).verdicts ≡ first_with_paths paths (all_verdicts count h)
+verdicts-of : (count : ℕ → ℕ) (rules : Rules) (number : ℕ) (h : Heap) → (collection_counted count rules number h).verdicts ≡ first_with_paths rules.paths (all_verdicts count h)
 unfolding collection_counted
-verdicts-of count paths number h = refl
+verdicts-of count rules number h = refl
 
 -- ---- what is left
 
-pub left_by : (count : ℕ → ℕ) (h : Heap) (cells after : List (Option ℕ)) (paths collections violations found : ℕ) (left : Heap) (verdicts : List Verdict) → left ≡ after_sweep h → found ≡ length verdicts → verdicts ≡ first_with_paths paths (all_verdicts count h) → (let a : Audit = record { heap = left; cells = after; rules = without_force paths; collections = collections + 1; violations = violations + found } in a) ≡ record (after_next (record { heap = h; cells = cells; rules = without_force paths; collections = collections; violations = violations })) { cells = after }
+pub left_by : (count : ℕ → ℕ) (a : Audit) (after : List (Option ℕ)) (left : Heap) (found : ℕ) (verdicts : List Verdict) → left ≡ after_collection a.rules a.heap → found ≡ length verdicts → verdicts ≡ first_with_paths a.rules.paths (all_verdicts count a.heap) → record a { heap = left; cells = after; collections = a.collections + 1; violations = a.violations + found } ≡ record (after_next a) { cells = after }
 unfolding after_next
-left_by count h cells after paths collections violations found left verdicts left_is found_is verdicts_are =
+left_by count a after left found verdicts left_is found_is verdicts_are =
     λ i. record {
-      heap = (left_is ∙ sym (plain_leaves_swept paths h)) i;
+      heap = left_is i;
       cells = after;
-      rules = without_force paths;
-      collections = collections + 1;
-      violations = violations + many i;
+      rules = a.rules;
+      collections = a.collections + 1;
+      violations = a.violations + many i;
     }
   where
-    many : found ≡ length (collection_of (without_force paths) (collections + 1) h).verdicts
+    paths : ℕ
+    paths = a.rules.paths
+
+    many : found ≡ length (collection_of a.rules (a.collections + 1) a.heap).verdicts
     many =
         found_is
         ∙ ap length verdicts_are
-        ∙ length-first_with_paths paths (all_verdicts count h)
-        ∙ length-all_verdicts count (reference_count h) h
-        ∙ sym (length-first_with_paths paths (all_verdicts (reference_count h) h))
-        ∙ ap length (sym (verdicts-of (reference_count h) paths (collections + 1) h))
+        ∙ length-first_with_paths paths (all_verdicts count a.heap)
+        ∙ length-all_verdicts count (reference_count a.heap) a.heap
+        ∙ sym (length-first_with_paths paths (all_verdicts (reference_count a.heap) a.heap))
+        ∙ ap length (sym (verdicts-of (reference_count a.heap) a.rules (a.collections + 1) a.heap))
 
 -- ---- where the counts are the numbers of references
 
@@ -131,17 +117,15 @@ module _ (p : Placed) (placed : IsPlaced p) (h : Heap) (table : h.table ≡ p.ta
   verdicts_agree live =
       ap (λ vs. ((map (dead_verdict h) (violating_dead h) ++ map (instances_verdict h) (violating_kinds h)) ++ vs) ++ map (ownedby_verdict h) (violating_ownees h)) (unshared_agree live)
 
-  pub collections_agree : AllLive p.table h.unshared → (paths number : ℕ) → collection_counted (counted_in p t) (without_force paths) number h ≡ collection_of (without_force paths) number h
+  pub collections_agree : AllLive p.table h.unshared → (rules : Rules) (number : ℕ) → collection_counted (counted_in p t) rules number h ≡ collection_of rules number h
   unfolding collection_counted
-  collections_agree live paths number =
-      ap (λ vs. record (collection_of (without_force paths) number h) { verdicts = first_with_paths paths vs }) (verdicts_agree live)
+  collections_agree live rules number =
+      ap (λ vs. record (collection_of rules number h) { verdicts = first_with_paths rules.paths vs }) (verdicts_agree live)
 
 -- A collection by the counts of a trace is the next collection, where these are the numbers of references.
-pub counted_as_defined : (a : Audit) (paths : ℕ) → a.rules ≡ without_force paths → (p : Placed) → p ≡ placed_of a → IsPlaced p → (r : RoleTable) → AreItsRoles a r → (t : TraceResult) → ((h : Heap) → StandFor p r h → CountsReferences p h t) → next_counted t a ≡ next_collection a
-counted_as_defined a paths rules p is placed r roles t counts =
+pub counted_as_defined : (a : Audit) (p : Placed) → p ≡ placed_of a → IsPlaced p → (r : RoleTable) → AreItsRoles a r → (t : TraceResult) → ((h : Heap) → StandFor p r h → CountsReferences p h t) → next_counted t a ≡ next_collection a
+counted_as_defined a p is placed r roles t counts =
     let at = placed_of a in
     let placed_there : IsPlaced at = subst IsPlaced is placed in
     let counts_there : CountsReferences at a.heap t = subst (λ (q : Placed). CountsReferences q a.heap t) is (counts a.heap (subst (λ (q : Placed). StandFor q r a.heap) (sym is) roles.of_heap)) in
-    ap (λ (rs : Rules). collection_counted (counted_in at t) rs (a.collections + 1) a.heap) rules
-    ∙ collections_agree at placed_there a.heap refl t counts_there roles.of_heap.refers.unshared paths (a.collections + 1)
-    ∙ ap (λ (rs : Rules). collection_of rs (a.collections + 1) a.heap) (sym rules)
+    collections_agree at placed_there a.heap refl t counts_there roles.of_heap.refers.unshared a.rules (a.collections + 1)

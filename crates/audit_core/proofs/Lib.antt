@@ -1,3 +1,4 @@
+pub mod Cleared
 pub mod Collected
 pub mod Limits
 pub mod Operations

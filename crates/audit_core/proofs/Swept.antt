@@ -6,7 +6,7 @@ use Rattle.std.proofs.lemmas.Bool.{false≢true, or_left, or_right, or_cases, an
 use Rattle.std.proofs.lemmas.List.{length-map, get_or-map}
 use Rattle.std.proofs.lemmas.List.Elements.{All-head, All-tail, Contains-get_or}
 use Rattle.graph_meaning.specs.Assertions.{root_ids, is_traced, traced_ids}
-use Rattle.graph_meaning.specs.Collecting.{with_only, after_sweep, after_collection}
+use Rattle.graph_meaning.specs.Collecting.{with_only, after_sweep}
 use Rattle.graph_meaning.specs.Heap.{Slot, Object, Table, Heap, object_at, is_live, edge_of, numbered_edge, targets}
 use Rattle.graph_meaning.specs.Laws.{HoldsLive}
 use Rattle.graph_meaning.specs.Reach.{has_id}
@@ -21,8 +21,8 @@ use Rattle.assert_registry.specs.Assertions.{Assertions, AreOfSeenTypes}
 use Rattle.sweep.specs.Parts.{Parts, ArePartsOf, AreTraced, SweepsHeap, assertions_on}
 use Rattle.heap_trace.specs.Results.{TraceResult}
 use Rattle.heap_trace.specs.Traces.{IsTraceOf}
-use Rattle.audit_core.specs.Audit.{without_force}
 use Rattle.audit_core.specs.Parts.{AreParts, IsWellFormed, heap_of, named_limits}
+use Rattle.audit_core.specs.Audit.{rules_of}
 use Rattle.audit_core.proofs.Stepping.{well_formed-collection}
 
 -- ---- what edges lead to is live
@@ -62,7 +62,7 @@ target-live t x y live at = go (object_at t.objects x) refl at
 -- ---- which objects are in kept cells
 
 -- what a cell holds is kept where the cell is
-has_id-kept_ids : (cells : List (Option ℕ)) (kept : List Bool) (cell id : ℕ) → get_or cells cell None ≡ Some id → get_or kept cell false ≡ true → has_id (kept_ids cells kept) id ≡ true
+pub has_id-kept_ids : (cells : List (Option ℕ)) (kept : List Bool) (cell id : ℕ) → get_or cells cell None ≡ Some id → get_or kept cell false ≡ true → has_id (kept_ids cells kept) id ≡ true
 has_id-kept_ids [] kept cell id held is = cc
 has_id-kept_ids (c ∷ cells) [] cell id held is = absurd (false≢true is)
 has_id-kept_ids (None ∷ cells) (k ∷ kept) zero id held is = cc
@@ -74,7 +74,7 @@ has_id-kept_ids (Some x ∷ cells) (true ∷ kept) (suc cell) id held is =
     or_right _ _ (has_id-kept_ids cells kept cell id held is)
 
 -- an object that is kept stands in a cell that is kept
-kept_ids-cell : (cells : List (Option ℕ)) (kept : List Bool) (id : ℕ) → has_id (kept_ids cells kept) id ≡ true → (cell : ℕ) × (get_or cells cell None ≡ Some id) × (get_or kept cell false ≡ true)
+pub kept_ids-cell : (cells : List (Option ℕ)) (kept : List Bool) (id : ℕ) → has_id (kept_ids cells kept) id ≡ true → (cell : ℕ) × (get_or cells cell None ≡ Some id) × (get_or kept cell false ≡ true)
 kept_ids-cell [] kept id at = absurd (false≢true at)
 kept_ids-cell (c ∷ cells) [] id at = absurd (false≢true at)
 kept_ids-cell (c ∷ cells) (false ∷ kept) id at = let later = kept_ids-cell cells kept id at in (suc later.0, later.1, later.2)
@@ -153,9 +153,13 @@ module _ (s : Parts) (are : AreParts s) (placed : IsPlaced s.placed) (t : TraceR
       owners = sym sweeps.left.owners i;
     }
 
+    -- each type with a limit was seen
+    pub seen_left : AreOfSeenTypes after.assertions.limits after.placed.table.kinds
+    seen_left kind =
+        subst (λ kinds. AreOfSeenTypes after.assertions.limits kinds) (sym same_kinds) (subst (λ limits. AreOfSeenTypes limits s.placed.table.kinds) (sym same_limits) are.seen) kind
+
     pub parts_left : AreParts after
     parts_left = record {
-      heap = subst IsWellFormed (plain_leaves_swept 0 h ∙ sym heap_left) (well_formed-collection (without_force 0) h are.heap);
-      seen = λ kind.
-          subst (λ kinds. AreOfSeenTypes after.assertions.limits kinds) (sym same_kinds) (subst (λ limits. AreOfSeenTypes limits s.placed.table.kinds) (sym same_limits) are.seen) kind;
+      heap = subst IsWellFormed (plain_leaves_swept 0 h ∙ sym heap_left) (well_formed-collection (rules_of 0 false) h are.heap);
+      seen = λ kind. seen_left kind;
     }

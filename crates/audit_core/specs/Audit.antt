@@ -28,9 +28,9 @@ pub record Audit : Type 0 where
 abbrev pub placed_of : Audit → Placed
 placed_of a = record { table = a.heap.table; cells = a.cells }
 
--- so many paths are shown, and nothing is cut off
-abbrev pub without_force : ℕ → Rules
-without_force paths = record { paths = paths; force = false }
+-- so many paths are shown, and what is asserted dead is cut off or not
+abbrev pub rules_of : ℕ → Bool → Rules
+rules_of paths force = record { paths = paths; force = force }
 
 -- an auditor at the beginning of a trace
 abbrev pub first_audit : Rules → Audit

@@ -1,15 +1,20 @@
 -- The heap that a table, a registry and a log of regions stand for.
-use Rattle.std.specs.Prelude.{◌≡◌, ℕ, List, [], ◌∷◌, Option, None, Some, Result, Ok, OnOk, OnErr}
+use Rattle.std.specs.Prelude.{◌≡◌, ℕ, List, [], ◌∷◌, length, map, Bool, false, ◌&&◌, Option, None, Some, Result, Ok, OnOk, OnErr, slice_index_or}
 use Rattle.std.specs.BTreeMap.{insert_entry}
+use Rattle.std.specs.List.{range_with_len}
 use Rattle.std.specs.Result.{result_err}
 use Rattle.graph_meaning.specs.declared.event.Event.{Event}
 use Rattle.graph_meaning.specs.declared.refusal.Stop.{Stop}
 use Rattle.graph_meaning.specs.Answers.{RefusesBy}
+use Rattle.graph_meaning.specs.Collecting.{violating_dead}
 use Rattle.graph_meaning.specs.Heap.{Heap, name_cmp}
 use Rattle.graph_meaning.specs.Laws.{RefersToLive, IdsRise, IsOrdered, IsWithinLimits}
+use Rattle.graph_meaning.specs.Reach.{has_id}
+use Rattle.graph_meaning.specs.Roles.{RoleTable}
 use Rattle.graph_meaning.specs.Step.{step}
 use Rattle.assert_registry.specs.Assertions.{AreOfSeenTypes}
-use Rattle.object_table.specs.Placed.{Placed}
+use Rattle.object_table.specs.Placed.{Placed, id_in}
+use Rattle.heap_trace.specs.Results.{TraceResult}
 use Rattle.sweep.specs.Parts.{Parts}
 
 -- The types that have a limit, by name, each with its limit: type k has the k-th limit, if that is one.
@@ -61,3 +66,14 @@ pub record Steps {T : Type 0} (before : PlacedHeap) (event : Event) (result : Re
   pub refused : RefusesBy result (result_err (step before.heap event))
   pub applied : OnOk result (step before.heap event ≡ Ok after.heap)
   pub err : OnErr result (after ≡ before)
+
+-- ---- what is cut off by force
+
+-- which of the first cells hold an object that is asserted dead and traced, by these roles and this trace
+abbrev pub dead_below : RoleTable → TraceResult → ℕ → List Bool
+dead_below r t cells = map (λ cell. slice_index_or r.dead cell false && slice_index_or t.kept cell false) (range_with_len 0 cells)
+
+-- There is a flag for each cell, and that of an object says whether it is asserted dead and traced.
+pub record AreDeadAndTraced (h : PlacedHeap) (flags : List Bool) : Type 0 where
+  pub each : length flags ≡ length h.cells
+  pub tell : (cell id : ℕ) → id_in (placed_in h) cell ≡ Some id → slice_index_or flags cell false ≡ has_id (violating_dead h.heap) id

@@ -4,7 +4,7 @@ ghost use Rattle.std.specs.Result.{result_err};
 ghost use Rattle.heap_base.specs.declared.limits.TheConstants.{MOST_WORKERS};
 ghost use Rattle.graph_meaning.specs.Answers.{RefusesBy};
 ghost use Rattle.graph_meaning.specs.Step.{step};
-ghost use Rattle.audit_core.specs.Audit.{first_audit, without_force, is_operation, placed_of};
+ghost use Rattle.audit_core.specs.Audit.{first_audit, rules_of, is_operation, placed_of};
 
 use crate::parts::HeapParts;
 use graph_meaning::{Event, Stop};
@@ -21,6 +21,8 @@ pub struct Auditor {
     pub(crate) workers: u32,
     // how many verdicts of a collection carry their paths
     pub(crate) paths: u32,
+    // whether what is asserted dead is cut off by force
+    pub(crate) force: bool,
     pub(crate) collections: u64,
     pub(crate) violations: u64,
     pub(crate) alloc: Global,
@@ -30,27 +32,34 @@ impl Model for Auditor {
     ghost use Rattle.std.specs.Prelude.{◌*◌, ◌<◌, ◌≤◌};
     ghost use Rattle.heap_base.specs.declared.limits.TheConstants.{MOST_WORKERS};
     ghost use Rattle.verdicts.specs.Verdicts.{most_verdicts};
-    ghost use Rattle.audit_core.specs.Audit.{Audit, without_force};
+    ghost use Rattle.audit_core.specs.Audit.{Audit, rules_of};
 
     ghost Value = { Audit };
 
-    ghost view = { λ a. record { heap = a.parts.heap; cells = a.parts.cells; rules = without_force a.paths; collections = a.collections; violations = a.violations } };
+    ghost view = { λ a. record { heap = a.parts.heap; cells = a.parts.cells; rules = rules_of a.paths a.force; collections = a.collections; violations = a.violations } };
 
     ghost invariant = { λ a. (0 < a.workers) × (a.workers ≤ MOST_WORKERS) × (a.violations ≤ most_verdicts * a.collections) };
 }
 
 impl Auditor {
     /// An auditor at the beginning of a trace. Each of its collections traces the heap with 1 to 16 workers, and shows
-    /// the paths of so many of its first verdicts.
-    pub fn make(alloc: Global, workers: u32, paths: u32) -> Result<Auditor, OutOfMemory>
+    /// the paths of so many of its first verdicts. With force a collection cuts off what is asserted dead and was
+    /// traced: no slot and no root holds it afterwards. Answers `OutOfMemory` where memory is wanting.
+    pub fn make(
+        alloc: Global,
+        workers: u32,
+        paths: u32,
+        force: bool,
+    ) -> Result<Auditor, OutOfMemory>
         requires workers { (0 < workers) × (workers ≤ MOST_WORKERS) }
-        ensures first { IfOk result (λ a. a ≡ first_audit (without_force paths)) }
+        ensures first { IfOk result (λ a. a ≡ first_audit (rules_of paths force)) }
     {
         let parts = HeapParts::make(alloc)?;
         Ok(Auditor {
             parts,
             workers,
             paths,
+            force,
             collections: 0,
             violations: 0,
             alloc,

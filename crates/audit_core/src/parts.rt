@@ -1,13 +1,14 @@
 //! The parts of a heap: its objects, what is asserted of them, and the open regions.
-ghost use Rattle.std.specs.Prelude.{◌≡◌, ◌-◌, [], length, IsTrue, IfOk};
+ghost use Rattle.std.specs.Prelude.{◌≡◌, ◌-◌, [], length, true, is_some, IsTrue, IfOk, IfSome};
 ghost use Rattle.graph_meaning.specs.Assertions.{traced_ids};
-ghost use Rattle.graph_meaning.specs.Collecting.{after_sweep};
+ghost use Rattle.graph_meaning.specs.Collecting.{Rules, after_sweep, after_collection, holders_of, ids_to_clear, violating_dead};
 ghost use Rattle.graph_meaning.specs.Heap.{empty_heap};
+ghost use Rattle.graph_meaning.specs.Reach.{has_id};
 ghost use Rattle.graph_meaning.specs.Roles.{AreRolesOf};
 ghost use Rattle.assert_registry.specs.Laws.{StandFor};
 ghost use Rattle.heap_trace.specs.Traces.{IsTraceOf};
 ghost use Rattle.audit_core.specs.Audit.{is_operation};
-ghost use Rattle.audit_core.specs.Parts.{Steps, placed_in};
+ghost use Rattle.audit_core.specs.Parts.{AreDeadAndTraced, Steps, placed_in};
 
 use assert_registry::AssertRegistry;
 use graph_meaning::{Event, Roles, Stop};
@@ -18,6 +19,13 @@ use region_log::RegionLog;
 use std::alloc::Global;
 use std::marker::Model;
 use sweep::sweep;
+
+/// What a sweep did: how many objects it freed, and how many slots and roots it cleared.
+#[derive(Drop)]
+pub(crate) struct Swept {
+    pub(crate) freed: u32,
+    pub(crate) cleared: u32,
+}
 
 /// What keeps the heap of a trace. Contracts see the heap that these parts stand for, and the cells of its objects.
 #[derive(Drop)]
@@ -100,5 +108,44 @@ impl HeapParts {
             &mut self.regions,
             traced.kept(),
         )
+    }
+
+    /// Frees what is not traced, and cuts off what is asserted dead and was traced, as the flags of the cells say. It takes no
+    /// memory.
+    pub(crate) fn sweep_by_force(&mut self, traced: &Traced, to_clear: &[bool]) -> Swept
+        requires trace { IsTraceOf (placed_in self.old) self.old.heap traced.now }
+        requires to_clear { AreDeadAndTraced self.old to_clear.now }
+        ensures left { (rules : Rules) → rules.force ≡ true → self.new.heap ≡ after_collection rules self.old.heap }
+        ensures freed { result.freed ≡ length self.old.heap.table.objects - length (traced_ids self.old.heap) }
+        ensures cleared { result.cleared ≡ holders_of (has_id (violating_dead self.old.heap)) (after_sweep self.old.heap).table }
+    {
+        // The call tells that each object stands in one cell, before the sweep and after it.
+        prove!(self.table.cells() <= MOST_OBJECTS);
+        let freed = sweep(
+            &mut self.table,
+            &mut self.registry,
+            &mut self.regions,
+            traced.kept(),
+        );
+        prove!(self.table.cells() <= MOST_OBJECTS);
+        let cleared = self.table.clear_to(to_clear);
+        Swept { freed, cleared }
+    }
+
+    /// Frees what is not traced, and cuts off what the flags say, where there are flags. It takes no memory.
+    pub(crate) fn finish(&mut self, traced: &Traced, to_clear: Option<&Vec<bool>>) -> Swept
+        requires trace { IsTraceOf (placed_in self.old) self.old.heap traced.now }
+        requires to_clear { IfSome to_clear (λ flags. AreDeadAndTraced self.old flags.now.items) }
+        ensures left { (rules : Rules) → rules.force ≡ is_some to_clear.entry → self.new.heap ≡ after_collection rules self.old.heap }
+        ensures freed { result.freed ≡ length self.old.heap.table.objects - length (traced_ids self.old.heap) }
+        ensures cleared { (rules : Rules) → rules.force ≡ is_some to_clear.entry → result.cleared ≡ holders_of (has_id (ids_to_clear rules self.old.heap)) (after_sweep self.old.heap).table }
+    {
+        match to_clear {
+            Some(flags) => self.sweep_by_force(traced, flags),
+            None => Swept {
+                freed: self.sweep(traced),
+                cleared: 0,
+            },
+        }
     }
 }

@@ -108,7 +108,7 @@ fn auditor(alloc: Global, workers: u32) -> Result<Auditor, Fail> {
     if workers == 0 || workers > 16 {
         return Err("1 to 16 workers".into());
     }
-    Ok(Auditor::make(alloc, workers, 100)?)
+    Ok(Auditor::make(alloc, workers, 100, false)?)
 }
 
 // What the auditor answers to an operation.
@@ -622,6 +622,31 @@ fn an_object_that_was_freed_is_not_stored(rt: HostRuntime) -> Result<(), Fail> {
     assert!(rt; has_found(&collection, [2, 1, 1], &[]));
     let refused = Err(Stop::Refused(Refusal::NotLive(7)));
     assert_eq!(rt; answer(alloc, &mut auditor, Line::Store(8, 0, 7))?, refused);
+    Ok(())
+}
+
+// Two roots name the order, and the cart holds it in a slot and in a weak slot.
+#[test]
+fn by_force_nothing_holds_what_is_asserted_dead(rt: HostRuntime) -> Result<(), Fail> {
+    let alloc = rt.alloc();
+    let mut auditor = Auditor::make(alloc, 1, 100, true)?;
+    let lines = [
+        Line::Alloc(7, "Order", 1, 0),
+        Line::Alloc(8, "Cart", 3, 0),
+        Line::Root("a", 7),
+        Line::Root("b", 7),
+        Line::Root("c", 8),
+        Line::Store(8, 0, 7),
+        Line::Store(8, 1, 7),
+        Line::Weak(8, 1),
+        Line::Store(8, 2, 8),
+        Line::Dead(7),
+    ];
+    follow(alloc, &mut auditor, &lines)?;
+    let first = collect(&rt, &mut auditor)?;
+    assert!(rt; has_found(&first, [2, 2, 0], &[Found::Dead(7)]) && first.cleared == 4);
+    let second = collect(&rt, &mut auditor)?;
+    assert!(rt; has_found(&second, [2, 1, 1], &[]) && second.cleared == 0);
     Ok(())
 }
 

@@ -1,15 +1,15 @@
 -- What follows from the statement on a run, status by status.
-use Rattle.std.proofs.Common.{◌≡◌, ◌⊎◌, ⊎_elim, inl, inr, ℕ, List, [], Option, Some, None, IfSome, refl, sym, ◌∙◌, ap, subst}
+use Rattle.std.proofs.Common.{◌≡◌, ◌⊎◌, ⊎_elim, inl, inr, ℕ, List, [], IsTrue, Option, Some, None, IfSome, refl, sym, ◌∙◌, ap, subst, arith}
 use Rattle.std.proofs.lemmas.List.{append_cancel_left, append-nil}
 use Rattle.std.specs.Io.KnownBytes.{Appends, Consumes, IsAtEnd}
+use Rattle.heap_base.specs.Causes.{Rose}
 use Rattle.heap_base.specs.Sinks.{AppendsPart}
 use Rattle.heap_base.specs.declared.status.Status.{Status}
 use Rattle.heap_base.specs.declared.status.Status.TheVariants.{Clean, Violated, TraceFault, ReadFault, WriteFault, NoMemory, Usage}
-use Rattle.graph_meaning.specs.Collecting.{Rules}
-use Rattle.report.specs.Report.{report_of, status_of}
+use Rattle.report.specs.Report.{RunRules, is_halted, report_of, status_of, ending_of}
 use Rattle.report.specs.Traces.{trace_items}
-use Rattle.audit_run.specs.Outcome.{Outside, ReadsToEnd, AppendsPartOfReport}
-use Rattle.audit_run.specs.Facts.{IsWhole, HasFacts, FactsFollow}
+use Rattle.audit_run.specs.Outcome.{Outside, ReportsTrace, AppendsPartOfReport}
+use Rattle.audit_run.specs.Facts.{IsWhole, HasFacts, FactsFollow, NoReadFails}
 
 -- the trace is that of the bytes that are told
 told : (left : Option (List ℕ)) (bytes trace : List ℕ) → left ≡ Some bytes → IfSome left (λ x. x ≡ trace) → trace ≡ bytes
@@ -24,16 +24,19 @@ at_end_of (Some x) (Some rest) bytes trace e same read =
     let left : x ≡ bytes = cc in
     append_cancel_left trace rest [] (sym read ∙ left ∙ sym same ∙ sym (append-nil trace))
 
-whole_of : (rules : Rules) (old new : Outside) (answer : Status) (bytes : List ℕ) → old.source.bytes ≡ Some bytes → ReadsToEnd rules old new answer → IsWhole rules old new answer bytes
+whole_of : (rules : RunRules) (old new : Outside) (answer : Status) (bytes : List ℕ) → old.source.bytes ≡ Some bytes → ReportsTrace rules old new answer → IsWhole rules old new answer bytes
 whole_of rules old new answer bytes e r =
     let same = told old.source.bytes bytes r.bytes e r.trace in
     record {
-      at_end = at_end_of old.source.bytes new.source.bytes bytes r.bytes e same r.read;
+      at_end = ⊎_elim
+          (λ read. inl (at_end_of old.source.bytes new.source.bytes bytes r.bytes e same read))
+          (λ halted. inr (subst (λ (b : List ℕ). IsTrue (is_halted (ending_of rules (trace_items b)))) same halted))
+          r.read;
       report = subst (λ (b : List ℕ). Appends old.sink.bytes new.sink.bytes (report_of rules (trace_items b))) same r.report;
       status = r.status ∙ ap (λ b. status_of rules (trace_items b)) same;
     }
 
-part_of : (rules : Rules) (old new : Outside) (bytes : List ℕ) → old.source.bytes ≡ Some bytes → AppendsPartOfReport rules old new → AppendsPart old.sink.bytes new.sink.bytes (report_of rules (trace_items bytes))
+part_of : (rules : RunRules) (old new : Outside) (bytes : List ℕ) → old.source.bytes ≡ Some bytes → AppendsPartOfReport rules old new → AppendsPart old.sink.bytes new.sink.bytes (report_of rules (trace_items bytes))
 part_of rules old new bytes e r =
     subst (λ (b : List ℕ). AppendsPart old.sink.bytes new.sink.bytes (report_of rules (trace_items b))) (told old.source.bytes bytes r.bytes e r.trace) r.part
 
@@ -43,7 +46,7 @@ neither : {A B : Type 0} {P : Type 0} → ¬ A → ¬ B → A ⊎ B → P
 neither not_a not_b either = absurd (⊎_elim not_a not_b either)
 
 -- a run that came to its end, whichever of the two it answers
-module _ (rules : Rules) (old new : Outside) (answer : Status) (bytes : List ℕ) (ends : (answer ≡ Clean) ⊎ (answer ≡ Violated)) where
+module _ (rules : RunRules) (old new : Outside) (answer : Status) (bytes : List ℕ) (ends : (answer ≡ Clean) ⊎ (answer ≡ Violated)) where
   no_other : (s : Status) → ¬ (s ≡ Clean) → ¬ (s ≡ Violated) → ¬ (answer ≡ s)
   no_other s not_clean not_violated is =
       ⊎_elim (λ clean. not_clean (sym is ∙ clean)) (λ violated. not_violated (sym is ∙ violated)) ends
@@ -112,3 +115,11 @@ facts_follow rules old new NoMemory bytes e r = record {
   complete = λ _ _ _. inr (inr refl);
 }
 facts_follow rules old new Usage bytes e r = absurd r
+
+-- ---- no count of faults, no failed read
+
+pub no_read_fails : NoReadFails
+no_read_fails rules old new bytes left ended = absurd (rose_from_none ended.0)
+  where
+    rose_from_none : Rose 0 0 → ⊥
+    rose_from_none rose = omega (arith, rose)

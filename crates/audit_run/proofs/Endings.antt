@@ -1,12 +1,10 @@
 -- How a run ends: from what was done so far, and what the last step did, to what stands after the whole run.
-use Rattle.std.proofs.Common.{◌≡◌, ℕ, ◌+◌, ◌≤◌, List, [], ◌∷◌, ◌++◌, length, map, take, Bool, true, false, IsTrue, Option, Some, None, Result, Ok, Err, IfSome, refl, sym, ◌∙◌, ap, subst, arith}
+use Rattle.std.proofs.Common.{◌≡◌, ◌⊎◌, inl, inr, ℕ, ◌+◌, ◌≤◌, List, [], ◌∷◌, ◌++◌, length, Bool, true, false, ◌||◌, IsTrue, Option, Some, None, Result, Ok, Err, IfSome, refl, sym, ◌∙◌, ap, subst, arith}
 use Rattle.std.specs.List.{concat, AllByRecursion}
 use Rattle.std.specs.Io.KnownBytes.{Appends, Consumes, IsAtEnd}
 use Rattle.std.proofs.KnownBytes.{Consumes-trans, Appends-nil, Appends-trans}
-use Rattle.std.proofs.Math.Seq.{take-append-add}
-use Rattle.std.proofs.lemmas.List.{append_assoc, append-nil, map-append, length-append}
+use Rattle.std.proofs.lemmas.List.{append_assoc, append-nil, length-append}
 use Rattle.std.proofs.lemmas.Bool.{false≢true}
-use Rattle.heap_base.specs.Causes.{Rose}
 use Rattle.heap_base.specs.Sinks.{AppendsPart}
 use Rattle.heap_base.specs.Streams.{Stream}
 use Rattle.heap_base.specs.declared.limits.TheConstants.{LONGEST_TRACE}
@@ -20,17 +18,16 @@ use Rattle.trace_reader.specs.declared.error.CutError.TheVariants as cut_error
 use Rattle.trace_reader.specs.Meaning.{Item, item_of_line, refused}
 use Rattle.trace_reader.specs.Items.{pieces, items_from}
 use Rattle.trace_reader.specs.Cutter.{CutterState, StepsOn, Cuts, GivesLine}
-use Rattle.report.specs.Report.{Totals, first_state, end_of_trace, refused_line, empty_run, run, collections_text, report_of, status_of, part_of, ending_of}
+use Rattle.report.specs.Report.{RunRules, Totals, Ran, first_state, end_of_trace, refused_line, is_halted, empty_run, run, collections_text, report_of, status_of, part_of, ending_of}
 use Rattle.report.specs.Traces.{trace_items, whole_lines}
 use Rattle.audit_core.specs.Audit.{Audit}
-use Rattle.audit_run.specs.Words.{usual_rules}
-use Rattle.audit_run.specs.Outcome.{Outside, IsTrace, ReadsToEnd, Ended, AppendsPartOfReport}
+use Rattle.audit_run.specs.Outcome.{Outside, IsTrace, ReportsTrace, Ended, AppendsPartOfReport}
 use Rattle.audit_run.specs.Turn.{Due, due, due_at, EndsRun, totals_of, state_at}
 use Rattle.trace_reader.proofs.Pieces.{items_from-append, items_from-given, items_from-line_too_long, items_from-trace_too_long}
 use Rattle.report.proofs.Runs.{LeadsTo, report_text-leads_to, run_status-leads_to, run-nil, run-refused, ending_of-leads_to, part_of-leads_to}
 use Rattle.report.proofs.WholeLines.{IsWholeLine, pieces-whole_lines, whole_lines-cut}
 use Rattle.audit_run.proofs.Progress.{Progress, InProgress, items_so_far, end_now, cuts_of, still_at_end}
-use Rattle.audit_run.proofs.Turns.{EndsRun-at, due-empty_run}
+use Rattle.audit_run.proofs.Turns.{EndsRun-at, due-empty_run, AppendsPart-behind, Rose-earlier}
 
 -- ---- the bytes of the trace
 
@@ -43,61 +40,59 @@ rest_of (Some xs) (Some rest) taken AtEnd consumed end = (rest, consumed, end, c
 
 -- ---- what stands after a run
 
--- behind what was appended before, a part of the rest is a part of the whole
-AppendsPart-behind : (start held after : Option (List ℕ)) (front text whole : List ℕ) → whole ≡ front ++ text → Appends start held front → AppendsPart held after text → AppendsPart start after whole
-AppendsPart-behind start held after front text whole e before (n, within, part) = (
-  length front + n,
-  omega (arith, ap length e, length-append front text),
-  subst (λ (t : List ℕ). Appends start after t) (sym (ap (take (length front + n)) e ∙ take-append-add front text n)) (Appends-trans _ _ _ _ _ before part),
-)
-
-Rose-earlier : (start before now : ℕ) → start ≤ before → Rose before now → Rose start now
-Rose-earlier start before now le rose = omega arith
-
 -- The items of the whole trace are those of the pieces so far and then these.
 pub record RunOfAll (start : Outside) (a : Audit) (n : ℕ) (done : List (List ℕ)) (bytes : List ℕ) (more : List Item) : Type 0 where
   pub trace : IsTrace start bytes
   pub items : trace_items bytes ≡ items_so_far done ++ more
 
-module _ (start now now' : Outside) (a : Audit) (n : ℕ) (done : List (List ℕ)) (made : List Collection) (bytes : List ℕ) (more : List Item)
+module _ (rules : RunRules) (start now now' : Outside) (a : Audit) (n : ℕ) (done : List (List ℕ)) (made : List Collection) (bytes : List ℕ) (more : List Item)
     (before : Appends start.sink.bytes now.sink.bytes (collections_text made))
-    (ran : LeadsTo usual_rules first_state (items_so_far done) made (state_at a n))
+    (ran : LeadsTo rules first_state (items_so_far done) made (state_at a n))
     (all : RunOfAll start a n done bytes more) where
   abbrev rest : Due
-  rest = due (totals_of a) (run usual_rules (state_at a n) more)
+  rest = due (totals_of a) (run rules (state_at a n) more)
 
-  whole_text : report_of usual_rules (trace_items bytes) ≡ collections_text made ++ rest.text
+  whole_text : report_of rules (trace_items bytes) ≡ collections_text made ++ rest.text
   whole_text =
-      ap (report_of usual_rules) all.items ∙ report_text-leads_to usual_rules first_state (state_at a n) (items_so_far done) more made ran
+      ap (report_of rules) all.items ∙ report_text-leads_to rules first_state (state_at a n) (items_so_far done) more made ran
 
-  whole_status : status_of usual_rules (trace_items bytes) ≡ rest.status
+  whole_status : status_of rules (trace_items bytes) ≡ rest.status
   whole_status =
-      ap (status_of usual_rules) all.items ∙ run_status-leads_to usual_rules first_state (state_at a n) (items_so_far done) more made ran
+      ap (status_of rules) all.items ∙ run_status-leads_to rules first_state (state_at a n) (items_so_far done) more made ran
 
-  appends_whole : Appends now.sink.bytes now'.sink.bytes rest.text → Appends start.sink.bytes now'.sink.bytes (report_of usual_rules (trace_items bytes))
+  appends_whole : Appends now.sink.bytes now'.sink.bytes rest.text → Appends start.sink.bytes now'.sink.bytes (report_of rules (trace_items bytes))
   appends_whole after =
       subst (λ (t : List ℕ). Appends start.sink.bytes now'.sink.bytes t) (sym whole_text) (Appends-trans _ _ _ _ _ before after)
 
-  appends_part : AppendsPart now.sink.bytes now'.sink.bytes rest.text → AppendsPartOfReport usual_rules start now'
+  appends_part : AppendsPart now.sink.bytes now'.sink.bytes rest.text → AppendsPartOfReport rules start now'
   appends_part part = record {
     bytes = bytes;
     trace = all.trace;
     part = AppendsPart-behind start.sink.bytes now.sink.bytes now'.sink.bytes (collections_text made) _ _ whole_text before part;
   }
 
-  read_to_end : (status : Status) → Consumes start.source.bytes now'.source.bytes bytes → rest.status ≡ status → Appends now.sink.bytes now'.sink.bytes rest.text → ReadsToEnd usual_rules start now' status
-  read_to_end status read is text = record {
+  whole_ending : is_halted (ending_of rules (trace_items bytes)) ≡ rest.halted
+  whole_ending =
+      ap (λ (r : Ran). is_halted r.ending) (ap (run rules first_state) all.items ∙ ran.on more)
+
+  read_or_halted : (at_end : Bool) → (IsTrue at_end → Consumes start.source.bytes now'.source.bytes bytes) → IsTrue (at_end || rest.halted) →
+      Consumes start.source.bytes now'.source.bytes bytes ⊎ IsTrue (is_halted (ending_of rules (trace_items bytes)))
+  read_or_halted true end either = inl (end refl)
+  read_or_halted false end either = inr (subst IsTrue (sym whole_ending) either)
+
+  reports : (at_end : Bool) (status : Status) → (IsTrue at_end → Consumes start.source.bytes now'.source.bytes bytes) → IsTrue (at_end || rest.halted) → rest.status ≡ status → Appends now.sink.bytes now'.sink.bytes rest.text → ReportsTrace rules start now' status
+  reports at_end status end either is text = record {
     bytes = bytes;
     trace = all.trace;
-    read = read;
+    read = read_or_halted at_end end either;
     report = appends_whole text;
     status = sym (whole_status ∙ is);
   }
 
   pub ended : (at_end : Bool) (status : Status) → start.sink.faults ≤ now.sink.faults → (IsTrue at_end → Consumes start.source.bytes now'.source.bytes bytes) →
-      EndsRun at_end now.sink now'.sink rest status → Ended usual_rules start now' status
-  ended at_end Clean later end ends = read_to_end Clean (end ends.0) ends.1 ends.2
-  ended at_end Violated later end ends = read_to_end Violated (end ends.0) ends.1 ends.2
+      EndsRun at_end now.sink now'.sink rest status → Ended rules start now' status
+  ended at_end Clean later end ends = reports at_end Clean end ends.0 ends.1 ends.2
+  ended at_end Violated later end ends = reports at_end Violated end ends.0 ends.1 ends.2
   ended at_end TraceFault later end ends = record {
     bytes = bytes;
     trace = all.trace;
@@ -117,11 +112,11 @@ pub record Trace (start now' : Outside) (c c' : CutterState) (a : Audit) (n : �
   pub nothing : IsTrue c'.at_end → rest ≡ []
   pub read : Consumes start.source.bytes now'.source.bytes (taken ++ took)
 
-pub trace_of : (start now now' : Outside) (c c' : CutterState) (a : Audit) (n : ℕ) (took taken : List ℕ) (done : List (List ℕ)) (made : List Collection) (result : Result (Option ℕ) CutError) →
-    Progress start now c a n taken done made → StepsOn c c' now.source.bytes now'.source.bytes now.source.faults now'.source.faults result took →
+pub trace_of : (rules : RunRules) (start now now' : Outside) (c c' : CutterState) (a : Audit) (n : ℕ) (took taken : List ℕ) (done : List (List ℕ)) (made : List Collection) (result : Result (Option ℕ) CutError) →
+    Progress rules start now c a n taken done made → StepsOn c c' now.source.bytes now'.source.bytes now.source.faults now'.source.faults result took →
     Trace start now' c c' a n took taken done
-trace_of start now now' c c' a n took taken done made result p steps =
-    let (rest, left, nothing, read) = rest_of start.source.bytes now'.source.bytes (taken ++ took) (IsTrue c'.at_end) (Consumes-trans _ _ _ _ _ p.consumed steps.consumes) (end_now start now now' c c' a n taken took done made result p steps) in
+trace_of rules start now now' c c' a n took taken done made result p steps =
+    let (rest, left, nothing, read) = rest_of start.source.bytes now'.source.bytes (taken ++ took) (IsTrue c'.at_end) (Consumes-trans _ _ _ _ _ p.consumed steps.consumes) (end_now rules start now now' c c' a n taken took done made result p steps) in
     let none : IsTrue c.at_end → took ++ rest ≡ [] = λ t. ap (λ x. x ++ rest) (steps.stays_at_end t).1 ∙ nothing (steps.stays_at_end t).0 in
     let cut : pieces ((taken ++ took) ++ rest) ≡ done ++ pieces ((c.pending ++ took) ++ rest) =
     ap pieces (append_assoc taken took rest) ∙ p.cut (took ++ rest) none ∙ ap (λ x. done ++ pieces x) (sym (append_assoc c.pending took rest)) in
@@ -141,70 +136,70 @@ trace_of start now now' c c' a n took taken done made result p steps =
 
 -- ---- the run ends with a status that the last step told
 
-run-none : (a : Audit) (n given : ℕ) → run usual_rules (state_at a n) (items_from LONGEST_TRACE given (pieces [])) ≡ empty_run end_of_trace
+run-none : (rules : RunRules) (a : Audit) (n given : ℕ) → run rules (state_at a n) (items_from LONGEST_TRACE given (pieces [])) ≡ empty_run end_of_trace
 unfolding items_from pieces
-run-none a n given = run-nil usual_rules (state_at a n)
+run-none rules a n given = run-nil rules (state_at a n)
 
 -- the trace was read to its end
-pub finished : (start now now' : Outside) (c c' : CutterState) (a : Audit) (n : ℕ) (took : List ℕ) (status : Status) →
-    InProgress start now c a n → StepsOn c c' now.source.bytes now'.source.bytes now.source.faults now'.source.faults (Ok None) took →
-    EndsRun true now.sink now'.sink (due_at (totals_of a) end_of_trace) status → Ended usual_rules start now' status
-finished start now now' c c' a n took status progress steps ends =
+pub finished : (rules : RunRules) (start now now' : Outside) (c c' : CutterState) (a : Audit) (n : ℕ) (took : List ℕ) (status : Status) →
+    InProgress rules start now c a n → StepsOn c c' now.source.bytes now'.source.bytes now.source.faults now'.source.faults (Ok None) took →
+    EndsRun true now.sink now'.sink (due_at (totals_of a) end_of_trace) status → Ended rules start now' status
+finished rules start now now' c c' a n took status progress steps ends =
     let p = progress.so_far in
     let cut : Cuts c c' (c.pending ++ took) now.source.faults now'.source.faults (Ok None) = cuts_of c.stopped _ _ p.stopped steps.cuts in
-    let trace = trace_of start now now' c c' a n took progress.taken progress.done progress.made _ p steps in
+    let trace = trace_of rules start now now' c c' a n took progress.taken progress.done progress.made _ p steps in
     let none : trace.rest ≡ [] = trace.nothing cut.1.at_end in
     let nothing : (c.pending ++ took) ++ trace.rest ≡ [] = ap (λ t. t ++ trace.rest) (sym cut.0.pending ∙ cut.1.nothing_left) ∙ none in
-    let last : run usual_rules (state_at a n) (items_from LONGEST_TRACE c.given (pieces ((c.pending ++ took) ++ trace.rest))) ≡ empty_run end_of_trace =
-    ap (λ t. run usual_rules (state_at a n) (items_from LONGEST_TRACE c.given (pieces t))) nothing ∙ run-none a n c.given in
+    let last : run rules (state_at a n) (items_from LONGEST_TRACE c.given (pieces ((c.pending ++ took) ++ trace.rest))) ≡ empty_run end_of_trace =
+    ap (λ t. run rules (state_at a n) (items_from LONGEST_TRACE c.given (pieces t))) nothing ∙ run-none rules a n c.given in
     let all_read : progress.taken ++ took ≡ (progress.taken ++ took) ++ trace.rest = sym (append-nil (progress.taken ++ took)) ∙ ap (λ t. (progress.taken ++ took) ++ t) (sym none) in
-    ended start now now' a n progress.done progress.made _ _ p.written p.ran trace.all true status p.writes
+    ended rules start now now' a n progress.done progress.made _ _ p.written p.ran trace.all true status p.writes
     (λ t. subst (λ (bytes : List ℕ). Consumes start.source.bytes now'.source.bytes bytes) all_read trace.read)
     (EndsRun-at true now.sink now'.sink _ _ status (ap (due (totals_of a)) last ∙ due-empty_run (totals_of a) end_of_trace) ends)
 
 -- the bytes that the cutter holds are refused, whatever follows them
-refused_cut : (start now now' : Outside) (c c' : CutterState) (a : Audit) (n : ℕ) (took : List ℕ) (r : Refusal) (result : Result (Option ℕ) CutError) (status : Status) →
-    InProgress start now c a n → StepsOn c c' now.source.bytes now'.source.bytes now.source.faults now'.source.faults result took →
+refused_cut : (rules : RunRules) (start now now' : Outside) (c c' : CutterState) (a : Audit) (n : ℕ) (took : List ℕ) (r : Refusal) (result : Result (Option ℕ) CutError) (status : Status) →
+    InProgress rules start now c a n → StepsOn c c' now.source.bytes now'.source.bytes now.source.faults now'.source.faults result took →
     ((rest : List ℕ) → (more : List Item) × (items_from LONGEST_TRACE c.given (pieces ((c.pending ++ took) ++ rest)) ≡ refused r ∷ more)) →
-    ((before : Totals) → EndsRun false now.sink now'.sink (due_at before (refused_line (n + 1) r)) status) → Ended usual_rules start now' status
-refused_cut start now now' c c' a n took r result status progress steps first ends =
+    ((before : Totals) → EndsRun false now.sink now'.sink (due_at before (refused_line (n + 1) r)) status) → Ended rules start now' status
+refused_cut rules start now now' c c' a n took r result status progress steps first ends =
     let p = progress.so_far in
-    let trace = trace_of start now now' c c' a n took progress.taken progress.done progress.made _ p steps in
+    let trace = trace_of rules start now now' c c' a n took progress.taken progress.done progress.made _ p steps in
     let items = first trace.rest in
-    let last : run usual_rules (state_at a n) (items_from LONGEST_TRACE c.given (pieces ((c.pending ++ took) ++ trace.rest))) ≡ empty_run (refused_line (n + 1) r) =
-    ap (λ is. run usual_rules (state_at a n) is) items.1 ∙ run-refused usual_rules (state_at a n) r items.0 in
-    ended start now now' a n progress.done progress.made _ _ p.written p.ran trace.all false status p.writes
+    let last : run rules (state_at a n) (items_from LONGEST_TRACE c.given (pieces ((c.pending ++ took) ++ trace.rest))) ≡ empty_run (refused_line (n + 1) r) =
+    ap (λ is. run rules (state_at a n) is) items.1 ∙ run-refused rules (state_at a n) r items.0 in
+    ended rules start now now' a n progress.done progress.made _ _ p.written p.ran trace.all false status p.writes
     (λ t. absurd (false≢true t))
     (EndsRun-at false now.sink now'.sink _ _ status (ap (due (totals_of a)) last ∙ due-empty_run (totals_of a) (refused_line (n + 1) r)) (ends (totals_of a)))
 
 -- the line that was given ends the run
-line_ends_by : (start now now' : Outside) (c c' : CutterState) (a : Audit) (n number : ℕ) (took : List ℕ) (status : Status) →
-    InProgress start now c a n → StepsOn c c' now.source.bytes now'.source.bytes now.source.faults now'.source.faults (Ok (Some number)) took →
-    ((more : List Item) → EndsRun false now.sink now'.sink (due (totals_of a) (run a.rules (state_at a n) (item_of_line c'.line ∷ more))) status) →
-    Ended usual_rules start now' status
-line_ends_by start now now' c c' a n number took status progress steps ends =
+line_ends_by : (rules : RunRules) (start now now' : Outside) (c c' : CutterState) (a : Audit) (n number : ℕ) (took : List ℕ) (status : Status) →
+    InProgress rules start now c a n → StepsOn c c' now.source.bytes now'.source.bytes now.source.faults now'.source.faults (Ok (Some number)) took →
+    ((more : List Item) → EndsRun false now.sink now'.sink (due (totals_of a) (run rules (state_at a n) (item_of_line c'.line ∷ more))) status) →
+    Ended rules start now' status
+line_ends_by rules start now now' c c' a n number took status progress steps ends =
     let p = progress.so_far in
     let cut : Cuts c c' (c.pending ++ took) now.source.faults now'.source.faults (Ok (Some number)) = cuts_of c.stopped _ _ p.stopped steps.cuts in
     let piece = cut.0 in
     let line : GivesLine c c' (c.pending ++ took) piece number = cut.1 in
-    let trace = trace_of start now now' c c' a n took progress.taken progress.done progress.made _ p steps in
+    let trace = trace_of rules start now now' c c' a n took progress.taken progress.done progress.made _ p steps in
     let others = items_from LONGEST_TRACE c'.given (pieces (c'.pending ++ trace.rest)) in
     let items : items_from LONGEST_TRACE c.given (pieces ((c.pending ++ took) ++ trace.rest)) ≡ item_of_line c'.line ∷ others =
     let F : ℕ → Type 0 = λ l. items_from l c.given (pieces ((c.pending ++ took) ++ trace.rest)) ≡ item_of_line c'.line ∷ items_from l c'.given (pieces (c'.pending ++ trace.rest)) in
     subst F p.limit (items_from-given c c' (c.pending ++ took) piece trace.rest number line trace.nothing) in
-    let last : run usual_rules (state_at a n) (items_from LONGEST_TRACE c.given (pieces ((c.pending ++ took) ++ trace.rest))) ≡ run a.rules (state_at a n) (item_of_line c'.line ∷ others) =
-    ap (λ is. run usual_rules (state_at a n) is) items ∙ ap (λ rules. run rules (state_at a n) (item_of_line c'.line ∷ others)) (sym p.rules) in
-    ended start now now' a n progress.done progress.made _ _ p.written p.ran trace.all false status p.writes
+    let last : run rules (state_at a n) (items_from LONGEST_TRACE c.given (pieces ((c.pending ++ took) ++ trace.rest))) ≡ run rules (state_at a n) (item_of_line c'.line ∷ others) =
+    ap (λ is. run rules (state_at a n) is) items in
+    ended rules start now now' a n progress.done progress.made _ _ p.written p.ran trace.all false status p.writes
     (λ t. absurd (false≢true t))
     (EndsRun-at false now.sink now'.sink _ _ status (ap (due (totals_of a)) last) (ends others))
 
-pub line_ends : (start now now' : Outside) (c c' : CutterState) (a : Audit) (n number : ℕ) (took text : List ℕ) (status : Status) →
-    InProgress start now c a n → StepsOn c c' now.source.bytes now'.source.bytes now.source.faults now'.source.faults (Ok (Some number)) took → text ≡ c'.line →
-    ((more : List Item) → EndsRun false now.sink now'.sink (due (totals_of a) (run a.rules (state_at a n) (item_of_line text ∷ more))) status) →
-    Ended usual_rules start now' status
-line_ends start now now' c c' a n number took text status progress steps e ends =
-    line_ends_by start now now' c c' a n number took status progress steps
-    (λ more. subst (λ (t : List ℕ). EndsRun false now.sink now'.sink (due (totals_of a) (run a.rules (state_at a n) (item_of_line t ∷ more))) status) e (ends more))
+pub line_ends : (rules : RunRules) (start now now' : Outside) (c c' : CutterState) (a : Audit) (n number : ℕ) (took text : List ℕ) (status : Status) →
+    InProgress rules start now c a n → StepsOn c c' now.source.bytes now'.source.bytes now.source.faults now'.source.faults (Ok (Some number)) took → text ≡ c'.line →
+    ((more : List Item) → EndsRun false now.sink now'.sink (due (totals_of a) (run rules (state_at a n) (item_of_line text ∷ more))) status) →
+    Ended rules start now' status
+line_ends rules start now now' c c' a n number took text status progress steps e ends =
+    line_ends_by rules start now now' c c' a n number took status progress steps
+    (λ more. subst (λ (t : List ℕ). EndsRun false now.sink now'.sink (due (totals_of a) (run rules (state_at a n) (item_of_line t ∷ more))) status) e (ends more))
 
 -- a line that is too long, and a trace that is too long
 refused_there : (c c' : CutterState) (bytes rest : List ℕ) (r : Refusal) → c'.limit ≡ LONGEST_TRACE → c'.given ≡ c.given → c'.pending ≡ bytes →
@@ -212,29 +207,29 @@ refused_there : (c c' : CutterState) (bytes rest : List ℕ) (r : Refusal) → c
 refused_there c c' bytes rest r limit given pending (more, first) =
     (more, ap (λ l. items_from l c.given (pieces (bytes ++ rest))) (sym limit) ∙ ap (λ b. items_from c'.limit b (pieces (bytes ++ rest))) (sym given) ∙ ap (λ t. items_from c'.limit c'.given (pieces (t ++ rest))) (sym pending) ∙ first)
 
-pub line_too_long : (start now now' : Outside) (c c' : CutterState) (a : Audit) (n : ℕ) (took : List ℕ) (status : Status) →
-    InProgress start now c a n → StepsOn c c' now.source.bytes now'.source.bytes now.source.faults now'.source.faults (Err cut_error.LineTooLong) took →
-    ((before : Totals) → EndsRun false now.sink now'.sink (due_at before (refused_line (n + 1) refusal.LineTooLong)) status) → Ended usual_rules start now' status
-line_too_long start now now' c c' a n took status progress steps ends =
+pub line_too_long : (rules : RunRules) (start now now' : Outside) (c c' : CutterState) (a : Audit) (n : ℕ) (took : List ℕ) (status : Status) →
+    InProgress rules start now c a n → StepsOn c c' now.source.bytes now'.source.bytes now.source.faults now'.source.faults (Err cut_error.LineTooLong) took →
+    ((before : Totals) → EndsRun false now.sink now'.sink (due_at before (refused_line (n + 1) refusal.LineTooLong)) status) → Ended rules start now' status
+line_too_long rules start now now' c c' a n took status progress steps ends =
     let cut : Cuts c c' (c.pending ++ took) now.source.faults now'.source.faults (Err cut_error.LineTooLong) = cuts_of c.stopped _ _ progress.so_far.stopped steps.cuts in
-    refused_cut start now now' c c' a n took refusal.LineTooLong _ status progress steps
+    refused_cut rules start now now' c c' a n took refusal.LineTooLong _ status progress steps
     (λ rest. refused_there c c' (c.pending ++ took) rest refusal.LineTooLong (steps.limit ∙ progress.so_far.limit) cut.0.given cut.0.pending (items_from-line_too_long c' rest cut.1.too_long)) ends
 
-pub trace_too_long : (start now now' : Outside) (c c' : CutterState) (a : Audit) (n : ℕ) (took : List ℕ) (status : Status) →
-    InProgress start now c a n → StepsOn c c' now.source.bytes now'.source.bytes now.source.faults now'.source.faults (Err cut_error.TraceTooLong) took →
-    ((before : Totals) → EndsRun false now.sink now'.sink (due_at before (refused_line (n + 1) refusal.TraceTooLong)) status) → Ended usual_rules start now' status
-trace_too_long start now now' c c' a n took status progress steps ends =
+pub trace_too_long : (rules : RunRules) (start now now' : Outside) (c c' : CutterState) (a : Audit) (n : ℕ) (took : List ℕ) (status : Status) →
+    InProgress rules start now c a n → StepsOn c c' now.source.bytes now'.source.bytes now.source.faults now'.source.faults (Err cut_error.TraceTooLong) took →
+    ((before : Totals) → EndsRun false now.sink now'.sink (due_at before (refused_line (n + 1) refusal.TraceTooLong)) status) → Ended rules start now' status
+trace_too_long rules start now now' c c' a n took status progress steps ends =
     let cut : Cuts c c' (c.pending ++ took) now.source.faults now'.source.faults (Err cut_error.TraceTooLong) = cuts_of c.stopped _ _ progress.so_far.stopped steps.cuts in
-    refused_cut start now now' c c' a n took refusal.TraceTooLong _ status progress steps
+    refused_cut rules start now now' c c' a n took refusal.TraceTooLong _ status progress steps
     (λ rest. refused_there c c' (c.pending ++ took) rest refusal.TraceTooLong (steps.limit ∙ progress.so_far.limit) cut.0.given cut.0.pending (items_from-trace_too_long c' rest (let given = cut.0.given in let within = progress.so_far.within in let kept = steps.limit in let limit = progress.so_far.limit in omega arith) cut.1.past_limit)) ends
 
 -- ---- a read that failed
 
 -- a read failed, and the run ends there
-pub cut_short : (start now now' : Outside) (c c' : CutterState) (a : Audit) (n : ℕ) (took : List ℕ) →
-    InProgress start now c a n → StepsOn c c' now.source.bytes now'.source.bytes now.source.faults now'.source.faults (Err cut_error.ReadFault) took → now'.sink ≡ now.sink →
-    Ended usual_rules start now' ReadFault
-cut_short start now now' c c' a n took progress steps same =
+pub cut_short : (rules : RunRules) (start now now' : Outside) (c c' : CutterState) (a : Audit) (n : ℕ) (took : List ℕ) →
+    InProgress rules start now c a n → StepsOn c c' now.source.bytes now'.source.bytes now.source.faults now'.source.faults (Err cut_error.ReadFault) took → now'.sink ≡ now.sink →
+    Ended rules start now' ReadFault
+cut_short rules start now now' c c' a n took progress steps same =
     let p = progress.so_far in
     let done = progress.done in
     let cut : Cuts c c' (c.pending ++ took) now.source.faults now'.source.faults (Err cut_error.ReadFault) = cuts_of c.stopped _ _ p.stopped steps.cuts in
@@ -251,22 +246,22 @@ cut_short start now now' c c' a n took progress steps same =
       record {
         bytes = progress.taken ++ took;
         read = Consumes-trans _ _ _ _ _ p.consumed steps.consumes;
-        none_refused = ap (ending_of usual_rules) items ∙ ending_of-leads_to usual_rules (state_at a n) (items_so_far done) progress.made p.ran;
+        goes_on = ap (ending_of rules) items ∙ ending_of-leads_to rules (state_at a n) (items_so_far done) progress.made p.ran;
         tail = omega (arith, ap length split, ap length whole, length-append (concat done) c'.pending, waits.front.short);
         within = omega (arith, ap length split, length-append (concat done) c'.pending, waits.front.within, cut.0.given, p.given, p.within, steps.limit, p.limit);
-        part = subst (λ (k : Stream). Appends start.sink.bytes k.bytes (part_of usual_rules (trace_items (whole_lines (progress.taken ++ took))))) (sym same)
-            (subst (λ (t : List ℕ). Appends start.sink.bytes now.sink.bytes t) (sym (ap (part_of usual_rules) items ∙ part_of-leads_to usual_rules (state_at a n) (items_so_far done) progress.made p.ran)) p.written);
+        part = subst (λ (k : Stream). Appends start.sink.bytes k.bytes (part_of rules (trace_items (whole_lines (progress.taken ++ took))))) (sym same)
+            (subst (λ (t : List ℕ). Appends start.sink.bytes now.sink.bytes t) (sym (ap (part_of rules) items ∙ part_of-leads_to rules (state_at a n) (items_so_far done) progress.made p.ran)) p.written);
       },
     )
 
 -- memory was wanting before anything was written
-pub nothing_written : (start now : Outside) → now.sink ≡ start.sink → Ended usual_rules start now NoMemory
-nothing_written start now same =
+pub nothing_written : (rules : RunRules) (start now : Outside) → now.sink ≡ start.sink → Ended rules start now NoMemory
+nothing_written rules start now same =
     let (bytes, trace) = some_trace start.source.bytes in
     record {
       bytes = bytes;
       trace = trace;
-      part = subst (λ (k : Stream). AppendsPart start.sink.bytes k.bytes (report_of usual_rules (trace_items bytes))) (sym same) (0, omega arith, Appends-nil start.sink.bytes);
+      part = subst (λ (k : Stream). AppendsPart start.sink.bytes k.bytes (report_of rules (trace_items bytes))) (sym same) (0, omega arith, Appends-nil start.sink.bytes);
     }
   where
     some_trace : (left : Option (List ℕ)) → (bytes : List ℕ) × IfSome left (λ told. told ≡ bytes)

@@ -1,5 +1,5 @@
 pub mod Causes
 pub mod Endings
-pub mod Numbers
+pub mod Plans
 pub mod Progress
 pub mod Turns

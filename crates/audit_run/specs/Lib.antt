@@ -1,4 +1,3 @@
 pub mod Facts
 pub mod Outcome
 pub mod Turn
-pub mod Words

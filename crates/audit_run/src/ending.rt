@@ -1,12 +1,12 @@
 ghost use Rattle.std.specs.Prelude.{◌≤◌, ℕ, true, false};
 ghost use Rattle.heap_base.specs.Streams.{stream_of};
-ghost use Rattle.report.specs.Report.{Totals, end_of_trace, refused_line};
+ghost use Rattle.report.specs.Report.{Totals, end_of_trace, halted, refused_line};
 ghost use Rattle.audit_run.specs.Turn.{EndsRun, due_at, totals_of};
 
 use audit_core::Auditor;
 use graph_meaning::Refusal;
 use heap_base::{Sink, Status, put_all};
-use report::{end_text, fault_text};
+use report::{end_text, fault_text, halt_text};
 use std::alloc::Global;
 
 /// Ends the report at a line that is refused.
@@ -19,6 +19,20 @@ pub fn refuse<K: Sink>(alloc: Global, line: u64, refusal: Refusal, sink: &mut K)
     };
     match put_all(sink, &text) {
         Ok(()) => Status::TraceFault,
+        Err(_) => Status::WriteFault,
+    }
+}
+
+/// Ends the report behind the collection of this number, which has so many violations.
+pub fn halt<K: Sink>(alloc: Global, collection: u64, violations: u64, sink: &mut K) -> Status
+    ensures ends { (before : Totals) → EndsRun false (stream_of K.held K.faults sink.old) (stream_of K.held K.faults sink.new) (due_at before (halted collection violations)) result }
+    ensures later { K.faults sink.old ≤ K.faults sink.new }
+{
+    let Ok(text) = halt_text(alloc, collection, violations) else {
+        return Status::NoMemory;
+    };
+    match put_all(sink, &text) {
+        Ok(()) => Status::Violated,
         Err(_) => Status::WriteFault,
     }
 }

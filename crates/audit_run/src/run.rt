@@ -1,20 +1,20 @@
-ghost use Rattle.std.specs.Prelude.{ℕ, ◌<◌, ◌≤◌};
+ghost use Rattle.std.specs.Prelude.{◌≡◌, ℕ, ◌<◌, ◌≤◌};
 ghost use Rattle.heap_base.specs.Streams.{stream_of};
 ghost use Rattle.heap_base.specs.declared.limits.TheConstants.{MOST_WORKERS};
-ghost use Rattle.audit_run.specs.Outcome.{Ended, seen};
-ghost use Rattle.audit_run.specs.Words.{usual_rules};
+ghost use Rattle.report.specs.Report.{is_force};
+ghost use Rattle.audit_run.specs.Outcome.{Ended, rules_by, seen};
 
 use crate::ending::{finish, refuse};
 use crate::host::Host;
 use crate::turn::{Flow, take_line};
 use audit_core::Auditor;
-use graph_meaning::Refusal;
-use heap_base::{Gate, LONGEST_TRACE, Sink, Source, Status, USUAL_PATHS};
+use graph_meaning::{React, Refusal};
+use heap_base::{Gate, LONGEST_TRACE, Sink, Source, Status};
 use std::thread::Threads;
 use trace_reader::{CutError, LineCutter, LineReader};
 
-/// Reads the trace line by line to its end or to the first line that is refused. The text of each collection
-/// is written before the next line is cut.
+/// Reads the trace line by line to its end, to the first line that is refused, or to the collection behind which the run
+/// halts. The text of each collection is written before the next line is cut.
 pub fn run<S: Source, K: Sink, G: Gate, R: Threads + Sync>(
     host: &Host<'_, R, G>,
     source: &mut S,
@@ -23,13 +23,14 @@ pub fn run<S: Source, K: Sink, G: Gate, R: Threads + Sync>(
     requires workers { (0 < host.now.workers) × (host.now.workers ≤ MOST_WORKERS) }
     ensures { let old = seen (stream_of S.left S.faults source.old) (stream_of K.held K.faults sink.old) in
         let new = seen (stream_of S.left S.faults source.new) (stream_of K.held K.faults sink.new) in
-        Ended usual_rules old new result }
+        Ended (rules_by host.now.paths host.now.react) old new result }
 {
     let alloc = host.alloc;
     let Ok(mut cutter) = LineCutter::make(alloc, LONGEST_TRACE) else {
         return Status::NoMemory;
     };
-    let Ok(mut auditor) = Auditor::make(alloc, host.workers, USUAL_PATHS) else {
+    let force = is_force(host.react);
+    let Ok(mut auditor) = Auditor::make(alloc, host.workers, host.paths, force) else {
         return Status::NoMemory;
     };
     let mut reader = LineReader::make(alloc);
@@ -63,4 +64,10 @@ pub fn run<S: Source, K: Sink, G: Gate, R: Threads + Sync>(
             ),
         }
     }
+}
+
+fn is_force(react: React) -> bool
+    ensures { result ≡ is_force react }
+{
+    matches!(react, React::Force)
 }

@@ -1,13 +1,15 @@
-ghost use Rattle.std.specs.Prelude.{◌≢◌, ◌<◌, ◌≤◌, ◌^◌, ℕ};
+ghost use Rattle.std.specs.Prelude.{◌≡◌, ◌≢◌, ◌<◌, ◌≤◌, ◌^◌, ℕ};
 ghost use Rattle.heap_base.specs.Streams.{stream_of};
 ghost use Rattle.graph_meaning.specs.declared.event.Event.TheVariants.{Collect};
 ghost use Rattle.trace_reader.specs.Meaning.{item_of_line, event as event_item};
-ghost use Rattle.audit_run.specs.Turn.{TakesLine, line_of};
+ghost use Rattle.report.specs.Report.{RunRules, collection_rules};
+ghost use Rattle.audit_run.specs.Outcome.{rules_by};
+ghost use Rattle.audit_run.specs.Turn.{Decides, TakesLine, line_of};
 
-use crate::ending::refuse;
+use crate::ending::{halt, refuse};
 use crate::host::Host;
 use audit_core::Auditor;
-use graph_meaning::{Event, Stop};
+use graph_meaning::{Collection, Event, React, Stop};
 use heap_base::{Gate, Sink, Status, put_all};
 use report::collection_text;
 use std::alloc::Global;
@@ -21,7 +23,7 @@ pub enum Flow {
     Ends(Status),
 }
 
-/// Takes one line of the trace, which this many lines stand before.
+/// Takes one line of the trace, which this many lines stand before. The auditor's collections go by the host's rules.
 pub fn take_line<K: Sink, G: Gate, R: Threads + Sync>(
     host: &Host<'_, R, G>,
     reader: &mut LineReader,
@@ -32,7 +34,8 @@ pub fn take_line<K: Sink, G: Gate, R: Threads + Sync>(
 ) -> Flow
     requires few_lines { lines < 2 ^ 40 }
     requires few_collections { auditor.old.collections ≤ lines }
-    ensures takes { TakesLine (line_of auditor.old lines (item_of_line line.now)) auditor.new (stream_of K.held K.faults sink.old) (stream_of K.held K.faults sink.new) result }
+    requires rules { auditor.old.rules ≡ collection_rules (rules_by host.now.paths host.now.react) }
+    ensures takes { TakesLine (line_of (rules_by host.now.paths host.now.react) auditor.old lines (item_of_line line.now)) auditor.new (stream_of K.held K.faults sink.old) (stream_of K.held K.faults sink.new) result }
     ensures later { K.faults sink.old ≤ K.faults sink.new }
 {
     match reader.event_of(line) {
@@ -52,7 +55,8 @@ fn take_event<K: Sink, G: Gate, R: Threads + Sync>(
 ) -> Flow
     requires few_lines { lines < 2 ^ 40 }
     requires few_collections { auditor.old.collections ≤ lines }
-    ensures takes { TakesLine (line_of auditor.old lines (event_item event.now)) auditor.new (stream_of K.held K.faults sink.old) (stream_of K.held K.faults sink.new) result }
+    requires rules { auditor.old.rules ≡ collection_rules (rules_by host.now.paths host.now.react) }
+    ensures takes { TakesLine (line_of (rules_by host.now.paths host.now.react) auditor.old lines (event_item event.now)) auditor.new (stream_of K.held K.faults sink.old) (stream_of K.held K.faults sink.new) result }
     ensures later { K.faults sink.old ≤ K.faults sink.new }
 {
     match event {
@@ -70,7 +74,7 @@ fn apply<K: Sink>(
 ) -> Flow
     requires few_lines { lines < 2 ^ 40 }
     requires operation { event.now ≢ Collect }
-    ensures takes { TakesLine (line_of auditor.old lines (event_item event.now)) auditor.new (stream_of K.held K.faults sink.old) (stream_of K.held K.faults sink.new) result }
+    ensures takes { (rules : RunRules) → TakesLine (line_of rules auditor.old lines (event_item event.now)) auditor.new (stream_of K.held K.faults sink.old) (stream_of K.held K.faults sink.new) result }
     ensures later { K.faults sink.old ≤ K.faults sink.new }
 {
     match auditor.apply(event) {
@@ -80,14 +84,15 @@ fn apply<K: Sink>(
     }
 }
 
-/// Makes a collection, and writes its text at once.
+/// Makes a collection, and writes its text at once. Behind it the run may halt.
 fn collect<K: Sink, G: Gate, R: Threads + Sync>(
     host: &Host<'_, R, G>,
     auditor: &mut Auditor,
     sink: &mut K,
 ) -> Flow
-    requires { auditor.old.collections < 2 ^ 40 }
-    ensures takes { (lines : ℕ) → TakesLine (line_of auditor.old lines (event_item Collect)) auditor.new (stream_of K.held K.faults sink.old) (stream_of K.held K.faults sink.new) result }
+    requires few_collections { auditor.old.collections < 2 ^ 40 }
+    requires rules { auditor.old.rules ≡ collection_rules (rules_by host.now.paths host.now.react) }
+    ensures takes { (lines : ℕ) → TakesLine (line_of (rules_by host.now.paths host.now.react) auditor.old lines (event_item Collect)) auditor.new (stream_of K.held K.faults sink.old) (stream_of K.held K.faults sink.new) result }
     ensures later { K.faults sink.old ≤ K.faults sink.new }
 {
     let Ok(collection) = auditor.collect(host.rt, host.gate) else {
@@ -97,7 +102,21 @@ fn collect<K: Sink, G: Gate, R: Threads + Sync>(
         return Flow::Ends(Status::NoMemory);
     };
     match put_all(sink, &text) {
-        Ok(()) => Flow::GoesOn,
+        Ok(()) => decide(host.alloc, host.react, &collection, sink),
         Err(_) => Flow::Ends(Status::WriteFault),
+    }
+}
+
+/// Goes on behind a collection, or halts where it is to and the collection has a violation.
+fn decide<K: Sink>(alloc: Global, react: React, collection: &Collection, sink: &mut K) -> Flow
+    ensures decides { Decides react collection.now (stream_of K.held K.faults sink.old) (stream_of K.held K.faults sink.new) result }
+    ensures later { K.faults sink.old ≤ K.faults sink.new }
+{
+    let violations = collection.verdicts.len() as u64;
+    match react {
+        React::Halt if violations > 0 => {
+            Flow::Ends(halt(alloc, collection.number, violations, sink))
+        }
+        _ => Flow::GoesOn,
     }
 }

@@ -1,4 +1,4 @@
-//! Audits a trace on standard input, and writes the report to standard output.
+//! Audits a trace on standard input, or one that is generated, and writes the report to standard output.
 #![tactic(auto)]
 
 use audit_run::audit;
@@ -64,7 +64,7 @@ fn sentence(status: Status) -> Option<&'static str> {
         Status::WriteFault => Some("standard output could not be written; the report is cut short"),
         Status::NoMemory => Some("memory is wanting; the report is cut short"),
         Status::Usage => Some(
-            "these words are not taken; the trace comes on standard input: gcaudit < TRACE",
+            "these words are not taken; the trace comes on standard input: gcaudit < TRACE; --gen and --size generate one",
         ),
     }
 }

@@ -1,18 +1,20 @@
 -- What the items of a trace do to a run, one after another, and to its report.
-use Rattle.std.proofs.Common.{◌≡◌, ℕ, ◌+◌, ◌≤◌, List, [], ◌∷◌, ◌++◌, length, Result, Ok, Err, refl, sym, ◌∙◌, ap, subst, arith}
+use Rattle.std.proofs.Common.{◌≡◌, ℕ, ◌+◌, ◌≤◌, List, [], ◌∷◌, ◌++◌, length, true, false, cond, Result, Ok, Err, refl, sym, ◌∙◌, ap, subst, arith}
 use Rattle.std.proofs.lemmas.List.{append_assoc, append-nil, length-append}
 use Rattle.std.proofs.lemmas.Grind.{flat_map-append}
 use Rattle.heap_base.proofs.Counting.{total-append}
 use Rattle.graph_meaning.specs.declared.collection.Collection.{Collection}
 use Rattle.graph_meaning.specs.declared.event.Event.{Event}
 use Rattle.graph_meaning.specs.declared.event.Event.TheVariants.{Alloc, Store, SetWeak, Root, AssertDead, StartRegion, AssertAllDead, AssertInstances, AssertUnshared, AssertOwnedBy, Collect}
+use Rattle.graph_meaning.specs.declared.reaction.React.{React}
+use Rattle.graph_meaning.specs.declared.reaction.React.TheVariants.{Report, Halt, Force}
 use Rattle.graph_meaning.specs.declared.refusal.Refusal.{Refusal}
 use Rattle.graph_meaning.specs.Heap.{Heap}
 use Rattle.graph_meaning.specs.Step.{step}
 use Rattle.graph_meaning.specs.Collecting.{Rules, collection_of, after_collection}
 use Rattle.trace_reader.specs.Meaning.{Item, blank, event, refused}
 use Rattle.report.specs.Text.{collection_text}
-use Rattle.report.specs.Report.{Totals, RunState, Turn, Ran, Ending, first_state, violations_of, with_collections, turn_to, turn_by_step, turn, turn_of_item, end_of_trace, refused_line, empty_run, with_earlier, after_turn, run, collections_text, last_line, last_status, report_text, run_status, ending_of, part_of}
+use Rattle.report.specs.Report.{RunRules, collection_rules, Totals, RunState, Turn, Ran, Ending, first_state, violations_of, with_collections, turn_to, turn_by_step, turn, turn_of_item, end_of_trace, refused_line, halted, empty_run, with_earlier, halts, after_turn, by_turn, run, collections_text, last_line, last_status, report_text, run_status, ending_of, part_of}
 
 -- ---- totals
 
@@ -128,22 +130,49 @@ IsTurn-of_item rules s (refused r) t is = absurd (cc)
 
 -- ---- one item
 
-pub run-nil : (rules : Rules) (s : RunState) → run rules s [] ≡ empty_run end_of_trace
+pub run-nil : (rules : RunRules) (s : RunState) → run rules s [] ≡ empty_run end_of_trace
 unfolding run
 run-nil rules s = refl
 
--- the run goes on from the turn of its first item
-pub run-goes_on : (rules : Rules) (s : RunState) (item : Item) (t : Turn) (items : List Item) → turn_of_item rules s item ≡ Ok t → run rules s (item ∷ items) ≡ with_earlier t.collections (run rules t.state items)
+pub run-turns : (rules : RunRules) (s : RunState) (item : Item) (t : Turn) (items : List Item) → turn_of_item (collection_rules rules) s item ≡ Ok t →
+    run rules s (item ∷ items) ≡ after_turn rules.react t (λ next. run rules next items)
 unfolding run
-run-goes_on rules s item t items is = ap (λ o. after_turn (s.lines + 1) o (λ next. run rules next items)) is
+run-turns rules s item t items is = ap (λ o. by_turn rules.react (s.lines + 1) o (λ next. run rules next items)) is
+
+-- behind a turn a run goes on, or halts
+turn-goes_on : (react : React) (t : Turn) (go_on : RunState → Ran) → halts react t.collections ≡ false → after_turn react t go_on ≡ with_earlier t.collections (go_on t.state)
+turn-goes_on react t go_on is =
+    ap (λ b. with_earlier t.collections (cond b (empty_run (halted t.state.totals.collections (violations_of t.collections))) (go_on t.state))) is
+
+turn-halts : (react : React) (t : Turn) (go_on : RunState → Ran) → halts react t.collections ≡ true → after_turn react t go_on ≡ with_earlier t.collections (empty_run (halted t.state.totals.collections (violations_of t.collections)))
+turn-halts react t go_on is =
+    ap (λ b. with_earlier t.collections (cond b (empty_run (halted t.state.totals.collections (violations_of t.collections))) (go_on t.state))) is
+
+-- the run goes on from the turn of its first item
+pub run-goes_on : (rules : RunRules) (s : RunState) (item : Item) (t : Turn) (items : List Item) → turn_of_item (collection_rules rules) s item ≡ Ok t → halts rules.react t.collections ≡ false →
+    run rules s (item ∷ items) ≡ with_earlier t.collections (run rules t.state items)
+run-goes_on rules s item t items is on =
+    run-turns rules s item t items is ∙ turn-goes_on rules.react t (λ next. run rules next items) on
+
+-- or halts behind it
+pub run-halts : (rules : RunRules) (s : RunState) (item : Item) (t : Turn) (items : List Item) → turn_of_item (collection_rules rules) s item ≡ Ok t → halts rules.react t.collections ≡ true →
+    run rules s (item ∷ items) ≡ with_earlier t.collections (empty_run (halted t.state.totals.collections (violations_of t.collections)))
+run-halts rules s item t items is stops =
+    run-turns rules s item t items is ∙ turn-halts rules.react t (λ next. run rules next items) stops
 
 -- or ends at its line
-pub run-ends : (rules : Rules) (s : RunState) (item : Item) (r : Refusal) (items : List Item) → turn_of_item rules s item ≡ Err r → run rules s (item ∷ items) ≡ empty_run (refused_line (s.lines + 1) r)
+pub run-ends : (rules : RunRules) (s : RunState) (item : Item) (r : Refusal) (items : List Item) → turn_of_item (collection_rules rules) s item ≡ Err r → run rules s (item ∷ items) ≡ empty_run (refused_line (s.lines + 1) r)
 unfolding run
-run-ends rules s item r items is = ap (λ o. after_turn (s.lines + 1) o (λ next. run rules next items)) is
+run-ends rules s item r items is = ap (λ o. by_turn rules.react (s.lines + 1) o (λ next. run rules next items)) is
 
-pub run-refused : (rules : Rules) (s : RunState) (r : Refusal) (items : List Item) → run rules s (refused r ∷ items) ≡ empty_run (refused_line (s.lines + 1) r)
+pub run-refused : (rules : RunRules) (s : RunState) (r : Refusal) (items : List Item) → run rules s (refused r ∷ items) ≡ empty_run (refused_line (s.lines + 1) r)
 run-refused rules s r items = run-ends rules s (refused r) r items refl
+
+-- nothing halts a run where no collection was made
+pub halts-nothing : (react : React) → halts react [] ≡ false
+halts-nothing Report = refl
+halts-nothing Halt = refl
+halts-nothing Force = refl
 
 -- a line with no operation changes the number of lines alone
 pub turn_of_item-blank : (rules : Rules) (s : RunState) → turn_of_item rules s blank ≡ Ok (record { collections = []; state = record s { lines = s.lines + 1 } })
@@ -153,25 +182,25 @@ turn_of_item-blank rules s =
 -- ---- the items so far
 
 -- These items lead from a state to another and make these collections: whatever follows them goes on from there.
-pub record LeadsTo (rules : Rules) (s : RunState) (items : List Item) (made : List Collection) (s' : RunState) : Type 0 where
+pub record LeadsTo (rules : RunRules) (s : RunState) (items : List Item) (made : List Collection) (s' : RunState) : Type 0 where
   pub on : (more : List Item) → run rules s (items ++ more) ≡ with_earlier made (run rules s' more)
   pub totals : s'.totals ≡ with_collections s.totals made
   pub lines : s'.lines ≡ s.lines + length items
   pub few_collections : length made ≤ length items
 
-pub LeadsTo-nil : (rules : Rules) (s : RunState) → LeadsTo rules s [] [] s
+pub LeadsTo-nil : (rules : RunRules) (s : RunState) → LeadsTo rules s [] [] s
 LeadsTo-nil rules s = record { on = λ more. refl; totals = sym (with_collections-nil s.totals); lines = omega arith; few_collections = omega arith }
 
 -- one item more
-pub LeadsTo-push : (rules : Rules) (s s' : RunState) (items : List Item) (made : List Collection) (item : Item) (t : Turn) →
-    LeadsTo rules s items made s' → turn_of_item rules s' item ≡ Ok t → LeadsTo rules s (items ++ item ∷ []) (made ++ t.collections) t.state
-LeadsTo-push rules s s' items made item t leads is =
-    let turned : IsTurn s' t = IsTurn-of_item rules s' item t is in
+pub LeadsTo-push : (rules : RunRules) (s s' : RunState) (items : List Item) (made : List Collection) (item : Item) (t : Turn) →
+    LeadsTo rules s items made s' → turn_of_item (collection_rules rules) s' item ≡ Ok t → halts rules.react t.collections ≡ false → LeadsTo rules s (items ++ item ∷ []) (made ++ t.collections) t.state
+LeadsTo-push rules s s' items made item t leads is goes_on =
+    let turned : IsTurn s' t = IsTurn-of_item (collection_rules rules) s' item t is in
     record {
       on = λ more.
           ap (run rules s) (append_assoc items (item ∷ []) more)
           ∙ leads.on (item ∷ more)
-          ∙ ap (with_earlier made) (run-goes_on rules s' item t more is)
+          ∙ ap (with_earlier made) (run-goes_on rules s' item t more is goes_on)
           ∙ with_earlier-twice made t.collections (run rules t.state more);
       totals =
           turned.totals
@@ -181,27 +210,27 @@ LeadsTo-push rules s s' items made item t leads is =
       few_collections = omega (arith, turned.at_most_one, leads.few_collections, length-append items (item ∷ []), length-append made t.collections);
     }
 
--- where nothing follows, no line is refused
-pub run-leads_to : (rules : Rules) (s s' : RunState) (items : List Item) (made : List Collection) → LeadsTo rules s items made s' → run rules s items ≡ with_earlier made (empty_run end_of_trace)
+-- where nothing follows, the run comes to its end
+pub run-leads_to : (rules : RunRules) (s s' : RunState) (items : List Item) (made : List Collection) → LeadsTo rules s items made s' → run rules s items ≡ with_earlier made (empty_run end_of_trace)
 run-leads_to rules s s' items made leads =
     ap (run rules s) (sym (append-nil items)) ∙ leads.on [] ∙ ap (with_earlier made) (run-nil rules s')
 
-pub ending_of-leads_to : (rules : Rules) (s' : RunState) (items : List Item) (made : List Collection) → LeadsTo rules first_state items made s' → ending_of rules items ≡ end_of_trace
+pub ending_of-leads_to : (rules : RunRules) (s' : RunState) (items : List Item) (made : List Collection) → LeadsTo rules first_state items made s' → ending_of rules items ≡ end_of_trace
 ending_of-leads_to rules s' items made leads = ap (λ (r : Ran). r.ending) (run-leads_to rules first_state s' items made leads)
 
-pub part_of-leads_to : (rules : Rules) (s' : RunState) (items : List Item) (made : List Collection) → LeadsTo rules first_state items made s' → part_of rules items ≡ collections_text made
+pub part_of-leads_to : (rules : RunRules) (s' : RunState) (items : List Item) (made : List Collection) → LeadsTo rules first_state items made s' → part_of rules items ≡ collections_text made
 part_of-leads_to rules s' items made leads =
     ap (λ (r : Ran). collections_text r.collections) (run-leads_to rules first_state s' items made leads) ∙ ap collections_text (append-nil made)
 
 -- the report on items that go on with others
-pub report_text-leads_to : (rules : Rules) (s s' : RunState) (items more : List Item) (made : List Collection) → LeadsTo rules s items made s' →
+pub report_text-leads_to : (rules : RunRules) (s s' : RunState) (items more : List Item) (made : List Collection) → LeadsTo rules s items made s' →
     report_text s.totals (run rules s (items ++ more)) ≡ collections_text made ++ report_text s'.totals (run rules s' more)
 report_text-leads_to rules s s' items more made leads =
     ap (report_text s.totals) (leads.on more)
     ∙ report_text-with_earlier s.totals made (run rules s' more)
     ∙ ap (λ (t : Totals). collections_text made ++ report_text t (run rules s' more)) (sym leads.totals)
 
-pub run_status-leads_to : (rules : Rules) (s s' : RunState) (items more : List Item) (made : List Collection) → LeadsTo rules s items made s' →
+pub run_status-leads_to : (rules : RunRules) (s s' : RunState) (items more : List Item) (made : List Collection) → LeadsTo rules s items made s' →
     run_status s.totals (run rules s (items ++ more)) ≡ run_status s'.totals (run rules s' more)
 run_status-leads_to rules s s' items more made leads =
     ap (run_status s.totals) (leads.on more)

@@ -1,18 +1,26 @@
 -- Worked examples: the whole report on a short trace, and the status that it ends with.
-use Rattle.std.specs.Prelude.{◌≡◌, ℕ, List, [], ◌∷◌, ◌++◌, map, codes, true, false, None}
+use Rattle.std.specs.Prelude.{◌≡◌, ℕ, List, [], ◌∷◌, ◌++◌, map, codes, None}
 use Rattle.heap_base.specs.declared.status.Status.{Status}
 use Rattle.heap_base.specs.declared.status.Status.TheVariants.{Clean, Violated, TraceFault}
 use Rattle.graph_meaning.specs.declared.event.Event.{Event}
 use Rattle.graph_meaning.specs.declared.event.Event.TheVariants.{Store, StartRegion, AssertDead, AssertAllDead, AssertUnshared, AssertOwnedBy, Collect}
-use Rattle.graph_meaning.specs.Collecting.{Rules}
-use Rattle.graph_meaning.specs.Examples.{plain, alloc, root, store, order, cycle, cart, cached, pools}
+use Rattle.graph_meaning.specs.declared.reaction.React.TheVariants as react
+use Rattle.graph_meaning.specs.Examples.{alloc, root, store, order, cycle, cart, cached, pools}
 use Rattle.trace_reader.specs.Meaning.{event}
-use Rattle.report.specs.Report.{report_of, status_of}
+use Rattle.report.specs.Report.{RunRules, report_of, status_of}
 
 -- These operations have this report by these rules, and end with this status.
-abbrev pub Reports : Rules → List Event → List ℕ → Status → Type 0
+abbrev pub Reports : RunRules → List Event → List ℕ → Status → Type 0
 Reports rules events text status =
     let items = map event events in (report_of rules items ≡ text) × (status_of rules items ≡ status)
+
+-- violations are reported, and a hundred paths are shown
+abbrev pub plain : RunRules
+plain = record { paths = 100; react = react.Report }
+
+-- the same, and the run halts at a violation
+abbrev pub halting : RunRules
+halting = record { paths = 100; react = react.Halt }
 
 abbrev pub Nothing : Type 0
 Nothing = Reports plain [] (codes "end gcs 0 violations 0\n") Clean
@@ -95,7 +103,7 @@ PathsFromAnOwner =
 -- one path is shown, and the next is left out
 abbrev pub OnePathIsShown : Type 0
 OnePathIsShown =
-    Reports (record { paths = 1; force = false }) (alloc 1 (codes "A") 0 ∷ alloc 2 (codes "A") 0 ∷ root (codes "a") 1 ∷ root (codes "b") 2 ∷ AssertDead 1 ∷ AssertDead 2 ∷ Collect ∷ [])
+    Reports (record { paths = 1; react = react.Report }) (alloc 1 (codes "A") 0 ∷ alloc 2 (codes "A") 0 ∷ root (codes "a") 1 ∷ root (codes "b") 2 ∷ AssertDead 1 ∷ AssertDead 2 ∷ Collect ∷ [])
     (codes "gc 1 live 2 traced 2 freed 0\n"
     ++ codes "gc 1 dead 1 A: root a -> 1 A\n"
     ++ codes "gc 1 dead 2 A: path left out\n"
@@ -105,10 +113,36 @@ OnePathIsShown =
 -- by force what is asserted dead is cut off, and the next collection frees it
 abbrev pub DeadIsCutOff : Type 0
 DeadIsCutOff =
-    Reports (record { paths = 100; force = true }) (order ++ Collect ∷ Collect ∷ [])
+    Reports (record { paths = 100; react = react.Force }) (order ++ Collect ∷ Collect ∷ [])
     (codes "gc 1 live 1 traced 1 freed 0\n"
     ++ codes "gc 1 dead 7 Order: root a -> 7 Order\n"
     ++ codes "gc 1 cleared 1\n"
     ++ codes "gc 2 live 1 traced 0 freed 1\n"
     ++ codes "end gcs 2 violations 1\n")
     Violated
+
+-- the first collection has a violation, at which the run halts; the second is not made
+abbrev pub ViolationHalts : Type 0
+ViolationHalts =
+    Reports halting (order ++ Collect ∷ Collect ∷ [])
+    (codes "gc 1 live 1 traced 1 freed 0\n" ++ codes "gc 1 dead 7 Order: root a -> 7 Order\n" ++ codes "halt gc 1 violations 1\n")
+    Violated
+
+-- a run halts at the second collection, which has two violations, after a first that has none; what follows, which
+-- would be refused, is not looked at
+abbrev pub LaterViolationsHalt : Type 0
+LaterViolationsHalt =
+    Reports halting (alloc 1 (codes "A") 0 ∷ alloc 2 (codes "A") 0 ∷ root (codes "a") 1 ∷ root (codes "b") 2 ∷ Collect ∷ AssertDead 1 ∷ AssertDead 2 ∷ Collect ∷ store 9 0 9 ∷ [])
+    (codes "gc 1 live 2 traced 2 freed 0\n"
+    ++ codes "gc 2 live 2 traced 2 freed 0\n"
+    ++ codes "gc 2 dead 1 A: root a -> 1 A\n"
+    ++ codes "gc 2 dead 2 A: root b -> 2 A\n"
+    ++ codes "halt gc 2 violations 2\n")
+    Violated
+
+-- where no collection has a violation, a run that would halt goes on to the end
+abbrev pub NothingHalts : Type 0
+NothingHalts =
+    Reports halting (cart ++ Collect ∷ Collect ∷ [])
+    (codes "gc 1 live 2 traced 1 freed 1\n" ++ codes "gc 2 live 1 traced 1 freed 0\n" ++ codes "end gcs 2 violations 0\n")
+    Clean

@@ -1,5 +1,5 @@
 -- What a trace's items lead to, one after another, and the report on it.
-use Rattle.std.specs.Prelude.{ℕ, ◌+◌, List, [], ◌∷◌, ◌++◌, length, nat_lt, if◌then◌else◌, Result, Ok, Err}
+use Rattle.std.specs.Prelude.{ℕ, ◌+◌, List, [], ◌∷◌, ◌++◌, length, Bool, true, false, ◌&&◌, nat_lt, if◌then◌else◌, Result, Ok, Err}
 use Rattle.std.specs.List.{flat_map}
 use Rattle.heap_base.specs.Counting.{total}
 use Rattle.heap_base.specs.declared.status.Status.{Status}
@@ -7,12 +7,35 @@ use Rattle.heap_base.specs.declared.status.Status.TheVariants.{Clean, Violated, 
 use Rattle.graph_meaning.specs.declared.collection.Collection.{Collection}
 use Rattle.graph_meaning.specs.declared.event.Event.{Event}
 use Rattle.graph_meaning.specs.declared.event.Event.TheVariants.{Collect}
+use Rattle.graph_meaning.specs.declared.reaction.React.{React}
+use Rattle.graph_meaning.specs.declared.reaction.React.TheVariants.{Report, Halt, Force}
 use Rattle.graph_meaning.specs.declared.refusal.Refusal.{Refusal}
 use Rattle.graph_meaning.specs.Heap.{Heap, empty_heap}
 use Rattle.graph_meaning.specs.Step.{step}
 use Rattle.graph_meaning.specs.Collecting.{Rules, collection_of, after_collection}
 use Rattle.trace_reader.specs.Meaning.{Item, blank, event, refused}
-use Rattle.report.specs.Text.{collection_text, fault_text, end_text}
+use Rattle.report.specs.Text.{collection_text, fault_text, halt_text, end_text}
+
+-- ---- what a run goes by
+
+-- How many paths of each collection are shown, and what is done about violations.
+pub record RunRules : Type 0 where
+  pub paths : ℕ
+  pub react : React
+
+abbrev pub is_force : React → Bool
+is_force Report = false
+is_force Halt = false
+is_force Force = true
+
+abbrev pub is_halt : React → Bool
+is_halt Report = false
+is_halt Halt = true
+is_halt Force = false
+
+-- the rules of its collections
+abbrev pub collection_rules : RunRules → Rules
+collection_rules rules = record { paths = rules.paths; force = is_force rules.react }
 
 -- ---- totals
 
@@ -76,10 +99,17 @@ turn_of_item rules s (refused r) = Err r
 
 -- ---- the run
 
--- How a run ends: behind the last item, or at the line of this number, from 1, which is refused for this reason.
+-- How a run ends: behind the last item; at the line of this number, from 1, which is refused for this reason; or behind
+-- the collection of this number, which has so many violations.
 pub data Ending : Type 0 where
   end_of_trace : Ending
   refused_line : ℕ → Refusal → Ending
+  halted : ℕ → ℕ → Ending
+
+abbrev pub is_halted : Ending → Bool
+is_halted end_of_trace = false
+is_halted (refused_line line r) = false
+is_halted (halted collection violations) = true
 
 -- What a run did: the collections that it made, in order, and how it ended.
 pub record Ran : Type 0 where
@@ -94,15 +124,26 @@ empty_run ending = record { collections = []; ending = ending }
 abbrev pub with_earlier : List Collection → Ran → Ran
 with_earlier earlier ran = record { collections = earlier ++ ran.collections; ending = ran.ending }
 
--- the run that goes on from a turn, or ends at this line where the turn is refused
-abbrev pub after_turn : ℕ → Result Turn Refusal → (RunState → Ran) → Ran
-after_turn line (Ok t) go_on = with_earlier t.collections (go_on t.state)
-after_turn line (Err r) go_on = empty_run (refused_line line r)
+-- whether a run halts behind these collections: it does so behind the first that has a violation
+abbrev pub halts : React → List Collection → Bool
+halts react made = is_halt react && nat_lt 0 (violations_of made)
 
--- The run of these items from a state. It ends at the first line that is refused.
-unfoldable pub run : Rules → RunState → List Item → Ran
+-- the run that goes on from a turn, unless it halts
+abbrev pub after_turn : React → Turn → (RunState → Ran) → Ran
+after_turn react t go_on =
+    with_earlier t.collections
+    (if halts react t.collections then empty_run (halted t.state.totals.collections (violations_of t.collections)) else go_on t.state)
+
+-- the run that goes on from a turn, or ends at this line where the turn is refused
+abbrev pub by_turn : React → ℕ → Result Turn Refusal → (RunState → Ran) → Ran
+by_turn react line (Ok t) go_on = after_turn react t go_on
+by_turn react line (Err r) go_on = empty_run (refused_line line r)
+
+-- The run of these items from a state. It ends at the first line that is refused, or where it halts.
+unfoldable pub run : RunRules → RunState → List Item → Ran
 run rules s [] = empty_run end_of_trace
-run rules s (item ∷ items) = after_turn (s.lines + 1) (turn_of_item rules s item) (λ next. run rules next items)
+run rules s (item ∷ items) =
+    by_turn rules.react (s.lines + 1) (turn_of_item (collection_rules rules) s item) (λ next. run rules next items)
 
 -- ---- the report
 
@@ -114,6 +155,7 @@ collections_text collections = flat_map collection_text collections
 abbrev pub last_line : Totals → Ending → List ℕ
 last_line totals end_of_trace = end_text totals.collections totals.violations
 last_line totals (refused_line line r) = fault_text line r
+last_line totals (halted collection violations) = halt_text collection violations
 
 -- The report on a run, where collections of these totals came before it.
 unfoldable pub report_text : Totals → Ran → List ℕ
@@ -122,6 +164,7 @@ report_text before ran = collections_text ran.collections ++ last_line (with_col
 abbrev pub last_status : Totals → Ending → Status
 last_status totals end_of_trace = if nat_lt 0 totals.violations then Violated else Clean
 last_status totals (refused_line line r) = TraceFault
+last_status totals (halted collection violations) = Violated
 
 -- The status that a run ends with, where collections of these totals came before it: a line was refused, or some
 -- assertion was violated, or neither.
@@ -131,17 +174,17 @@ run_status before ran = last_status (with_collections before ran.collections) ra
 -- ---- from the beginning of a trace
 
 -- the whole report on these items
-abbrev pub report_of : Rules → List Item → List ℕ
+abbrev pub report_of : RunRules → List Item → List ℕ
 report_of rules items = report_text no_totals (run rules first_state items)
 
 -- how the run of these items ends
-abbrev pub ending_of : Rules → List Item → Ending
+abbrev pub ending_of : RunRules → List Item → Ending
 ending_of rules items = (run rules first_state items).ending
 
 -- the status that they end with
-abbrev pub status_of : Rules → List Item → Status
+abbrev pub status_of : RunRules → List Item → Status
 status_of rules items = run_status no_totals (run rules first_state items)
 
 -- the text of their collections, without a last line
-abbrev pub part_of : Rules → List Item → List ℕ
+abbrev pub part_of : RunRules → List Item → List ℕ
 part_of rules items = collections_text (run rules first_state items).collections

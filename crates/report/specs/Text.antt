@@ -113,6 +113,10 @@ refusal_text (SelfOwned id) = codes "SelfOwned " ++ decimal id
 unfoldable pub fault_text : ℕ → Refusal → List ℕ
 fault_text line refusal = codes "fault line " ++ decimal line ++ codes ": " ++ refusal_text refusal ++ codes "\n"
 
+-- the last line where the run halted behind this collection, with its number of violations
+unfoldable pub halt_text : ℕ → ℕ → List ℕ
+halt_text collection violations = codes "halt gc " ++ decimal collection ++ codes " violations " ++ decimal violations ++ codes "\n"
+
 -- the last line where the trace was read to its end
 unfoldable pub end_text : ℕ → ℕ → List ℕ
 end_text collections violations = codes "end gcs " ++ decimal collections ++ codes " violations " ++ decimal violations ++ codes "\n"

@@ -1,6 +1,6 @@
 //! Worked examples of the definitions, each a theorem about the whole report on a short trace.
 
-ghost use Rattle.report.specs.Examples.{Nothing, OneCollection, DeadAndNamed, CycleIsFreed, RegionsNest, OwnershipIsLost, ArrayIsLetGo, FreedIsNotLive, LeastPredecessor, PathsFromAnOwner, OnePathIsShown, DeadIsCutOff};
+ghost use Rattle.report.specs.Examples.{Nothing, OneCollection, DeadAndNamed, CycleIsFreed, RegionsNest, OwnershipIsLost, ArrayIsLetGo, FreedIsNotLive, LeastPredecessor, PathsFromAnOwner, OnePathIsShown, DeadIsCutOff, ViolationHalts, LaterViolationsHalt, NothingHalts};
 
 /// No line: no collection, and no violation.
 pub fn a_trace_of_nothing_has_the_end_line()
@@ -61,4 +61,19 @@ pub fn paths_past_the_number_shown_are_left_out()
 /// object.
 pub fn what_force_cleared_has_a_line()
     ensures { DeadIsCutOff }
+{}
+
+/// The first collection finds a violation, and the run halts: the second collection is not made.
+pub fn a_violation_halts_the_run()
+    ensures { ViolationHalts }
+{}
+
+/// The halt line has the violations of its own collection, and no line behind it is looked at.
+pub fn a_later_collection_may_halt_the_run()
+    ensures { LaterViolationsHalt }
+{}
+
+/// No collection finds a violation, and the run comes to its end.
+pub fn a_run_without_violations_does_not_halt()
+    ensures { NothingHalts }
 {}

@@ -1,4 +1,4 @@
-use crate::{collection_text, end_text, fault_text};
+use crate::{collection_text, end_text, fault_text, halt_text};
 use graph_meaning::{
     Collection, FieldName, PathFrom, PathStep, PathView, Refusal, Shown, StepList, Verdict,
     VerdictList,
@@ -186,5 +186,12 @@ fn a_fault_line_names_its_refusal(rt: HostRuntime) -> Result<(), Fail> {
 fn the_end_line_has_both_totals(rt: HostRuntime) -> Result<(), Fail> {
     let text = end_text(rt.alloc(), 4, 2)?;
     assert_eq!(rt; text.as_slice(), b"end gcs 4 violations 2\n".as_slice());
+    Ok(())
+}
+
+#[test]
+fn the_halt_line_has_the_collection_and_its_violations(rt: HostRuntime) -> Result<(), Fail> {
+    let text = halt_text(rt.alloc(), 3, 2)?;
+    assert_eq!(rt; text.as_slice(), b"halt gc 3 violations 2\n".as_slice());
     Ok(())
 }

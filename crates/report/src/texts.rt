@@ -1,5 +1,5 @@
 ghost use Rattle.std.specs.Prelude.{◌≡◌, IfOk};
-ghost use Rattle.report.specs.Text.{collection_text, end_text, fault_text};
+ghost use Rattle.report.specs.Text.{collection_text, end_text, fault_text, halt_text};
 
 use crate::parts::{put, put_number};
 use crate::refusals::put_refusal;
@@ -31,6 +31,20 @@ pub fn fault_text(alloc: Global, line: u64, refusal: &Refusal) -> Result<Vec<u8>
     put_number(&mut text, line)?;
     put(&mut text, b": ")?;
     put_refusal(&mut text, refusal)?;
+    put(&mut text, b"\n")?;
+    Ok(text)
+}
+
+/// The last line of a report where the run halted: the number of its last collection, and how many violations this has.
+#[tactic(auto, unfolding(crate::specs::Text::halt_text))]
+pub fn halt_text(alloc: Global, collection: u64, violations: u64) -> Result<Vec<u8>, OutOfMemory>
+    ensures { IfOk result (λ text. text.items ≡ halt_text collection violations) }
+{
+    let mut text = Vec::new(alloc);
+    put(&mut text, b"halt gc ")?;
+    put_number(&mut text, collection)?;
+    put(&mut text, b" violations ")?;
+    put_number(&mut text, violations)?;
     put(&mut text, b"\n")?;
     Ok(text)
 }

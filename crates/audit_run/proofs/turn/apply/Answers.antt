@@ -9,9 +9,9 @@ apply-requires g c = record { operation = is_operation-other c.args.event.now c.
 
 pub returns-in-Ok-clause-takes : goal.returns-in-Ok-clause-takes
 returns-in-Ok-clause-takes g c =
-    ([], IsTaken-applied _ _ _ _ _ c.requires.operation c.in-Ok.ensures.applied c.in-Ok.ensures.rest)
+    λ rules. ([], IsTaken-applied rules _ _ _ _ _ c.requires.operation c.in-Ok.ensures.applied c.in-Ok.ensures.rest)
 
 pub returns-in-Err-Refused-clause-takes : goal.returns-in-Err-Refused-clause-takes
 returns-in-Err-Refused-clause-takes g c =
     let refused = from_result_err (step c.args.auditor.now.heap c.args.event.now) c.in-Err-Refused.refusal (rw c.in-Err-Refused.field-0-is at c.in-Err-Refused.ensures.refused) in
-    ends-not_applied c.args.auditor.now _ _ _ (stream_of g.K.Sink.held g.K.Sink.faults c.args.sink.now) (stream_of g.K.Sink.held g.K.Sink.faults c.refuse.new.sink) _ c.requires.operation refused c.refuse.ensures.ends
+    λ rules. ends-not_applied rules c.args.auditor.now _ _ _ (stream_of g.K.Sink.held g.K.Sink.faults c.args.sink.now) (stream_of g.K.Sink.held g.K.Sink.faults c.refuse.new.sink) _ c.requires.operation refused c.refuse.ensures.ends

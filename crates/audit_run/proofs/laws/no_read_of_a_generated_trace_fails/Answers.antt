@@ -1,0 +1,5 @@
+use Rattle.audit_run.proofs.Causes.{no_read_fails}
+use Rattle.audit_run.proofs.laws.no_read_of_a_generated_trace_fails.Goals as goal
+
+pub returns : goal.returns
+returns c = no_read_fails
