@@ -4,8 +4,9 @@
 Usage: bench/random_traces.py [COUNT] [FIRST_SEED]     (1,000 traces from seed 1 where nothing is said)
 Each trace is made from its seed alone, so a seed that is printed can be run again. It has some hundred operations of
 all kinds and several collections. `report_of` below follows docs/DEFINITIONS.md and the specs it names, by sets and
-by ids, with no care for speed. The program runs with 1, 2, 3 and 16 workers, and must print the same bytes and end
-with the same status each time. The program must be built. Nothing here is part of the gate.
+by ids, with no care for speed. Of three traces one is audited with each reaction, and of five one with few paths. The program
+runs with 1, 2, 3 and 16 workers, and must print the same bytes and end with the same status each time. At the end small generated
+traces are compared in the same way. The program must be built. Nothing here is part of the gate.
 """
 import json
 import os
@@ -18,6 +19,7 @@ PROGRAM = os.path.join(TOP, "crates", "gcaudit", "out", "gcaudit")
 WORKERS = (1, 2, 3, 16)
 PATHS = 100
 END_STEPS = 32
+REACTIONS = ("report", "halt", "force")
 
 
 class Refused(Exception):
@@ -181,7 +183,7 @@ class Heap:
 
     # ---- a collection
 
-    def collect(self, number):
+    def collect(self, number, paths=PATHS, force=False):
         self.analyse()
         verdicts = []
         for x in sorted(self.dead & self.traced):
@@ -201,11 +203,27 @@ class Heap:
                 gone = "" if o in self.kind else " gone"
                 verdicts.append((f"ownedby {x} {self.kind[x]} owner {o}{gone}", [self.canonical(True, self.under | self.owners, x)]))
         lines = [f"gc {number} live {len(self.kind)} traced {len(self.traced)} freed {len(self.kind) - len(self.traced)}"]
-        for place, (head, paths) in enumerate(verdicts):
-            shown = " | ".join(shown_path(p) for p in paths) if place < PATHS else "path left out"
+        for place, (head, ways) in enumerate(verdicts):
+            shown = " | ".join(shown_path(p) for p in ways) if place < paths else "path left out"
             lines.append(f"gc {number} {head}: {shown}")
         self.sweep()
+        cleared = self.clear(self.dead) if force else 0
+        if cleared:
+            lines.append(f"gc {number} cleared {cleared}")
         return lines, len(verdicts)
+
+    def clear(self, gone):
+        """Empties every slot and takes away every root that holds one of these, and answers how many these are."""
+        cleared = 0
+        for slots in self.slots.values():
+            for slot in slots:
+                if slot[0] in gone:
+                    slot[0] = None
+                    cleared += 1
+        names = [n for n, x in self.roots.items() if x in gone]
+        for name in names:
+            del self.roots[name]
+        return cleared + len(names)
 
     def sweep(self):
         kept = self.traced
@@ -228,14 +246,17 @@ def shown_path(texts):
     return start + "".join(steps[:END_STEPS]) + f" ... {left_out} steps ..." + "".join(steps[-END_STEPS:])
 
 
-def report_of(events):
+def report_of(events, paths=PATHS, react="report"):
     heap, lines, collections, violations = Heap(), [], 0, 0
     for number, event in enumerate(events, 1):
         if event["op"] == "collect":
             collections += 1
-            text, found = heap.collect(collections)
+            text, found = heap.collect(collections, paths, react == "force")
             lines += text
             violations += found
+            if react == "halt" and found:
+                lines.append(f"halt gc {collections} violations {found}")
+                return lines, 1
             continue
         try:
             heap.step(event)
@@ -244,6 +265,30 @@ def report_of(events):
             return lines, 2
     lines.append(f"end gcs {collections} violations {violations}")
     return lines, 1 if violations else 0
+
+
+def generated(number, size):
+    """The operations of the trace that is generated from this number with so many objects."""
+    x, eighth = number, max(1, size // 8)
+    for i in range(1, size + 1):
+        x = (x * 1103515245 + 12345) % 2**31
+        r = x // 65536
+        yield {"op": "alloc", "id": i, "type": f"T{r % 4}", "slots": 3}
+        if i == 1:
+            yield {"op": "root", "name": "main", "to": 1}
+        elif r % 16:
+            yield {"op": "store", "at": i // 2, "slot": i % 2, "to": i}
+        yield {"op": "store", "at": i, "slot": 2, "to": 1 + r % i}
+        if i % eighth == 0:
+            yield (
+                {"op": "assert-dead", "id": i},
+                {"op": "assert-unshared", "id": i},
+                {"op": "assert-ownedby", "owner": i // 2, "ownee": i},
+                {"op": "assert-instances", "type": "T0", "limit": i // 4},
+            )[i // eighth % 4]
+    yield {"op": "collect"}
+    yield {"op": "root", "name": "main", "to": None}
+    yield {"op": "collect"}
 
 
 def random_trace(seed):
@@ -312,27 +357,39 @@ def random_trace(seed):
     return events
 
 
+def differs(words, trace, expected):
+    """Runs the program with these words and each number of workers, and says where it first differs, or None."""
+    lines, status = expected
+    for workers in WORKERS:
+        run = subprocess.run([PROGRAM, "--workers", str(workers), *words], input=trace, capture_output=True, timeout=120)
+        if (run.stdout, run.returncode) != (("\n".join(lines) + "\n").encode(), status):
+            for got, want in zip(run.stdout.decode().splitlines(), lines):
+                if got != want:
+                    return f"{workers} workers: status {run.returncode}, not {status}\n  got  {got}\n  want {want}"
+            return f"{workers} workers: status {run.returncode}, not {status}"
+    return None
+
+
 def main():
     count = int(sys.argv[1]) if len(sys.argv) > 1 else 1000
     first = int(sys.argv[2]) if len(sys.argv) > 2 else 1
     wrong = verdicts = 0
     for seed in range(first, first + count):
         events = random_trace(seed)
-        lines, status = report_of(events)
-        verdicts += sum(1 for l in lines if l.startswith("gc ") and " live " not in l)
-        expected = ("\n".join(lines) + "\n").encode()
+        react, paths = REACTIONS[seed % 3], PATHS if seed % 5 else seed % 7
+        expected = report_of(events, paths, react)
+        verdicts += sum(1 for l in expected[0] if l.startswith("gc ") and " live " not in l)
         trace = "".join(json.dumps(e, separators=(",", ":")) + "\n" for e in events).encode()
-        for workers in WORKERS:
-            run = subprocess.run([PROGRAM, "--workers", str(workers)], input=trace, capture_output=True, timeout=120)
-            if (run.stdout, run.returncode) != (expected, status):
-                wrong += 1
-                print(f"seed {seed}, {workers} workers: status {run.returncode}, not {status}")
-                for got, want in zip(run.stdout.decode().splitlines(), lines):
-                    if got != want:
-                        print(f"  got  {got}\n  want {want}")
-                        break
-                break
-    print(f"{count} traces from seed {first}, each with {', '.join(map(str, WORKERS))} workers: {verdicts} verdicts, {wrong} traces wrong")
+        if difference := differs(["--react", react, "--paths", str(paths)], trace, expected):
+            wrong += 1
+            print(f"seed {seed}, {react}, {paths} paths, {difference}")
+    for number in range(first, first + 40):
+        size, react = 1 + number * 7 % 200, REACTIONS[number % 3]
+        expected = report_of(list(generated(number, size)), PATHS, react)
+        if difference := differs(["--gen", str(number), "--size", str(size), "--react", react], b"", expected):
+            wrong += 1
+            print(f"--gen {number} --size {size}, {react}, {difference}")
+    print(f"{count} traces from seed {first} and 40 generated ones, each with {', '.join(map(str, WORKERS))} workers: {verdicts} verdicts, {wrong} wrong")
     sys.exit(1 if wrong else 0)
 
 

@@ -1,6 +1,8 @@
 #!/usr/bin/env python3
 """Runs the built program over a trace once for each of its allocations, which is refused, and says how each run ended.
 
+Each trace is audited with each reaction, and a small generated one is audited too.
+
 Usage: bench/refuse_memory.py [TRACE ..]     (the traces of examples/ where none is named)
 Each allocation is refused once alone, and once together with all that follow. A run must end by itself, and either
 print the whole report with its status, or a beginning of it with status 5. Needs a C compiler. Nothing here is part
@@ -18,10 +20,10 @@ PROGRAM = os.path.join(HERE, "..", "crates", "gcaudit", "out", "gcaudit")
 NO_MEMORY = 5
 
 
-def run(library, trace, **settings):
+def run(library, trace, words, **settings):
     environment = {"LD_PRELOAD": library, **settings}
     with open(trace, "rb") as source:
-        child = subprocess.run([PROGRAM], stdin=source, capture_output=True, env=environment, timeout=60)
+        child = subprocess.run([PROGRAM, *words], stdin=source, capture_output=True, env=environment, timeout=60)
     return child.returncode, child.stdout
 
 
@@ -32,13 +34,15 @@ def main():
         library = os.path.join(folder, "refuse_memory.so")
         counted = os.path.join(folder, "count")
         subprocess.run(["cc", "-O2", "-fno-builtin", "-shared", "-fPIC", "-o", library, os.path.join(HERE, "refuse_memory.c"), "-ldl"], check=True)
-        for trace in traces:
-            status, report = run(library, trace, COUNT_TO=counted)
+        runs = [(trace, ("--react", react)) for trace in traces for react in ("report", "halt", "force")]
+        runs.append((os.devnull, ("--gen", "1", "--size", "6")))
+        for trace, words in runs:
+            status, report = run(library, trace, words, COUNT_TO=counted)
             count = int(open(counted).read())
             ends = collections.Counter()
             for after in ("", "+"):
                 for number in range(1, count + 1):
-                    code, output = run(library, trace, REFUSE=f"{number}{after}")
+                    code, output = run(library, trace, words, REFUSE=f"{number}{after}")
                     if (code, output) == (status, report):
                         ends["whole report"] += 1
                     elif code == NO_MEMORY and report.startswith(output):
@@ -46,8 +50,8 @@ def main():
                     else:
                         wrong += 1
                         ends["WRONG"] += 1
-                        print(f"{trace}: allocation {number}{after}: status {code}, {output!r}")
-            print(f"{os.path.basename(trace)}: {count} allocations; " + ", ".join(f"{end}: {n}" for end, n in ends.items()), flush=True)
+                        print(f"{trace} {words}: allocation {number}{after}: status {code}, {output!r}")
+            print(f"{os.path.basename(trace)} {' '.join(words)}: {count} allocations; " + ", ".join(f"{end}: {n}" for end, n in ends.items()), flush=True)
     sys.exit(1 if wrong else 0)
 
 
