@@ -3,6 +3,8 @@ ghost use Rattle.heap_base.specs.declared.limits.TheConstants.{MOST_WORKERS};
 ghost use Rattle.graph_meaning.specs.Roles.{AreRolesOf};
 ghost use Rattle.header_rule.specs.Passes.{ArePassesOf};
 
+mod large;
+
 use crate::{Kit, Traced, trace};
 use assert_registry::AssertRegistry;
 use graph_meaning::Roles;
@@ -38,6 +40,11 @@ fn name(alloc: Global, text: &str) -> Result<Name, Fail> {
     Ok(Name::of(alloc, text)?.ok_or("not a name")?)
 }
 
+// Lets a slot of one object hold another.
+fn hold(table: &mut ObjectTable, at: u32, slot: u32, to: u32) -> Result<(), Fail> {
+    Ok(table.store(id(at)?, slot, Some(id(to)?))?)
+}
+
 fn add_objects(
     alloc: Global,
     table: &mut ObjectTable,
@@ -51,7 +58,7 @@ fn add_objects(
 
 fn fill_slots(table: &mut ObjectTable, stores: &[(u32, u32, u32)]) -> Result<(), Fail> {
     for (at, slot, to) in stores {
-        table.store(id(*at)?, *slot, Some(id(*to)?))?;
+        hold(table, *at, *slot, *to)?;
     }
     Ok(())
 }
@@ -207,6 +214,19 @@ fn check_by<R: Threads + Sync + Abort>(
     Ok(())
 }
 
+fn check_table<R: Threads + Sync + Abort>(
+    rt: &R,
+    alloc: Global,
+    table: &ObjectTable,
+    owned: &[(u32, u32)],
+    want: Want<'_>,
+) -> Result<(), Fail> {
+    check_by(rt, alloc, table, owned, want, 1)?;
+    check_by(rt, alloc, table, owned, want, 2)?;
+    check_by(rt, alloc, table, owned, want, 3)?;
+    check_by(rt, alloc, table, owned, want, 16)
+}
+
 fn check<R: Threads + Sync + Abort>(
     rt: &R,
     alloc: Global,
@@ -214,10 +234,7 @@ fn check<R: Threads + Sync + Abort>(
     want: Want<'_>,
 ) -> Result<(), Fail> {
     let table = table_of(alloc, heap)?;
-    check_by(rt, alloc, &table, heap.owned, want, 1)?;
-    check_by(rt, alloc, &table, heap.owned, want, 2)?;
-    check_by(rt, alloc, &table, heap.owned, want, 3)?;
-    check_by(rt, alloc, &table, heap.owned, want, 16)
+    check_table(rt, alloc, &table, heap.owned, want)
 }
 
 const UNTRACED: Seen = (0, false, false, false);
@@ -834,7 +851,7 @@ impl Gate for UntilBothBegin {
 fn add_children(table: &mut ObjectTable, kind: &Name) -> Result<(), Fail> {
     for child in 0..1_000 {
         table.alloc_object(id(child + 3)?, kind, 0)?;
-        table.store(id(1)?, child, Some(id(child + 3)?))?;
+        hold(table, 1, child, child + 3)?;
     }
     Ok(())
 }
