@@ -140,7 +140,7 @@ fn run_on<R: Threads + Sync, S: Sync, J: Job<S> + Send + Drop, G: Gate>(
     begin_all(places, shared, first, 0);
     lend_all(places);
     let threads = threads_for(first, places.len(), room);
-    run_all(rt, shared, places, threads, gate);
+    run_all(rt, shared, places, threads, room, gate);
     take_back_all(places);
     finish_all(places, shared, gate);
     unseat_jobs(jobs, places);

@@ -45,11 +45,16 @@ fn run_place<S: Sync, J: Job<S>, G: Gate>(
     place.work_until_idle(shared, patience, gate);
 }
 
-// How many idle turns in a row a worker makes before it stops. On one thread nobody offers a task while another waits for it.
-fn patience_for(threads: usize) -> u32
+// How many idle turns in a row a worker makes before it stops, where a run has at most `room` tasks at a worker: no more than there may
+// be tasks. On one thread nobody offers a task while another waits for it.
+fn patience_for(threads: usize, room: u64) -> u32
     ensures { result ≤ PATIENCE }
 {
-    if threads == 1 { 1 } else { PATIENCE }
+    if threads == 1 {
+        1
+    } else {
+        room.min(PATIENCE as u64) as u32
+    }
 }
 
 /// Each worker does tasks until it was idle long enough, in so many threads.
@@ -58,13 +63,14 @@ pub fn run_all<R: Threads + Sync, S: Sync, J: Job<S> + Send, G: Gate>(
     shared: &S,
     places: &mut [CachePadded<Place<J>>],
     threads: usize,
+    room: u64,
     gate: &G,
 )
     requires threads { 0 < threads }
     requires able { All (λ p. MayStart J.meaning shared.now (padded_value p)) places.old }
     ensures { (i : ℕ) (d : _) → i < length places.old → EndsWork J.meaning shared.now (padded_value (slice_index_or places.old i d)) (padded_value (slice_index_or places.new i d)) }
 {
-    let patience = patience_for(threads);
+    let patience = patience_for(threads, room);
     thread::for_each_mut(
         rt,
         places,
