@@ -1,3 +1,4 @@
+pub mod Agreements
 pub mod Cleared
 pub mod Collected
 pub mod Limits

@@ -1,5 +1,9 @@
+mod agreements;
+mod by_hand;
+mod large;
+
 use crate::Auditor;
-use graph_meaning::{Collection, Event, Refusal, Stop, Verdict};
+use graph_meaning::{Collection, Event, PathFrom, PathView, Refusal, Shown, Stop, Verdict};
 use heap_base::{Name, ObjId, OpenGate, ThreadNo};
 use std::alloc::Global;
 use std::test::Fail;
@@ -174,6 +178,11 @@ fn is_verdict(verdict: &Verdict, found: Found<'_>) -> bool {
     }
 }
 
+// Whether so many objects were live, traced and freed.
+fn has_numbers(collection: &Collection, numbers: [u32; 3]) -> bool {
+    [collection.live, collection.traced, collection.freed] == numbers
+}
+
 // Whether the collection has these numbers (live, traced, freed) and exactly these verdicts.
 fn has_found(collection: &Collection, numbers: [u32; 3], found: &[Found<'_>]) -> bool {
     let verdicts = &collection.verdicts;
@@ -184,7 +193,65 @@ fn has_found(collection: &Collection, numbers: [u32; 3], found: &[Found<'_>]) ->
         }
         place += 1;
     }
-    place == verdicts.len() && [collection.live, collection.traced, collection.freed] == numbers
+    place == verdicts.len() && has_numbers(collection, numbers)
+}
+
+fn verdict_at(collection: &Collection, place: u32) -> Option<&Verdict> {
+    if place < collection.verdicts.len() {
+        Some(collection.verdicts.at(place))
+    } else {
+        None
+    }
+}
+
+/// An object, by its id and type.
+type Typed<'a> = (u32, &'a str);
+
+/// The path from a root to the object that it names, and by a slot of this object to another.
+#[derive(Clone, Copy)]
+struct OneStep<'a> {
+    root: &'a str,
+    from: Typed<'a>,
+    slot: u32,
+    to: Typed<'a>,
+}
+
+fn starts_at(path: &PathView, root: &str, object: Typed<'_>) -> bool {
+    match &path.from {
+        PathFrom::Root { name, id, kind } => {
+            name.as_str() == root && *id == object.0 && kind.as_str() == object.1
+        }
+        PathFrom::Owner { .. } => false,
+    }
+}
+
+// Whether the step that is shown at this place goes by the slot to the object.
+fn is_step(path: &PathView, place: u32, slot: u32, object: Typed<'_>) -> bool {
+    if place >= path.steps.len() {
+        return false;
+    }
+    let step = path.steps.at(place);
+    step.slot == slot && step.id == object.0 && step.kind.as_str() == object.1
+}
+
+fn is_one_step(shown: &Shown, want: OneStep<'_>) -> bool {
+    let Shown::Path(path) = shown else {
+        return false;
+    };
+    starts_at(path, want.root, want.from)
+        && is_step(path, 0, want.slot, want.to)
+        && path.steps.len() == 1
+        && path.left_out == 0
+}
+
+// Whether the verdict shows these paths to an object that is not unshared.
+fn has_paths(verdict: Option<&Verdict>, by: OneStep<'_>, and_by: OneStep<'_>) -> bool {
+    match verdict {
+        Some(Verdict::Unshared { first, second, .. }) => {
+            is_one_step(first, by) && is_one_step(second, and_by)
+        }
+        _ => false,
+    }
 }
 
 // Refusals by the state of the heap, each of the last operation.
@@ -433,6 +500,66 @@ fn verdicts_come_in_order_of_their_assertions(rt: HostRuntime) -> Result<(), Fai
         ],
         numbers: [3, 3, 0],
         found: &[Found::Instances("Map", 0, 1), Found::Unshared(3, 2)],
+    }];
+    assert!(rt; holds(&rt, rt.alloc(), &turns)?);
+    Ok(())
+}
+
+// The entry is not what its owner holds, and two roots name it.
+#[test]
+fn one_object_violates_every_assertion(rt: HostRuntime) -> Result<(), Fail> {
+    let turns = [
+        Turn {
+            lines: &[
+                Line::Alloc(1, "Map", 1, 0),
+                Line::Alloc(2, "Entry", 0, 0),
+                Line::Root("m", 1),
+                Line::Root("a", 2),
+                Line::Unshared(2),
+            ],
+            numbers: [2, 2, 0],
+            found: &[],
+        },
+        Turn {
+            lines: &[Line::Root("b", 2)],
+            numbers: [2, 2, 0],
+            found: &[Found::Unshared(2, 2)],
+        },
+        Turn {
+            lines: &[Line::Dead(2), Line::Limit("Entry", 0), Line::Own(1, 2)],
+            numbers: [2, 2, 0],
+            found: &[
+                Found::Dead(2),
+                Found::Instances("Entry", 0, 1),
+                Found::Unshared(2, 2),
+                Found::OwnedBy(2, 1, false),
+            ],
+        },
+    ];
+    assert!(rt; holds(&rt, rt.alloc(), &turns)?);
+    Ok(())
+}
+
+// No object has the type `B`.
+#[test]
+fn types_with_like_names_are_told_apart(rt: HostRuntime) -> Result<(), Fail> {
+    let turns = [Turn {
+        lines: &[
+            Line::Limit("B", 0),
+            Line::Limit("Ab", 1),
+            Line::Limit("Aa", 1),
+            Line::Limit("A", 0),
+            Line::Alloc(1, "Aa", 0, 0),
+            Line::Alloc(2, "Ab", 0, 0),
+            Line::Alloc(3, "A", 0, 0),
+            Line::Alloc(4, "Aa", 0, 0),
+            Line::Root("a", 1),
+            Line::Root("b", 2),
+            Line::Root("c", 3),
+            Line::Root("d", 4),
+        ],
+        numbers: [4, 4, 0],
+        found: &[Found::Instances("A", 0, 1), Found::Instances("Aa", 1, 2)],
     }];
     assert!(rt; holds(&rt, rt.alloc(), &turns)?);
     Ok(())
