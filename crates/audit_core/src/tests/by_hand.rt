@@ -16,6 +16,19 @@ use std::alloc::Global;
 use std::test::Fail;
 use std::thread::Threads;
 
+// The words of two cells, of which the first was met once and the second three times.
+fn words_by_hand(alloc: Global) -> Result<Words, Fail>
+    ensures { IfOk result (λ w. w.cells ≡ 2) }
+{
+    let (headers, mut passes) = Headers::make(alloc, 2, 1)?;
+    meet(&headers, &mut passes, 0);
+    for _ in 0..3 {
+        meet(&headers, &mut passes, 1);
+    }
+    Ok(headers.close(passes))
+}
+
+// Meets a cell by the first pass, without marks.
 fn meet(headers: &Headers, passes: &mut Vec<Pass>, cell: u32)
     requires cell { cell < headers.now.cells }
     requires passes { ArePassesOf headers.now passes.old.items }
@@ -34,23 +47,9 @@ fn meet(headers: &Headers, passes: &mut Vec<Pass>, cell: u32)
     }
 }
 
-// The words of two cells after the meets.
-fn words_by_hand(alloc: Global) -> Result<Words, Fail>
-    ensures { IfOk result (λ w. w.cells ≡ 2) }
-{
-    let (headers, mut passes) = Headers::make(alloc, 2, 1)?;
-    meet(&headers, &mut passes, 0);
-    for _ in 0..3 {
-        meet(&headers, &mut passes, 1);
-    }
-    Ok(headers.close(passes))
-}
-
 fn traced_by_hand(alloc: Global, table: &ObjectTable) -> Result<Traced, Fail>
-    requires cells { length table.now.cells ≡ 2 }
-    requires kinds { length table.now.table.kinds ≡ 2 }
-    ensures cells { IfOk result (λ t. t.words.cells ≡ 2) }
-    ensures kinds { IfOk result (λ t. length t.instances ≡ 2) }
+    requires two { (length table.now.cells ≡ 2) × (length table.now.table.kinds ≡ 2) }
+    ensures two { IfOk result (λ t. (t.words.cells ≡ 2) × (length t.instances ≡ 2)) }
 {
     let words = words_by_hand(alloc)?;
     let mut tally = Tally::make(alloc, 2)?;
