@@ -17,18 +17,17 @@ use heap_base::Gate;
 use std::thread;
 use std::thread::Threads;
 
-/// How many tasks a run may have for each thread that is started though no worker begins with a task on it: to start one costs
-/// about as much as to do so many.
+/// How many tasks a run may have for each thread that is started: to start one costs about as much as to do so many.
 const TASKS_A_THREAD: u64 = 500;
 
-/// How many threads pay for a run that has at most `room` tasks at a worker: one for each worker that begins with a task, and one for
-/// each `TASKS_A_THREAD` tasks, at most one for each worker. Workers that share a thread take their turns one after another.
+/// How many threads pay for a run that has at most `room` tasks at a worker: two where two workers begin with a task, and one for each
+/// `TASKS_A_THREAD` tasks, at most one for each worker. Workers that share a thread take their turns one after another.
 pub fn threads_for(first: &FirstTasks, workers: usize, room: u64) -> usize
     requires { 0 < workers }
     ensures { 0 < result }
 {
     let long_run = (room / TASKS_A_THREAD) as usize;
-    first.busy().max(long_run).clamp(1, workers)
+    first.busy().min(2).max(long_run).clamp(1, workers)
 }
 
 fn run_place<S: Sync, J: Job<S>, G: Gate>(
@@ -45,15 +44,15 @@ fn run_place<S: Sync, J: Job<S>, G: Gate>(
     place.work_until_idle(shared, patience, gate);
 }
 
-// How many idle turns in a row a worker makes before it stops, where a run has at most `room` tasks at a worker: no more than there may
-// be tasks. On one thread nobody offers a task while another waits for it.
+// How many idle turns in a row a worker makes before it stops, where a run has at most `room` tasks at a worker: an eighth of these, for
+// a wait costs about as much as some tasks. On one thread nobody offers a task while another waits for it.
 fn patience_for(threads: usize, room: u64) -> u32
     ensures { result ≤ PATIENCE }
 {
     if threads == 1 {
         1
     } else {
-        room.min(PATIENCE as u64) as u32
+        (room / 8).clamp(1, PATIENCE as u64) as u32
     }
 }
 
