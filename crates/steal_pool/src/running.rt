@@ -44,15 +44,16 @@ fn run_place<S: Sync, J: Job<S>, G: Gate>(
     place.work_until_idle(shared, patience, gate);
 }
 
-// How many idle turns in a row a worker makes before it stops, where a run has at most `room` tasks at a worker: an eighth of these, for
-// a wait costs about as much as some tasks. On one thread nobody offers a task while another waits for it.
+// How many idle turns in a row a worker makes before it stops, where a run has at most `room` tasks at a worker: one for each 256 of these.
+// A turn that gives its processor away costs as much as some ten tasks, so a wait stays short beside the run. On one thread nobody offers
+// a task while another waits for it.
 fn patience_for(threads: usize, room: u64) -> u32
     ensures { result ≤ PATIENCE }
 {
     if threads == 1 {
         1
     } else {
-        (room / 8).clamp(1, PATIENCE as u64) as u32
+        (room / 256).clamp(1, PATIENCE as u64) as u32
     }
 }
 
