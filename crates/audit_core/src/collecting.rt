@@ -47,8 +47,8 @@ impl Auditor {
     }
 
     /// Checks the assertions by these roles and this trace of the heap as it stands, and frees what was not reached.
-    /// The verdict on an object that is asserted unshared shows the count of the trace. All memory is taken before the
-    /// sweep: where it is wanting, nothing has changed.
+    /// The verdict on an object that is asserted unshared shows the count of the trace. By force what is asserted dead
+    /// and was reached is cut off besides. All memory is taken before the sweep: where it is wanting, nothing has changed.
     pub fn finish_collect(
         &mut self,
         roles: &Roles,
@@ -92,8 +92,9 @@ impl Auditor {
         Ok(Some(flags))
     }
 
-    /// Traces the heap by the auditor's workers, checks the assertions, and frees what was not reached. All memory is
-    /// taken before the sweep: where it is wanting, nothing has changed.
+    /// Traces the heap by the auditor's workers, checks the assertions, and frees what was not reached; by force it cuts
+    /// off what is asserted dead and was reached. All memory is taken before the sweep: where it is wanting, nothing has
+    /// changed.
     pub fn collect<R: Threads + Sync, G: Gate>(
         &mut self,
         rt: &R,
