@@ -180,3 +180,54 @@ fn long_lines(rt: HostRuntime) -> Result<(), Fail> {
     }
     Ok(())
 }
+
+#[test]
+fn names_that_strangers_choose(rt: HostRuntime) -> Result<(), Fail> {
+    for (trace, report, status) in [
+        // an escape that stands for a control character
+        (
+            b"{\"op\":\"root\",\"name\":\"a\\u0007\",\"to\":null}".as_slice(),
+            "fault line 1: BadField name\n",
+            Status::TraceFault,
+        ),
+        // a byte that no text has
+        (
+            b"{\"op\":\"root\",\"name\":\"\xFF\",\"to\":null}".as_slice(),
+            "fault line 1: NotJson\n",
+            Status::TraceFault,
+        ),
+        // what stands between the steps of a path
+        (
+            b"{\"op\":\"root\",\"name\":\" -> \",\"to\":null}".as_slice(),
+            "end gcs 0 violations 0\n",
+            Status::Clean,
+        ),
+    ] {
+        expect(&rt, rt.alloc(), trace, report, status)?;
+    }
+    Ok(())
+}
+
+// A collection with a member that the trace has no use for: so many arrays in one another.
+fn nested(alloc: Global, depth: u32) -> Result<Vec<u8>, Fail> {
+    let mut line = Vec::from_slice(alloc, b"{\"op\":\"collect\",\"x\":")?;
+    for _ in 0..depth {
+        line.push(b'[')?;
+    }
+    for _ in 0..depth {
+        line.push(b']')?;
+    }
+    line.push(b'}')?;
+    Ok(line)
+}
+
+#[test]
+fn arrays_in_one_another(rt: HostRuntime) -> Result<(), Fail> {
+    let shallow = nested(rt.alloc(), 100)?;
+    let collected = "gc 1 live 0 traced 0 freed 0\nend gcs 1 violations 0\n";
+    expect(&rt, rt.alloc(), &shallow, collected, Status::Clean)?;
+    let deep = nested(rt.alloc(), 200)?;
+    let refused = "fault line 1: NotJson\n";
+    expect(&rt, rt.alloc(), &deep, refused, Status::TraceFault)?;
+    Ok(())
+}
