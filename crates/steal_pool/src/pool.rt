@@ -27,13 +27,25 @@ use std::thread::Threads;
 /// How many tasks a worker offers the others in one run, at most.
 const MOST_OFFERS: u64 = 65_536;
 
+// How many tasks a worker with room for so many offers in one run: one for each 32 of them, since every slot of its deque is written when
+// it is made, and one stolen task mostly leads on to many; and none where one thread does the whole run.
+fn offers_for(workers: u32, room: u64) -> u64
+    requires { 0 < workers }
+{
+    if threads_for(workers as usize, room) == 1 {
+        0
+    } else {
+        (room / 32).min(MOST_OFFERS)
+    }
+}
+
 // A place with room for so many tasks, and a thief's end of its deque for each of the other workers.
 fn make_place<J: Drop>(alloc: Global, workers: u32, room: u64) -> Result<Place<J>, OutOfMemory>
     requires some { 0 < workers }
     requires few { workers ≤ MOST_WORKERS }
     ensures { IfOk result (λ p. IsAtRest workers room p) }
 {
-    let slots = room.min(MOST_OFFERS);
+    let slots = offers_for(workers, room);
     let owner = deque::make(alloc, slots as usize)?;
     let mut spare = Vec::with_capacity(alloc, workers as usize)?;
     for _ in 1..workers {
@@ -139,8 +151,8 @@ fn run_on<R: Threads + Sync, S: Sync, J: Job<S> + Send + Drop, G: Gate>(
     seat_jobs(jobs, places);
     begin_all(places, shared, first, 0);
     lend_all(places);
-    let threads = threads_for(first, places.len(), room);
-    run_all(rt, shared, places, threads, room, gate);
+    let threads = threads_for(places.len(), room);
+    run_all(rt, shared, places, threads, first.busy(), gate);
     take_back_all(places);
     finish_all(places, shared, gate);
     unseat_jobs(jobs, places);

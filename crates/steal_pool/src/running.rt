@@ -8,32 +8,40 @@ ghost use Rattle.steal_pool.specs.Lists.{Each};
 ghost use Rattle.steal_pool.specs.Places.{MayStart, MayFinish, FinishesWork};
 ghost use Rattle.steal_pool.specs.Workers.{EndsWork};
 
-use crate::first_tasks::FirstTasks;
 use crate::job::Job;
 use crate::place::Place;
 use crate::working::PATIENCE;
 use crossbeam_utils::CachePadded;
 use heap_base::Gate;
+use std::sync::atomic::AtomicUsize;
 use std::thread;
 use std::thread::Threads;
 
-/// How many tasks a run may have for each thread that is started: to start one costs about as much as to do so many.
-const TASKS_A_THREAD: u64 = 500;
+/// Two threads pay for a run that may have so many tasks at a worker.
+const TASKS_OF_TWO_THREADS: u64 = 1_000;
 
-/// How many threads pay for a run that has at most `room` tasks at a worker: two where two workers begin with a task, and one for each
-/// `TASKS_A_THREAD` tasks, at most one for each worker. Workers that share a thread take their turns one after another.
-pub fn threads_for(first: &FirstTasks, workers: usize, room: u64) -> usize
+/// Each further thread pays for so many more: to start one and to wait for it costs little beside them, also where other programs keep the
+/// processors busy.
+const TASKS_A_THREAD: u64 = 16_384;
+
+/// How many threads pay for a run that has at most `room` tasks at a worker, at most one for each worker. Workers that share a thread take
+/// their turns one after another.
+pub fn threads_for(workers: usize, room: u64) -> usize
     requires { 0 < workers }
     ensures { 0 < result }
 {
-    let long_run = (room / TASKS_A_THREAD) as usize;
-    first.busy().min(2).max(long_run).clamp(1, workers)
+    if room < TASKS_OF_TWO_THREADS {
+        1
+    } else {
+        (2 + (room / TASKS_A_THREAD) as usize).clamp(1, workers)
+    }
 }
 
 fn run_place<S: Sync, J: Job<S>, G: Gate>(
     place: &mut CachePadded<Place<J>>,
     shared: &S,
     patience: u32,
+    busy: &AtomicUsize,
     gate: &G,
 )
     requires may { MayStart J.meaning shared.now (padded_value place.old) }
@@ -41,44 +49,51 @@ fn run_place<S: Sync, J: Job<S>, G: Gate>(
     ensures { EndsWork J.meaning shared.now (padded_value place.old) (padded_value place.new) }
 {
     let place: &mut Place<J> = place;
-    place.work_until_idle(shared, patience, gate);
+    place.work_until_idle(shared, patience, busy, gate);
 }
 
-// How many idle turns in a row a worker makes before it stops, where a run has at most `room` tasks at a worker: one for each 256 of these.
-// A turn that gives its processor away costs as much as some ten tasks, so a wait stays short beside the run. On one thread nobody offers
-// a task while another waits for it.
-fn patience_for(threads: usize, room: u64) -> u32
+// How many idle turns in a row the worker with this number makes at most, where so many workers share so many threads, as many on each and
+// one after another. A worker waits only where no other follows it on its thread; and on one thread nobody offers a task while another
+// waits for it.
+fn patience_of(worker: usize, workers: usize, threads: usize) -> u32
+    requires { 0 < threads }
     ensures { result ≤ PATIENCE }
 {
-    if threads == 1 {
-        1
+    let on_a_thread = workers.div_ceil(threads).max(1);
+    let next = worker.saturating_add(1);
+    if threads > 1 && (next % on_a_thread == 0 || next == workers) {
+        PATIENCE
     } else {
-        (room / 256).clamp(1, PATIENCE as u64) as u32
+        1
     }
 }
 
-/// Each worker does tasks until it was idle long enough, in so many threads.
+/// Each worker does tasks until it was idle long enough, in so many threads. So many workers have a task at first.
 pub fn run_all<R: Threads + Sync, S: Sync, J: Job<S> + Send, G: Gate>(
     rt: &R,
     shared: &S,
     places: &mut [CachePadded<Place<J>>],
     threads: usize,
-    room: u64,
+    busy: usize,
     gate: &G,
 )
     requires threads { 0 < threads }
     requires able { All (λ p. MayStart J.meaning shared.now (padded_value p)) places.old }
     ensures { (i : ℕ) (d : _) → i < length places.old → EndsWork J.meaning shared.now (padded_value (slice_index_or places.old i d)) (padded_value (slice_index_or places.new i d)) }
 {
-    let patience = patience_for(threads, room);
+    let workers = places.len();
+    let busy = AtomicUsize::new(busy);
     thread::for_each_mut(
         rt,
         places,
         threads,
-        &|_, place: &mut CachePadded<Place<J>>|
-            requires { MayStart J.meaning shared.now (padded_value place.old) × (patience ≤ PATIENCE) }
+        &|worker, place: &mut CachePadded<Place<J>>|
+            requires { MayStart J.meaning shared.now (padded_value place.old) × (0 < threads) }
             ensures { EndsWork J.meaning shared.entry.now (padded_value place.old) (padded_value place.new) }
-        { run_place(place, shared, patience, gate) },
+        {
+            let patience = patience_of(worker, workers, threads);
+            run_place(place, shared, patience, &busy, gate)
+        },
     );
 }
 

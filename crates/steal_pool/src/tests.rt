@@ -420,21 +420,49 @@ impl Gate for Counting {
     }
 }
 
+impl Counting {
+    fn make() -> Counting {
+        Counting {
+            tasks: AtomicU64::new(0),
+            idle: AtomicU64::new(0),
+        }
+    }
+
+    // The numbers of tasks and of idle turns.
+    fn seen(&self) -> (u64, u64) {
+        let tasks = self.tasks.load(Ordering::SeqCst);
+        (tasks, self.idle.load(Ordering::SeqCst))
+    }
+}
+
 #[test]
-fn a_short_run_with_one_first_task_has_one_thread(rt: HostRuntime) -> Result<(), Fail> {
+fn a_short_run_has_one_thread(rt: HostRuntime) -> Result<(), Fail> {
     let cells = Cells {
         count: 100,
         shape: Shape::Tree,
     };
-    let gate = Counting {
-        tasks: AtomicU64::new(0),
-        idle: AtomicU64::new(0),
+    for first in [3, 0, 15] {
+        let gate = Counting::make();
+        let mut crew = Crew::make(rt.alloc(), 16, 105)?;
+        let jobs = run_cells(&rt, rt.alloc(), &mut crew, &cells, &[(first, 0)], &gate)?;
+        assert!(rt; are_seen(jobs.as_slice(), 100, 1));
+        // Nobody else is waited for: each worker stops at its first turn without a task.
+        assert_eq!(rt; gate.seen(), (100, 16));
+    }
+    Ok(())
+}
+
+#[test]
+fn nobody_waits_where_nobody_has_a_task(rt: HostRuntime) -> Result<(), Fail> {
+    let cells = Cells {
+        count: 1_000,
+        shape: Shape::Tree,
     };
-    let mut crew = Crew::make(rt.alloc(), 16, 105)?;
-    let jobs = run_cells(&rt, rt.alloc(), &mut crew, &cells, &[(3, 0)], &gate)?;
-    assert!(rt; are_seen(jobs.as_slice(), 100, 1));
-    // Nobody else is waited for: each worker stops at its first turn without a task.
-    assert!(rt; gate.tasks.load(Ordering::SeqCst) == 100);
-    assert!(rt; gate.idle.load(Ordering::SeqCst) == 16);
+    let gate = Counting::make();
+    let mut crew = Crew::make(rt.alloc(), 2, 1_005)?;
+    let jobs = run_cells(&rt, rt.alloc(), &mut crew, &cells, &[], &gate)?;
+    assert!(rt; are_seen(jobs.as_slice(), 1_000, 0));
+    // Each of two workers, on two threads, stops at its eighth turn.
+    assert_eq!(rt; gate.seen(), (0, 16));
     Ok(())
 }

@@ -9,10 +9,48 @@ use crate::job::Job;
 use crate::offering::offer;
 use crate::place::Place;
 use heap_base::Gate;
+use std::sync::atomic::{AtomicBool, AtomicUsize, Ordering};
 use std::thread;
 
 /// How many idle turns in a row a worker makes at most before it stops.
 pub const PATIENCE: u32 = 4096;
+
+/// After so many idle turns in a row a worker stops where nobody has a task. It is more than one, since a worker that has just stolen a
+/// task isn't counted yet.
+const QUIET_TURNS: u32 = 8;
+
+// Tells a gate what one worker does, and counts the worker among the busy ones while it has tasks. A worker that sees that nobody is busy
+// need not wait. Nothing else rests on the count: the caller does what a worker leaves.
+#[derive(Drop)]
+struct Busy<'a, G> {
+    count: &'a AtomicUsize,
+    is_counted: AtomicBool,
+    gate: &'a G,
+}
+
+impl<G> Busy<'_, G> {
+    fn is_nobody(&self) -> bool {
+        self.count.load(Ordering::Relaxed) == 0
+    }
+}
+
+impl<G: Gate> Gate for Busy<'_, G> {
+    fn task(&self, worker: u32, nth: u64) {
+        if !self.is_counted.load(Ordering::Relaxed) {
+            self.is_counted.store(true, Ordering::Relaxed);
+            self.count.fetch_add(1, Ordering::Relaxed);
+        }
+        self.gate.task(worker, nth);
+    }
+
+    fn idle(&self, worker: u32, turn: u32) {
+        if self.is_counted.load(Ordering::Relaxed) {
+            self.is_counted.store(false, Ordering::Relaxed);
+            self.count.fetch_sub(1, Ordering::Relaxed);
+        }
+        self.gate.idle(worker, turn);
+    }
+}
 
 impl<J> Place<J> {
     /// One turn: a task is found and done, and some of those that wait are offered to the others. It answers whether
@@ -43,8 +81,15 @@ impl<J> Place<J> {
         true
     }
 
-    /// Does tasks until it was idle for so many turns in a row.
-    pub fn work_until_idle<S: Sync, G: Gate>(&mut self, shared: &S, patience: u32, gate: &G)
+    /// Does tasks until it was idle for so many turns in a row, or for a few while no worker was busy. The count of these has this worker
+    /// where tasks wait for it.
+    pub fn work_until_idle<S: Sync, G: Gate>(
+        &mut self,
+        shared: &S,
+        patience: u32,
+        busy: &AtomicUsize,
+        gate: &G,
+    )
     where
         J: Job<S>,
         requires can { CanStart J.meaning shared.now self.old }
@@ -52,13 +97,21 @@ impl<J> Place<J> {
         requires patience { patience ≤ PATIENCE }
         ensures { EndsWork J.meaning shared.now self.old self.new }
     {
+        let busy = Busy {
+            count: busy,
+            is_counted: AtomicBool::new(self.queue.len() > 0),
+            gate,
+        };
         let mut idle = 0;
         while idle < patience {
-            if self.turn(shared, gate) {
+            if self.turn(shared, &busy) {
                 idle = 0;
             } else {
                 idle += 1;
-                gate.idle(self.count.number, idle);
+                busy.idle(self.count.number, idle);
+                if idle >= QUIET_TURNS && busy.is_nobody() {
+                    return;
+                }
                 thread::yield_now();
             }
         }

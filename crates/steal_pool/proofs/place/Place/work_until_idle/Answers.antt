@@ -12,3 +12,6 @@ pub loop-idle-preserved : goal.loop-idle-preserved
 loop-idle-preserved g c =
     let more = c.loop-idle-test.true in
     record { went = ends_on g.J.Job.meaning c.args.shared.now c.args.self.now c.loop-idle.self c.turn.new.self c.loop-idle.invariant.went c.turn.ensures.went; few = c.turn.ensures.few; idle = let few = c.requires.patience in omega arith }
+
+pub returns-then-is_nobody : goal.returns-then-is_nobody
+returns-then-is_nobody g c = ends_on g.J.Job.meaning c.args.shared.now c.args.self.now c.loop-idle.self c.turn.new.self c.loop-idle.invariant.went c.turn.ensures.went
