@@ -10,6 +10,7 @@ from .names import UniqueNames, legal_name
 from .writer import MOST_OBJECTS, TraceError, TraceWriter, WholeFile
 
 SHOWN_CLASSES = 8
+_LINES_AT_A_TIME = 4096
 
 
 def parser_for(program: str, about: str) -> argparse.ArgumentParser:
@@ -57,11 +58,16 @@ class Progress:
         self._shows = sys.stderr.isatty()
         self._next = time.monotonic() + 1
 
-    def at(self, step: str, done: int, whole: int) -> None:
+    def at(self, step: str, done: int = 0, whole: int = 0) -> None:
+        """What is being done now, and how far it is in bytes where that is known."""
         now = time.monotonic()
         if self._shows and now >= self._next:
             self._next = now + 1
-            self.say("%s: %d of %d MB" % (step, done >> 20, whole >> 20))
+            self.say("%s: %d of %d MB" % (step, done >> 20, whole >> 20) if whole else step)
+
+    def following(self) -> None:
+        """The references through what is left out are being followed."""
+        self.at("following references through what is left out")
 
     def say(self, text: str) -> None:
         print("%s: %s" % (self._program, text), file=sys.stderr, flush=True)
@@ -108,15 +114,16 @@ class DumpTrace:
 
     def __init__(self, path: str, wishes: Wishes) -> None:
         self._whole = WholeFile(path)
-        self.trace = TraceWriter(self._whole.write)
+        self._lines: List[str] = []         # what is not yet in the file
+        self.trace = TraceWriter(self._lines.append)
         self._wishes = wishes
         folder = os.path.dirname(self._whole.path)
         self._stores = tempfile.TemporaryFile("w+", encoding="utf-8", newline="\n", dir=folder, buffering=1 << 20)
-        self._after = TraceWriter(self._stores.write)
+        self._store_lines: List[str] = []   # what is not yet in the file of stores
+        self._after = TraceWriter(self._store_lines.append)
         self._names = UniqueNames()
         self._legal: Dict[str, str] = {}
         self._of_class: Dict[str, List[int]] = {name: [] for name in wishes.named}
-        self._lost = 0
 
     def __enter__(self) -> "DumpTrace":
         return self
@@ -126,23 +133,27 @@ class DumpTrace:
         if kind is not None:
             self._whole.give_up()
 
-    def object(self, class_name: str, contents: Iterable[Tuple[str, int, bool]], type_name: str = "") -> int:
-        """An object with what it holds: label, number in the trace, whether weakly. The answer is its number."""
-        held = list(contents)
+    def object(self, class_name: str, contents: List[Tuple[str, int, bool]]) -> None:
+        """The next object with what it holds: label, number in the trace, whether weakly."""
         legal = self._legal.get(class_name)
         if legal is None:
-            legal = self._legal[class_name] = legal_name(type_name or class_name)
-        number = self.trace.alloc(legal, len(held))
+            legal = self._legal[class_name] = legal_name(class_name)
+        number = self.trace.alloc(legal, len(contents))
         if class_name in self._of_class:
             self._of_class[class_name].append(number)
-        for slot, (label, to, weak) in enumerate(held):
-            if weak:
-                self._after.set_weak(number, slot, True)
-            self._after.store(number, slot, to, label)
-        return number
+        self._after.fill(number, contents)
+        if len(self._lines) + len(self._store_lines) > _LINES_AT_A_TIME:
+            self._write_lines()
+
+    def _write_lines(self) -> None:
+        self._whole.write("".join(self._lines))
+        self._stores.write("".join(self._store_lines))
+        self._lines.clear()
+        self._store_lines.clear()
 
     def finish(self, roots: Iterable[Tuple[str, int]], progress: Progress) -> None:
         """Writes the stores, the roots, the assertions and the collection, and gives the file its name."""
+        self._write_lines()
         self._stores.seek(0)
         while True:
             text = self._stores.read(1 << 20)
@@ -156,6 +167,7 @@ class DumpTrace:
                 self.trace.root(self._names.name_for(name), number)
         self._assert(progress)
         self.trace.collect()
+        self._write_lines()
         self._whole.finish()
         progress.say("%d objects and %d roots in %s" % (self.trace.objects, len(seen), self._whole.path))
 

@@ -1,131 +1,133 @@
 """Left-out objects of a dump, and how references go on through them.
 
 Who held a left-out object holds what that one held. Where more than one reference, or a root, leads to a left-out
-object that leads on to kept ones, it stays in the trace, so that no reference stands there twice. What leads to no kept
-object is forgotten at once.
+object that leads on to kept ones, it stays in the trace, so that no reference stands there twice.
+
+An object is known by a number here, its code: that of a kept object is its number in the trace, from 1 on; those of
+left-out objects are -1, -2 and so on.
 """
 from array import array
-from typing import Dict, Iterable, Iterator, List, Optional, Tuple
+from itertools import accumulate, chain, repeat
+from typing import Callable, Dict, Iterable, Iterator, List, Optional, Tuple
 
 
 class LeftOut:
-    """The left-out objects that hold something. `kept` has the number in the trace of each kept object, by its key."""
+    """The left-out objects that may hold something. First all are added, then all references told, then it is settled."""
 
-    def __init__(self, kept: Dict[int, int]) -> None:
-        self._kept = kept
-        self._place: Dict[int, int] = {}    # the place of each left-out object in the arrays below
-        self._keys = array("Q")
-        self._starts = array("Q", [0])      # where the targets of each begin
-        self._targets = array("q")          # the place of a left-out object, or the number of a kept one, negative
-        self._references = array("L")       # how many references lead to each from kept objects and roots
-        self._useful = bytearray()          # 1 where a kept object is reached
-        self._stays: Dict[int, int] = {}    # the number in the trace of each that stays, by its place
+    def __init__(self) -> None:
+        # At the place of each object, counted from 0:
+        self._counts = array("I")           # how many references it holds
+        self._references = array("I")       # how many lead to it from kept objects and roots, later from all that matter
+        self._useful = bytearray()          # 1 where a kept object is reached from it
+        self._starts = array("Q")           # where its references begin among `_held`
+        self._held = array("i")             # the codes of what all of them hold
+        self._stays: Dict[int, int] = {}    # the number in the trace of each that stays, by its code
 
     def __len__(self) -> int:
-        return len(self._keys)
+        return len(self._counts)
 
-    def __contains__(self, key: int) -> bool:
-        return key in self._place
-
-    def add(self, key: int) -> None:
-        """There is a left-out object that may hold something. All are told before anything else is said."""
-        self._place[key] = len(self._keys)
-        self._keys.append(key)
+    def add(self) -> int:
+        """There is one more. The answer is its code."""
+        self._counts.append(0)
         self._references.append(0)
+        return -len(self._counts)
 
-    def holds(self, targets: Iterable[int]) -> None:
-        """What the next left-out object holds strongly, in the order in which they were told."""
-        place, kept, add = self._place, self._kept, self._targets.append
-        for target in targets:
-            if target in place:
-                add(place[target])
-            elif target in kept:
-                add(-kept[target])
-        self._starts.append(len(self._targets))
+    def take(self, references: Iterable[Tuple[int, int]]) -> None:
+        """References by the codes of who holds and what is held. Left-out objects must come in the order in which they were added."""
+        counts, led_to, add = self._counts, self._references, self._held.append
+        for holder, held in references:
+            if holder < 0:
+                counts[-1 - holder] += 1
+                add(held)
+            elif held < 0:
+                led_to[-1 - held] += 1
 
-    def refer(self, targets: Iterable[int], times: int = 1) -> None:
-        """Kept objects hold these targets, or a root does: then it is said twice, so that they stay."""
-        place = self._place
-        for target in targets:
-            if target in place:
-                self._references[place[target]] += times
+    def take_root(self, held: int) -> None:
+        """A root leads there; a left-out object that leads on stays."""
+        if held < 0:
+            self._references[-1 - held] += 2
 
-    def settle(self) -> List[Tuple[int, int]]:
-        """Decides which stay. The answer has the key and the number in the trace of each; they come after the kept ones."""
-        self._find_useful()
-        useful, references = self._useful, self._references
-        place = useful.find(1)
+    def settle(self, kept: int, tell: Callable[[], None]) -> List[Tuple[int, int]]:
+        """Decides which stay. The answer has the place and the number in the trace of each; they come after the kept ones.
+
+        This may take some seconds, and calls `tell` now and then.
+        """
+        self._starts = array("Q", accumulate(self._counts, initial=0))
+        self._find_useful(tell)
+        tell()
+        led_to = self._references
+        for is_useful, held in zip(chain.from_iterable(map(repeat, self._useful, self._counts)), self._held):
+            if is_useful and held < 0:
+                led_to[-1 - held] += 1
+        places, place = [], self._useful.find(1)
         while place >= 0:
-            for target in self._held_by(place):
-                if target >= 0 and useful[target]:
-                    references[target] += 1
-            place = useful.find(1, place + 1)
-        stay, number, place = [], len(self._kept), useful.find(1)
-        while place >= 0:
-            if references[place] > 1:
-                number += 1
-                self._stays[place] = number
-                stay.append((self._keys[place], number))
-            place = useful.find(1, place + 1)
+            if led_to[place] > 1:
+                places.append(place)
+            place = self._useful.find(1, place + 1)
+        stay = list(zip(places, range(kept + 1, kept + 1 + len(places))))
+        self._stays = {-1 - place: number for place, number in stay}
         return stay
 
-    def number_of(self, key: int) -> Optional[int]:
-        """The number in the trace of a left-out object that stays."""
-        return self._stays.get(self._place.get(key, -1))
+    def number_of(self, code: int) -> Optional[int]:
+        """The number in the trace of a kept object, or of a left-out one that stays."""
+        return code if code > 0 else self._stays.get(code)
 
-    def beyond(self, key: int) -> Iterator[Tuple[int, int]]:
-        """What a reference to a left-out object leads to: numbers in the trace, each with how many were passed over."""
-        return self._from(self._place[key], 0)
+    def beyond(self, code: int) -> Iterator[Tuple[int, int]]:
+        """What a reference leads to: numbers in the trace, each with how many left-out objects were passed over.
 
-    def contents(self, key: int) -> Iterator[Tuple[int, int]]:
+        It ends, since what lies on a circle has two references and stays.
+        """
+        stays, work = self._stays, [(code, 0)]
+        while work:
+            code, passed = work.pop()
+            if code > 0:
+                yield code, passed
+            elif code in stays:
+                yield stays[code], passed
+            elif self._useful[-1 - code]:
+                work += [(held, passed + 1) for held in reversed(self._held_by(-1 - code))]
+
+    def through(self, code: int, label: str) -> Iterator[Tuple[str, int, bool]]:
+        """What a slot with this label leads to, as slots: label, number in the trace, and that they aren't weak."""
+        for number, passed in self.beyond(code):
+            yield "%s (over %d left out)" % (label, passed) if passed else label, number, False
+
+    def contents(self, place: int) -> Iterator[Tuple[int, int]]:
         """What a left-out object that stays holds, in the same way."""
-        for target in self._held_by(self._place[key]):
-            if target < 0:
-                yield -target, 0
-            else:
-                yield from self._from(target, 0)
+        for held in self._held_by(place):
+            yield from self.beyond(held)
 
     def _held_by(self, place: int) -> array:
-        return self._targets[self._starts[place]:self._starts[place + 1]]
+        return self._held[self._starts[place]:self._starts[place + 1]]
 
-    def _from(self, place: int, passed: int) -> Iterator[Tuple[int, int]]:
-        """Ends, since what lies on a circle has two references and stays."""
-        work = [(place, passed)]
-        while work:
-            place, passed = work.pop()
-            if place < 0:
-                yield -place, passed
-            elif place in self._stays:
-                yield self._stays[place], passed
-            elif self._useful[place]:
-                work += [(target, passed + 1) for target in reversed(self._held_by(place))]
+    def _holders(self) -> Iterator[int]:
+        """The place of who holds each of `_held`."""
+        return chain.from_iterable(map(repeat, range(len(self._counts)), self._counts))
 
-    def _find_useful(self) -> None:
+    def _find_useful(self, tell: Callable[[], None]) -> None:
         """Finds those from which a kept object is reached, backwards from those that hold one."""
-        size, targets, starts = len(self._keys), self._targets, self._starts
+        size = len(self._counts)
         self._useful = useful = bytearray(size)
-        ends = array("Q", bytes(8 * (size + 1)))    # first how many hold each, then where its holders end
-        for target in targets:
-            if target >= 0:
-                ends[target] += 1
-        total = 0
-        for place in range(size):
-            total += ends[place]
-            ends[place] = total
-        holders = array("Q", bytes(8 * total))
-        fill, work = ends[:], []
-        for place in range(size):
-            for at in range(starts[place], starts[place + 1]):
-                target = targets[at]
-                if target >= 0:
-                    fill[target] -= 1
-                    holders[fill[target]] = place
-                elif not useful[place]:
-                    useful[place] = 1
-                    work.append(place)
+        # Of each left-out object its holders, from `starts` on. While they are filled in, from behind, `starts` goes down.
+        starts = array("Q", bytes(8 * (size + 1)))
+        for held in self._held:
+            if held < 0:
+                starts[-1 - held] += 1
+        starts = array("Q", accumulate(starts))
+        holders = array("I", bytes(4 * starts[size]))
+        tell()
+        work = []
+        for holder, held in zip(self._holders(), self._held):
+            if held < 0:
+                starts[-1 - held] = at = starts[-1 - held] - 1
+                holders[at] = holder
+            elif not useful[holder]:
+                useful[holder] = 1
+                work.append(holder)
+        tell()
         while work:
             place = work.pop()
-            for holder in holders[fill[place]:ends[place]]:
+            for holder in holders[starts[place]:starts[place + 1]]:
                 if not useful[holder]:
                     useful[holder] = 1
                     work.append(holder)

@@ -2,7 +2,7 @@
 import json
 import os
 import tempfile
-from typing import Dict, Optional
+from typing import Dict, Iterable, Optional, Tuple
 
 MOST_OBJECTS = 1048576
 MOST_SLOTS = 16777216
@@ -101,7 +101,7 @@ class TraceWriter:
         self.objects += 1
         self.slots += slots
         on_thread = ',"thread":%d' % thread if thread else ""
-        self._write('{"op":"alloc","id":%d,"type":%s,"slots":%d%s}\n' % (self.last_id, self._quote(type_name), slots, on_thread))
+        self._write(f'{{"op":"alloc","id":{self.last_id},"type":{self._quote(type_name)},"slots":{slots}{on_thread}}}\n')
         return self.last_id
 
     def freed(self, objects: int, slots: int) -> None:
@@ -111,9 +111,17 @@ class TraceWriter:
 
     def store(self, at: int, slot: int, to: Optional[int], label: str = "") -> None:
         """A slot holds an object, or nothing. The label says how the program calls the slot; gcaudit ignores it."""
-        held = "null" if to is None else "%d" % to
+        held = "null" if to is None else to
         labelled = ',"label":' + self._quote(label) if label else ""
-        self._write('{"op":"store","at":%d,"slot":%d,"to":%s%s}\n' % (at, slot, held, labelled))
+        self._write(f'{{"op":"store","at":{at},"slot":{slot},"to":{held}{labelled}}}\n')
+
+    def fill(self, at: int, contents: Iterable[Tuple[str, int, bool]]) -> None:
+        """Fills the slots of a new object from the first on: label, the object that is held, whether weakly."""
+        write, quoted, quote = self._write, self._quoted.get, self._quote
+        for slot, (label, to, weak) in enumerate(contents):
+            if weak:
+                self.set_weak(at, slot, True)
+            write(f'{{"op":"store","at":{at},"slot":{slot},"to":{to},"label":{quoted(label) or quote(label)}}}\n')
 
     def set_weak(self, at: int, slot: int, weak: bool) -> None:
         self._write('{"op":"set-weak","at":%d,"slot":%d,"weak":%s}\n' % (at, slot, "true" if weak else "false"))

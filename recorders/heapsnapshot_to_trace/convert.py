@@ -1,7 +1,10 @@
 """From V8's .heapsnapshot to a trace: nodes are objects, edges are slots, weak edges are weak slots."""
 import os
 from array import array
-from typing import Dict, Iterator, List, Tuple
+from collections import Counter
+from itertools import chain, compress, repeat
+from operator import floordiv, mod
+from typing import Dict, Iterator, List, Set, Tuple
 
 from gcaudit_trace import TraceError
 from gcaudit_trace.dumps import DumpTrace, Progress, Wishes, need_room, say_left_out
@@ -17,42 +20,48 @@ _MOST_FUNCTION_NAMES = 30000
 # is left out would lead to what is kept. So these edges are left out of both.
 _TO_CLASS = frozenset({("internal", "map"), ("property", "__proto__")})
 _NUMBERED = frozenset({"element", "hidden"})                # edges that have a number for a name
+_MOST_KINDS = 256                                           # a type is kept in one byte
+
+Edge = Tuple[int, int, int, int]    # the codes of what is held and of who holds, the type, and the name or index
 
 
 class Snapshot:
     """The nodes of a snapshot as arrays, and the names that are needed."""
 
-    def __init__(self, path: str, wishes: Wishes, progress: Progress) -> None:
-        self.path = path
+    def __init__(self, file, wishes: Wishes, progress: Progress) -> None:
+        self.file = file
         self.wishes = wishes
         self.progress = progress
-        self.size = os.path.getsize(path)
-        self.kinds = array("B")
-        self.names = array("L")
-        self.edge_counts = array("L")
+        self.size = os.fstat(file.fileno()).st_size
+        # Of each node:
+        self.kinds = bytearray()
+        self.names = array("I")
+        self.edge_counts = array("I")
+        self.codes = array("i")             # as in `left`; 0 where it is neither kept nor left out
+        self.kept_nodes = array("I")
+        self.left_nodes = array("I")
+        self.left = LeftOut()
+        self.left_out: Dict[str, int] = {}  # how many nodes of each class are left out
         self.texts: Dict[int, str] = {}
-        self.kept: Dict[int, int] = {}
-        self.left = LeftOut(self.kept)
-        self.left_out: Dict[str, int] = {}
         self.weak_lost = 0
-        self.to_classes = 0         # references from objects to their classes that are left out
-        self._class_edges = set()   # the type and name of these
-        self._wanted = set()
+        self.to_classes = 0                 # references from objects to their classes that are left out
+        self._root_edges: List[Tuple[int, int, int]] = []   # the type, the name or index, and the node of each
+        self._class_edges: Set[Tuple[int, int]] = set()     # the type and name of those to classes
+        self._class_names: Dict[Tuple[int, int], str] = {}  # by type and name
+        self._labels: Dict[Tuple[int, int], str] = {}       # by type and name
+        self._wanted: Set[int] = set()
         self._node_width = 0
+        self._edges_start = 0               # where in the file they stand
 
     # ---- the first time through: the nodes and the names
 
     def read(self) -> None:
         takers = {"snapshot": self._take_meta, "nodes": self._take_nodes, "edges": self._take_edge_names, "strings": self._take_strings}
-        self._read(takers, "reading the nodes")
+        read_members(Reader(self.file, self.progress, "reading the nodes", self.size), takers)
         self._choose()
 
-    def _read(self, takers, step: str) -> None:
-        with open(self.path, encoding="utf-8", errors="strict") as file:
-            read_members(Reader(file, self.progress, step, self.size), takers)
-
     def _wrong(self, why: str) -> TraceError:
-        return TraceError("%s is no heap snapshot that is known: %s" % (self.path, why))
+        return TraceError("%s is no heap snapshot that is known: %s" % (self.file.name, why))
 
     def _take_meta(self, reader: Reader) -> None:
         try:
@@ -63,18 +72,22 @@ class Snapshot:
             self._node_width, self._edge_width = len(nodes), len(edges)
             self._kind_at, self._name_at, self._count_at = (nodes.index(field) for field in ("type", "name", "edge_count"))
             self._edge_at = tuple(edges.index(field) for field in ("type", "name_or_index", "to_node"))
-        except (KeyError, ValueError, TypeError, IndexError):
+        except (KeyError, ValueError, TypeError, IndexError, AttributeError):
             raise self._wrong("its description of nodes and edges is another") from None
+        if max(len(self.kind_words), len(self.edge_words)) > _MOST_KINDS:
+            raise self._wrong("it has more than %d types" % _MOST_KINDS)
         self._weak = self.edge_words.index("weak") if "weak" in self.edge_words else -1
+        self._is_plain = bytes(word in PLAIN for word in self.kind_words).ljust(256, b"\0")
 
-    def _rows(self, reader: Reader, width: int) -> Iterator[array]:
+    def _rows(self, reader: Reader, width: int) -> Iterator[List[int]]:
         """The numbers of whole nodes or edges, some at a time."""
-        left = array("q")
+        left: List[int] = []
         for piece in reader.numbers():
             piece = left + piece
             whole = len(piece) - len(piece) % width
             left = piece[whole:]
-            yield piece[:whole]
+            del piece[whole:]
+            yield piece
         if left:
             raise self._wrong("its last node or edge is not whole")
 
@@ -84,32 +97,47 @@ class Snapshot:
             raise self._wrong("its description doesn't come first")
         try:
             for rows in self._rows(reader, width):
-                self.kinds.extend(rows[self._kind_at::width].tolist())
-                self.names.extend(rows[self._name_at::width].tolist())
-                self.edge_counts.extend(rows[self._count_at::width].tolist())
-        except (OverflowError, TypeError):
+                self.kinds.extend(rows[self._kind_at::width])
+                self.names.extend(rows[self._name_at::width])
+                self.edge_counts.extend(rows[self._count_at::width])
+        except (OverflowError, ValueError):
             raise self._wrong("a node has a number that can't be") from None
         if self.kinds and max(self.kinds) >= len(self.kind_words):
             raise self._wrong("a node is of a type that has no name")
-        plain = {at for at, word in enumerate(self.kind_words) if word in PLAIN}
-        self._wanted.update(name for kind, name in zip(self.kinds, self.names) if kind not in plain)
+        self._wanted.update(compress(self.names, self._is_object()))
+
+    def _is_object(self) -> bytes:
+        """For each node 1 where it is no plain value, else 0."""
+        return self.kinds.translate(bytes(1 - plain for plain in self._is_plain))
 
     def _take_edge_names(self, reader: Reader) -> None:
         if not self.kinds:
             raise self._wrong("its nodes don't come first")
-        numbered = {at for at, word in enumerate(self.edge_words) if word in _NUMBERED}
+        reader.next_sign()
+        self._edges_start = reader.position()
+        is_named = bytes(word not in _NUMBERED for word in self.edge_words).ljust(256, b"\0")
         kind_at, name_at, to_at = self._edge_at
-        width, whole, end = self._edge_width, 0, self._node_width * len(self.kinds)
+        width, node_width, whole, end = self._edge_width, self._node_width, 0, self._node_width * len(self.kinds)
         for rows in self._rows(reader, width):
-            kinds, targets = rows[kind_at::width], rows[to_at::width]
-            if kinds and not (0 <= min(kinds) and max(kinds) < len(self.edge_words) and 0 <= min(targets) and max(targets) < end):
+            targets = rows[to_at::width]
+            try:
+                kinds = bytes(rows[kind_at::width])
+            except ValueError:
+                kinds = b"\xff"
+            if kinds and (max(kinds) >= len(self.edge_words) or min(targets) < 0 or max(targets) >= end
+                          or any(map(mod, targets, repeat(node_width)))):
                 raise self._wrong("an edge is of a type that has no name, or leads to no node")
+            self._wanted.update(compress(rows[name_at::width], kinds.translate(is_named)))
+            if whole < self.edge_counts[0]:
+                own = self.edge_counts[0] - whole
+                self._root_edges += zip(kinds[:own], rows[name_at::width][:own], map(floordiv, targets[:own], repeat(node_width)))
             whole += len(kinds)
-            self._wanted.update(name for kind, name in zip(kinds, rows[name_at::width]) if kind not in numbered)
         if whole != sum(self.edge_counts):
             raise self._wrong("its nodes say that there are %d edges, and there are %d" % (sum(self.edge_counts), whole))
 
     def _take_strings(self, reader: Reader) -> None:
+        if not self._edges_start:
+            raise self._wrong("its nodes and edges don't come first")
         self.texts = reader.strings(self._wanted)
         self._wanted = set()
         self._class_edges = {(kind, name) for name, text in self.texts.items()
@@ -118,129 +146,119 @@ class Snapshot:
     # ---- which nodes are kept
 
     def _choose(self) -> None:
-        """Numbers the kept nodes. The node 0 is where the roots are, and no object."""
-        counts: Dict[str, int] = {}
-        functions = {name for kind, name in zip(self.kinds, self.names) if self.kind_words[kind] == "closure"}
-        self._names_functions = len(functions) <= _MOST_FUNCTION_NAMES
-        keeps: Dict[Tuple[int, int], Tuple[str, bool]] = {}
-        for node in range(1, len(self.kinds)):
-            key = (self.kinds[node], self.names[node])
-            word = self.kind_words[key[0]]
+        """Gives the nodes their codes. The node 0 is where the roots are, and no object."""
+        is_object = bytearray(self._is_object())
+        is_object[0] = 0
+        for kind, word in enumerate(self.kind_words):
             if word in PLAIN:
-                self.left_out[word] = self.left_out.get(word, 0) + 1
-                continue
-            found = keeps.get(key)
-            if found is None:
-                name = self.class_name(node)
-                found = keeps[key] = (name, self.wishes.keeps(name))
-            if found[1]:
-                self.kept[node] = len(self.kept) + 1
-                counts[found[0]] = counts.get(found[0], 0) + 1
+                self._count_left_out(word, self.kinds.count(kind) - (kind == self.kinds[0]))
+        of_each = Counter(compress(zip(self.kinds, self.names), is_object))
+        self._names_functions = sum(self.kind_words[kind] == "closure" for kind, _ in of_each) <= _MOST_FUNCTION_NAMES
+        keeps: Dict[Tuple[int, int], bool] = {}     # by type and name
+        counts: Dict[str, int] = {}
+        for key, count in of_each.items():
+            self._class_names[key] = name = self._class_name(*key)
+            keeps[key] = self.wishes.keeps(name)
+            if keeps[key]:
+                counts[name] = counts.get(name, 0) + count
             else:
-                self.left.add(node)
-                self.left_out[found[0]] = self.left_out.get(found[0], 0) + 1
+                self._count_left_out(name, count)
         self._counts = counts
-        need_room(len(self.kept), counts)
+        need_room(sum(counts.values()), counts)
+        self.codes = codes = array("i", bytes(4 * len(self.kinds)))
+        for node, key in compress(enumerate(zip(self.kinds, self.names)), is_object):
+            if keeps[key]:
+                self.kept_nodes.append(node)
+                codes[node] = len(self.kept_nodes)
+            else:
+                self.left_nodes.append(node)
+                codes[node] = self.left.add()
 
-    def class_name(self, node: int) -> str:
+    def _count_left_out(self, name: str, count: int) -> None:
+        if count:
+            self.left_out[name] = self.left_out.get(name, 0) + count
+
+    def _class_name(self, kind: int, name: int) -> str:
         """The constructor of an object; of other nodes their kind, and the name where that tells something."""
-        word = self.kind_words[self.kinds[node]]
-        name = self.texts.get(self.names[node], "")
+        word = self.kind_words[kind]
+        text = self.texts.get(name, "")
         if word in _BY_NAME:
-            return name or word
+            return text or word
         if word == "closure":
-            return "function " + name if name and self._names_functions else "function"
+            return "function " + text if text and self._names_functions else "function"
         return word
+
+    def class_of(self, node: int) -> str:
+        return self._class_names[self.kinds[node], self.names[node]]
 
     # ---- the edges
 
-    def _edges(self, step: str, take) -> None:
-        """Calls take(node, edges) for each node in turn, its edges as triples of type, name or index, and target."""
-        width, node_width, class_edges, left = self._edge_width, self._node_width, self._class_edges, self.left
-        from_all = bool(self.wishes.owners)
+    def _edges(self, step: str) -> Iterator[Iterator[Edge]]:
+        """All edges, some at a time. A code is 0 where a node is neither kept nor left out."""
+        width, node_width = self._edge_width, self._node_width
         kind_at, name_at, to_at = self._edge_at
-        self.to_classes = 0
-
-        def give(node: int, edges) -> None:
-            if from_all or node in left:
-                whole = len(edges)
-                edges = [one for one in edges if one[:2] not in class_edges]
-                self.to_classes += whole - len(edges)
-            take(node, [(kind, name, to // node_width) for kind, name, to in edges])
-
-        def taker(reader: Reader) -> None:
-            node, waiting, lacking = 0, [], self.edge_counts[0] if self.edge_counts else 0
-            for rows in self._rows(reader, width):
-                edges = list(zip(rows[kind_at::width], rows[name_at::width], rows[to_at::width]))
-                at = 0
-                while at < len(edges) or lacking == 0:
-                    taken = edges[at:at + lacking]
-                    at, lacking = at + len(taken), lacking - len(taken)
-                    waiting += taken
-                    if lacking:
-                        break
-                    give(node, waiting)
-                    waiting, node = [], node + 1
-                    if node == len(self.edge_counts):
-                        return
-                    lacking = self.edge_counts[node]
-            while node < len(self.edge_counts):
-                give(node, [])
-                node += 1
-
-        self._read({"snapshot": lambda reader: reader.skip(), "edges": taker}, step)
+        holders = chain.from_iterable(map(repeat, self.codes, self.edge_counts))
+        reader = Reader(self.file, self.progress, step, self.size, self._edges_start)
+        for rows in self._rows(reader, width):
+            held = map(self.codes.__getitem__, map(floordiv, rows[to_at::width], repeat(node_width)))
+            yield zip(held, holders, rows[kind_at::width], rows[name_at::width])   # `held` first, which ends with the rows
 
     def pass_over(self) -> List[Tuple[int, int]]:
-        """Where nodes are left out: decides which of them stay."""
+        """Where nodes are left out: decides which of them stay. Their places among these, and their numbers in the trace."""
         if not len(self.left):
             return []
-        kept, left, weak = self.kept, self.left, self._weak
-        refers = []
-
-        def take(node: int, edges) -> None:
-            targets = [to for kind, _, to in edges if kind != weak]
-            if node in left:
-                left.holds(targets)
-            elif node in kept:
-                left.refer(targets)
-            elif node == 0:
-                refers.extend(targets)
-
-        self._edges("reading what is left out", take)
-        left.refer(refers, 2)
-        stay = left.settle()
-        need_room(len(kept) + len(stay), self._counts)
+        self.left.take(self._references())
+        for kind, _, node in self._root_edges:
+            if kind != self._weak:
+                self.left.take_root(self.codes[node])
+        stay = self.left.settle(len(self.kept_nodes), self.progress.following)
+        need_room(len(self.kept_nodes) + len(stay), self._counts)
         return stay
 
-    def write(self, out: DumpTrace, stay: List[Tuple[int, int]]) -> List[Tuple[str, int]]:
-        """Writes the kept nodes, and behind them the left-out ones that stay. The answer are the roots."""
-        roots: List[Tuple[str, int]] = []
+    def _references(self) -> Iterator[Tuple[int, int]]:
+        """By codes who holds what strongly, where one of them is left out."""
+        weak, class_edges = self._weak, self._class_edges
+        from_all = bool(self.wishes.owners)
+        for edges in self._edges("reading what is left out"):
+            for held, holder, kind, name in edges:
+                if holder < 0:
+                    if held and kind != weak and (kind, name) not in class_edges:
+                        yield holder, held
+                elif held < 0 and holder and kind != weak and not (from_all and (kind, name) in class_edges):
+                    yield holder, held
 
-        def take(node: int, edges) -> None:
-            if node in self.kept:
-                out.object(self.class_name(node), self._resolved(edges))
-            elif node == 0:
-                roots.extend(self._roots(edges))
+    def write(self, out: DumpTrace, stay: List[Tuple[int, int]]) -> None:
+        """Writes the kept nodes, and behind them the left-out ones that stay."""
+        for held, node in zip(self._holdings(), self.kept_nodes):
+            out.object(self.class_of(node), held)
+        for place, _ in stay:
+            held = [("(held)", to, False) for to, _ in self.left.contents(place)]
+            out.object("left out " + self.class_of(self.left_nodes[place]), held)
 
-        self._edges("writing the trace", take)
-        for node, _ in stay:
-            out.object("left out " + self.class_name(node), (("(held)", to, False) for to, _ in self.left.contents(node)))
-        return roots
-
-    def _resolved(self, edges) -> Iterator[Tuple[str, int, bool]]:
-        kept, left = self.kept, self.left
-        for kind, name, to in edges:
-            weak = kind == self._weak
-            number = kept.get(to)
-            if number is not None:
-                yield self._label(kind, name), number, weak
-            elif to in left:
-                if weak:
-                    self.weak_lost += 1
+    def _holdings(self) -> Iterator[List[Tuple[str, int, bool]]]:
+        """What each of the kept nodes holds, in their order: label, number in the trace, whether weakly."""
+        weak, class_edges, label, from_all = self._weak, self._class_edges, self._label, bool(self.wishes.owners)
+        number = 1
+        contents: List[Tuple[str, int, bool]] = []
+        for edges in self._edges("writing the trace"):
+            for held, holder, kind, name in edges:
+                if not held or not holder:
                     continue
-                for number, passed in left.beyond(to):
-                    label = self._label(kind, name)
-                    yield "%s (over %d left out)" % (label, passed) if passed else label, number, False
+                if (holder < 0 or from_all) and (kind, name) in class_edges:
+                    self.to_classes += 1
+                elif holder > 0:
+                    while number < holder:
+                        yield contents
+                        number, contents = number + 1, []
+                    if held > 0:
+                        contents.append((label(kind, name), held, kind == weak))
+                    elif kind == weak:
+                        self.weak_lost += 1
+                    else:
+                        contents += self.left.through(held, label(kind, name))
+        for _ in range(number, len(self.kept_nodes) + 1):
+            yield contents
+            contents = []
 
     def _label(self, kind: int, name: int) -> str:
         word = self.edge_words[kind]
@@ -248,30 +266,33 @@ class Snapshot:
             return "[%d]" % name
         if word == "hidden":
             return "(hidden %d)" % name
-        text = self.texts.get(name, "")
-        if word == "context":
-            return "(variable %s)" % text
-        return "." + text if word == "property" else "(%s)" % text
+        found = self._labels.get((kind, name))
+        if found is None:
+            text = self.texts.get(name, "")
+            found = "(variable %s)" % text if word == "context" else "." + text if word == "property" else "(%s)" % text
+            self._labels[kind, name] = found
+        return found
 
-    def _roots(self, edges) -> Iterator[Tuple[str, int]]:
-        for kind, name, to in edges:
-            number = self.kept.get(to) or self.left.number_of(to)
+    def roots(self) -> Iterator[Tuple[str, int]]:
+        """The roots by name, as far as they lead to what is in the trace."""
+        for kind, name, node in self._root_edges:
+            number = self.left.number_of(self.codes[node])
             if number is not None and kind != self._weak:
-                text = self.texts.get(self.names[to], "")
-                yield text or self._label(kind, name), number
+                yield self.texts.get(self.names[node], "") or self._label(kind, name), number
 
 
 def convert(asked, progress: Progress) -> None:
     """Writes the trace of a snapshot, by the words of the command line."""
     wishes = Wishes(asked)
-    snapshot = Snapshot(asked.dump, wishes, progress)
-    snapshot.read()
-    stay = snapshot.pass_over()
-    say_left_out(snapshot.left_out, len(stay), progress)
-    with DumpTrace(asked.trace, wishes) as out:
-        roots = snapshot.write(out, stay)
-        if snapshot.weak_lost:
-            progress.say("%d weak references to objects that are left out have no slot" % snapshot.weak_lost)
-        if snapshot.to_classes:
-            progress.say("%d references from objects to their classes are left out (map, __proto__)" % snapshot.to_classes)
-        out.finish(roots, progress)
+    with open(asked.dump, "rb") as file:
+        snapshot = Snapshot(file, wishes, progress)
+        snapshot.read()
+        stay = snapshot.pass_over()
+        say_left_out(snapshot.left_out, len(stay), progress)
+        with DumpTrace(asked.trace, wishes) as out:
+            snapshot.write(out, stay)
+            if snapshot.weak_lost:
+                progress.say("%d weak references to objects that are left out have no slot" % snapshot.weak_lost)
+            if snapshot.to_classes:
+                progress.say("%d references from objects to their classes are left out (map, __proto__)" % snapshot.to_classes)
+            out.finish(snapshot.roots(), progress)

@@ -29,9 +29,9 @@ class Heap:
         self.wishes = wishes
         self.progress = progress
         self.classes: Dict[int, ClassDump] = {}
-        self.kept: Dict[int, int] = {}          # the number in the trace of each kept object, by its identifier
-        self.kept_places = array("Q")           # where the record of each stands
-        self.left = LeftOut(self.kept)
+        self.codes: Dict[int, int] = {}         # of each kept object and of left-out ones that may hold something, by identifier
+        self.kept_places = array("Q")           # where the record of each kept object stands
+        self.left = LeftOut()
         self.left_places = array("Q")
         self.left_out: Dict[str, int] = {}      # how many objects of each class are left out
         self.roots: List[Root] = []
@@ -47,7 +47,7 @@ class Heap:
 
     def find_objects(self) -> None:
         """Numbers the kept objects, and notes the roots and the classes."""
-        kept, places, keeps, keeps_class = self.kept, self.kept_places, self._keeps, self._keeps_class
+        codes, places, keeps, keeps_class = self.codes, self.kept_places, self._keeps, self._keeps_class
         counts: Dict[int, int] = {}
         primitive: Dict[int, int] = {}
         left_classes: Dict[int, int] = {}
@@ -61,13 +61,13 @@ class Heap:
             if tag == CLASS:
                 self.classes[number] = self.dump.class_dump(place)
             if keeps[class_id] if class_id in keeps else keeps_class(class_id):
-                kept[number] = len(kept) + 1
                 places.append(place)
+                codes[number] = len(places)
                 counts[class_id] = counts.get(class_id, 0) + 1
             else:
                 left_classes[class_id] = left_classes.get(class_id, 0) + 1
                 if tag != INSTANCE or self._may_hold(class_id):
-                    self.left.add(number)
+                    codes[number] = self.left.add()
                     self.left_places.append(place)
         for class_id, count in left_classes.items():
             name = self.dump.class_name(class_id)
@@ -75,7 +75,7 @@ class Heap:
         for code, count in primitive.items():
             self.left_out[PRIMITIVES[code] + "[]"] = count
         self._named_counts = {self.dump.class_name(class_id): count for class_id, count in counts.items()}
-        need_room(len(kept), self._named_counts)
+        need_room(len(places), self._named_counts)
 
     def _may_hold(self, class_id: int) -> bool:
         """Whether instances of the class have references to objects other than arrays of primitives, as far as is known by now."""
@@ -156,25 +156,31 @@ class Heap:
     # ---- where something is left out: how references go on through it
 
     def pass_over(self) -> List[Tuple[int, int]]:
-        """Decides which of the left-out objects stay: their identifiers and numbers."""
-        left = self.left
+        """Decides which of the left-out objects stay: their places among these, and their numbers in the trace."""
+        left, kept = self.left, len(self.kept_places)
         if not len(left):
             return []
-        for place in self._in_steps("reading what is left out", self.left_places):
-            left.holds(self.references(place))
-        for place in self._in_steps("reading what is kept", self.kept_places):
-            left.refer(self.references(place))
+        holders = range(-1, -1 - len(left), -1)
+        left.take(self._references(zip(holders, self._in_steps("reading what is left out", self.left_places))))
+        left.take(self._references(zip(range(1, kept + 1), self._in_steps("reading what is kept", self.kept_places))))
         for root in self.roots:
-            left.refer((root.target,), 2)
-        stay = left.settle()
-        need_room(len(self.kept) + len(stay), self._named_counts)
+            left.take_root(self.codes.get(root.target, 0))
+        stay = left.settle(kept, self.progress.following)
+        need_room(kept + len(stay), self._named_counts)
         return stay
+
+    def _references(self, holders: Iterable[Tuple[int, int]]) -> Iterator[Tuple[int, int]]:
+        """By codes who holds what strongly, for objects of which the code and the place are told."""
+        code_of = self.codes.get
+        for holder, place in holders:
+            for held in filter(None, map(code_of, self.references(place))):
+                yield holder, held
 
     def _in_steps(self, step: str, places: array) -> Iterator[int]:
         """The places, with progress told."""
         for count, place in enumerate(places):
             yield place
-            if not count & 0xFFFF:
+            if not count & 0x3FF:
                 self.progress.at(step, place, self.dump.size)
 
     # ---- the trace
@@ -183,15 +189,9 @@ class Heap:
         """Writes the kept objects, and behind them the left-out ones that stay."""
         for place in self._in_steps("writing the trace", self.kept_places):
             out.object(self._class_at(place), self._resolved(self.holdings(place)))
-        if stay:
-            place_of = dict(stay)
-            for place in self.left_places:
-                number = self._id.unpack_from(self.dump.data, place)[0]
-                if number in place_of:
-                    place_of[number] = place
-            for number, _ in stay:
-                held = (("(held)", to, False) for to, _ in self.left.contents(number))
-                out.object("left out " + self._class_at(place_of[number]), held)
+        for place, _ in stay:
+            held = [("(held)", to, False) for to, _ in self.left.contents(place)]
+            out.object("left out " + self._class_at(self.left_places[place]), held)
 
     def _class_at(self, place: int) -> str:
         """The class of the object whose record stands there; of a class, the word and its name."""
@@ -202,23 +202,24 @@ class Heap:
             return self.dump.class_name(self._instance.unpack_from(data, place)[2])
         return self.dump.class_name(self._array.unpack_from(data, place)[3])
 
-    def _resolved(self, held: List[Tuple[str, int, bool]]) -> Iterator[Tuple[str, int, bool]]:
-        kept, left = self.kept, self.left
+    def _resolved(self, held: List[Tuple[str, int, bool]]) -> List[Tuple[str, int, bool]]:
+        """What it holds by numbers in the trace: what is left out is passed over."""
+        found = []
         for label, to, weak in held:
-            number = kept.get(to)
-            if number is not None:
-                yield label, number, weak
+            code = self.codes.get(to, 0)
+            if code > 0:
+                found.append((label, code, weak))
             elif weak:
                 self.weak_lost += 1
-            elif to in left:
-                for number, passed in left.beyond(to):
-                    yield "%s (over %d left out)" % (label, passed) if passed else label, number, False
+            elif code < 0:
+                found += self.left.through(code, label)
+        return found
 
     def named_roots(self) -> Iterator[Tuple[str, int]]:
         """The roots by kind and name, as far as they lead to what is in the trace."""
         stack_of = {root.thread: root.frame for root in self.roots if ROOTS[root.kind][0] == "thread"}
         for root in self.roots:
-            number = self.kept.get(root.target) or self.left.number_of(root.target)
+            number = self.left.number_of(self.codes.get(root.target, 0))
             if number is not None:
                 yield self._root_name(root, stack_of), number
 

@@ -9,10 +9,12 @@ import subprocess
 import sys
 import tempfile
 import unittest
+from unittest import mock
 
 from tests.support import PROGRAM, PROGRAMS, RECORDERS, InFolder, events, needs_commands, needs_program
 
 from gcaudit_trace import audit
+from gcaudit_trace.dumps import Progress
 from gcaudit_trace.passing import LeftOut
 from heapsnapshot_to_trace.__main__ import main as heapsnapshot_to_trace
 from hprof_to_trace.__main__ import main as hprof_to_trace
@@ -279,6 +281,7 @@ class WrittenDumps(InFolder):
         from heapsnapshot_to_trace import reader
         self.addCleanup(setattr, reader, "PIECE", reader.PIECE)
         snapshot = written_snapshot()
+        traces = set()
         for ascii_alone in (True, False):
             for indent in (None, 1):
                 for piece in (1, 2, 3, 7, 1000):
@@ -293,11 +296,32 @@ class WrittenDumps(InFolder):
                     self.assertEqual((kinds[0], kinds[2]), ('A\\"]', "é\u2028\U0001f600\\x0a"))
                     self.assertEqual(len([e for e in found if e["op"] == "store"]), 3)
                     self.assertEqual([e["weak"] for e in found if e["op"] == "set-weak"], [True])
+                    with open(trace, encoding="utf-8") as file:
+                        traces.add(file.read())
+        self.assertEqual(len(traces), 1)
+
+    def test_long_names_in_a_snapshot(self):
+        for letter in ("x", "é", "\U0001f600", '"'):
+            for differ_at in (100, 399, 450, 3000):
+                snapshot = written_snapshot()
+                long = [letter * differ_at + end + letter * 2000 for end in ("a", "b")]
+                snapshot["strings"][1], snapshot["strings"][3] = long
+                with open(self.path("dump"), "w", encoding="utf-8") as file:
+                    json.dump(snapshot, file)
+                trace = self.path("trace.jsonl")
+                self.assertEqual(run(heapsnapshot_to_trace, self.path("dump"), trace)[0], 0)
+                kinds = [e["type"] for e in events(trace) if e["op"] == "alloc"]
+                self.assertEqual(len({kinds[0], kinds[2]}), 2, long[0][:10])
+                self.assertTrue(all(len(kind.encode()) <= 256 for kind in kinds))
 
     def test_damaged_snapshots(self):
         for change in (lambda s: s["edges"].pop(), lambda s: s["nodes"].append(1), lambda s: s["nodes"].__setitem__(0, 99),
                        lambda s: s["nodes"].__setitem__(1, -1), lambda s: s["nodes"].__setitem__(4, "x"), lambda s: s["nodes"].__setitem__(4, 2),
-                       lambda s: s["edges"].__setitem__(0, 9), lambda s: s["edges"].__setitem__(2, 20), lambda s: s["snapshot"]["meta"]["node_fields"].remove("edge_count"),
+                       lambda s: s["edges"].__setitem__(0, 9), lambda s: s["edges"].__setitem__(2, 20), lambda s: s["edges"].__setitem__(2, 4),
+                       lambda s: s["edges"].__setitem__(2, -5), lambda s: s["edges"].__setitem__(0, 300), lambda s: s["nodes"].__setitem__(1, 1 << 40),
+                       lambda s: s["nodes"].__setitem__(1, 1.5), lambda s: s["nodes"].__setitem__(1, True), lambda s: s["nodes"].__setitem__(1, [1]),
+                       lambda s: s["snapshot"]["meta"].__setitem__("node_types", [["a"] * 300]), lambda s: s["snapshot"].__setitem__("meta", None),
+                       lambda s: s.update(strings=s.pop("strings"), edges=s.pop("edges")), lambda s: s.update(nodes=s.pop("nodes")), lambda s: s["snapshot"]["meta"]["node_fields"].remove("edge_count"),
                        lambda s: s.pop("nodes"), lambda s: s.pop("strings"), lambda s: s.update(nodes={}), lambda s: s.update(strings=[1])):
             snapshot = written_snapshot()
             change(snapshot)
@@ -306,20 +330,64 @@ class WrittenDumps(InFolder):
             status, said = run(heapsnapshot_to_trace, self.path("dump"), self.path("none.jsonl"))
             self.assertEqual((status, os.listdir(self.folder)), (2, ["dump"]), said)
 
+    def test_snapshots_that_are_no_json_of_v8(self):
+        whole = json.dumps(written_snapshot())
+        for text in (whole.replace('"other"', '"nodes"'), whole.replace('"other"', '"snapshot"'), '{"snapshot":' + "[" * 100000,
+                     whole.replace("1.5", "[" * 100000), whole.replace('"B"', '"\\x"'), whole.replace('"B"', '"\\u12"'), whole.replace('"B"', "B")):
+            self.refused(text.encode())
+        self.refused(whole.encode().replace(b'"B"', b'"\xff"'))
+
+    def refused(self, dump):
+        with open(self.path("dump"), "wb") as file:
+            file.write(dump)
+        status, said = run(heapsnapshot_to_trace, self.path("dump"), self.path("none.jsonl"))
+        self.assertEqual((status, os.listdir(self.folder)), (2, ["dump"]), said)
+        self.assertRegex(said, r"^heapsnapshot_to_trace: [^\n]+\n$")
+
     def test_circles_of_left_out_objects(self):
-        kept = {1: 1, 2: 2}
-        left = LeftOut(kept)
-        for key in (10, 11, 12, 13, 14):
-            left.add(key)
-        for targets in ([11], [10, 2, 99], [13], [12], [1, 10]):    # 12 and 13 lead to nothing that is kept
-            left.holds(targets)
-        left.refer([10, 12, 14])
-        stay = left.settle()
-        self.assertEqual(stay, [(10, 3)])
-        self.assertEqual(list(left.beyond(10)), [(3, 0)])
-        self.assertEqual(list(left.contents(10)), [(3, 1), (2, 1)])
-        self.assertEqual(list(left.beyond(12)), [])
-        self.assertEqual(sorted(left.beyond(14)), [(1, 1), (3, 1)])
+        left = LeftOut()
+        self.assertEqual([left.add() for _ in range(5)], [-1, -2, -3, -4, -5])
+        # 1 and 2 are kept. -1 and -2 hold each other; -3 and -4 too, and lead to nothing that is kept.
+        left.take([(-1, -2), (-2, -1), (-2, 2), (-3, -4), (-4, -3), (-5, 1), (-5, -1)])
+        left.take([(1, -1), (1, -3), (1, -5)])
+        self.assertEqual(left.settle(2, lambda: None), [(0, 3)])
+        self.assertEqual(list(left.beyond(-1)), [(3, 0)])
+        self.assertEqual(list(left.contents(0)), [(3, 1), (2, 1)])
+        self.assertEqual(list(left.beyond(-3)), [])
+        self.assertEqual(list(left.through(-5, ".x")), [(".x (over 1 left out)", 1, False), (".x (over 1 left out)", 3, False)])
+        self.assertEqual([left.number_of(code) for code in (2, -1, -2, -3, 0)], [2, 3, None, None, None])
+
+    def test_a_root_keeps_what_is_left_out(self):
+        for leads_on, stay in ((True, [(0, 2)]), (False, [])):
+            left = LeftOut()
+            held = left.add()
+            left.take([(held, 1)] if leads_on else [])
+            left.take_root(held)
+            left.take_root(1)
+            self.assertEqual(left.settle(1, lambda: None), stay)
+
+
+class ProgressLines(unittest.TestCase):
+    """A plain line a second, on a terminal alone."""
+
+    def said(self, is_terminal):
+        said, now = io.StringIO(), [100.0]
+        said.isatty = lambda: is_terminal
+        with contextlib.redirect_stderr(said), mock.patch("gcaudit_trace.dumps.time.monotonic", lambda: now[0]):
+            progress = Progress("reader")
+            for seconds, done in ((0.5, 1), (0.5, 2), (0.9, 3), (0.1, 4), (5, 5)):
+                now[0] += seconds
+                progress.at("reading", done << 20, 7 << 20)
+            now[0] += 1
+            progress.following()
+        return said.getvalue()
+
+    def test_a_line_a_second(self):
+        self.assertEqual(self.said(True), "reader: reading: 2 of 7 MB\nreader: reading: 4 of 7 MB\nreader: reading: 5 of 7 MB\n"
+                         "reader: following references through what is left out\n")
+
+    def test_none_where_it_is_no_terminal(self):
+        self.assertEqual(self.said(False), "")
 
 
 class Commands(unittest.TestCase):
