@@ -6,7 +6,11 @@
         session = login(bus)
         logout(session)
         heap.assert_dead(session)
+
+The check comes when the test function has returned. Its variables are gone by then, and the roots are still there.
 """
+from typing import Any, Dict
+
 import pytest
 
 from .recorder import Recorder
@@ -16,20 +20,32 @@ def pytest_addoption(parser):
     parser.getgroup("gcaudit").addoption("--gcaudit", metavar="PROGRAM", default=None, help="the program gcaudit")
 
 
+class HeapRecorder(Recorder):
+    """A recorder that holds its roots: the variables that held them are gone when the test is checked."""
+
+    def __init__(self, file: str) -> None:
+        super().__init__(file)
+        self._held_roots: Dict[str, Any] = {}
+
+    def root(self, name: str, obj: Any) -> None:
+        super().root(name, obj)
+        self._held_roots[name] = obj
+
+
 @pytest.fixture
 def heap(tmp_path):
     """A Recorder without roots; the test names them by heap.root(name, object)."""
-    recorder = Recorder(str(tmp_path / "heap.jsonl"))
+    recorder = HeapRecorder(str(tmp_path / "heap.jsonl"))
     yield recorder
     recorder.abandon()
 
 
 @pytest.hookimpl(hookwrapper=True)
 def pytest_pyfunc_call(pyfuncitem):
-    """Runs gcaudit while the objects of the test are as the test left them, so that its failure is the test's own."""
+    """Runs gcaudit as a part of the test's call, so that a violation is a failure of the test and no error at its end."""
     outcome = yield
     recorder = pyfuncitem.funcargs.get("heap")
-    if outcome.excinfo is not None or not isinstance(recorder, Recorder):
+    if outcome.excinfo is not None or not isinstance(recorder, HeapRecorder):
         return
     try:
         recorder.check(pyfuncitem.config.getoption("--gcaudit"))

@@ -2,6 +2,7 @@
 import json
 import os
 import shutil
+import subprocess
 import sys
 import tempfile
 import unittest
@@ -19,6 +20,18 @@ needs_program = unittest.skipIf(PROGRAM is None, "gcaudit is not built")
 def needs_commands(*names):
     missing = [name for name in names if shutil.which(name) is None]
     return unittest.skipIf(missing, "not there: " + ", ".join(missing))
+
+
+def python_with(*modules):
+    """The Python that runs the tests, or else the system's, where it has the modules. None where neither has."""
+    for python in (sys.executable, "/usr/bin/python3"):
+        try:
+            found = subprocess.run([python, "-c", "import " + ", ".join(modules)], stdout=subprocess.DEVNULL, stderr=subprocess.DEVNULL)
+        except OSError:
+            continue
+        if found.returncode == 0:
+            return python
+    return None
 
 
 class InFolder(unittest.TestCase):

@@ -3,12 +3,13 @@ import contextlib
 import gc
 import io
 import os
+import subprocess
 import sys
 import types
 import unittest
 import weakref
 
-from tests.support import PROGRAM, InFolder, events, needs_program
+from tests.support import PROGRAM, RECORDERS, InFolder, events, needs_program, python_with
 from tests.programs import service
 
 from gcaudit_recorder import HeapViolation, Recorder, TraceError, audited
@@ -458,26 +459,73 @@ class Traces(InFolder):
         self.assertRaises(TraceError, lambda: Recorder(self.path("no/such/folder")))
 
 
+# The test of the page gcaudit_recorder/README.md, with what it tests.
+LOGOUT = """
+class EventBus:
+    def __init__(self):
+        self.listeners = []
+
+class Session:
+    def on_event(self, event):
+        pass
+
+def login(bus):
+    session = Session()
+    bus.listeners.append(session.on_event)
+    return session
+
+def logout(session, bus):
+    if %r:
+        bus.listeners.remove(session.on_event)
+
+def test_logout(heap):
+    bus = EventBus()
+    heap.root("bus", bus)
+    session = login(bus)
+    logout(session, bus)
+    heap.assert_dead(session)
+"""
+PYTEST = python_with("pytest")
+
+
 @needs_program
+@unittest.skipIf(PYTEST is None, "pytest is not there")
 class Plugin(InFolder):
-    def test_fixture(self):
-        try:
-            import pytest
-        except ImportError:
-            self.skipTest("pytest is not there")
-        import subprocess
-        from tests.support import RECORDERS
+    def run_pytest(self, text, program=PROGRAM):
+        """The status of pytest over a file of tests, and what it says."""
         with open(self.path("test_it.py"), "w") as file:
-            file.write("class Thing: pass\n"
-                       "def check(heap, kept):\n    app, thing = Thing(), Thing()\n    app.thing = thing if kept else None\n"
-                       "    heap.root('app', app)\n    heap.assert_dead(thing)\n    del thing\n    return app\n"
-                       "def test_leak(heap):\n    global kept\n    kept = check(heap, True)\n"
-                       "def test_none(heap):\n    global kept\n    kept = check(heap, False)\n")
-        run = subprocess.run([sys.executable, "-m", "pytest", "-p", "gcaudit_recorder.pytest_plugin", "--gcaudit", PROGRAM, "test_it.py"],
-                             cwd=self.folder, stdout=subprocess.PIPE, env=dict(os.environ, PYTHONPATH=RECORDERS))
-        said = run.stdout.decode()
-        self.assertIn("1 failed, 1 passed", said)
-        self.assertIn("root app -> 1 test_it.Thing .thing -> 2 test_it.Thing", said)
+            file.write(text)
+        words = [PYTEST, "-B", "-m", "pytest", "-p", "no:cacheprovider", "-p", "gcaudit_recorder.pytest_plugin", "--gcaudit", program,
+                 "--basetemp", self.path("temporary"), "test_it.py"]
+        done = subprocess.run(words, cwd=self.folder, stdout=subprocess.PIPE, stderr=subprocess.STDOUT, env=dict(os.environ, PYTHONPATH=RECORDERS))
+        return done.returncode, done.stdout.decode()
+
+    def test_leak(self):
+        status, said = self.run_pytest(LOGOUT % False)
+        self.assertEqual(status, 1, said)
+        self.assertRegex(said, r"gc 1 dead \d+ test_it\.Session: root bus -> 1 test_it\.EventBus \.listeners -> \d+ list \[0\] -> "
+                               r"\d+ method \.__self__ -> \d+ test_it\.Session\n")
+        self.assertIn("1 failed in ", said)
+
+    def test_the_twin_passes(self):
+        status, said = self.run_pytest(LOGOUT % True)
+        self.assertEqual(status, 0, said)
+        self.assertIn("1 passed in ", said)
+
+    def test_a_root_that_was_taken_away(self):
+        status, said = self.run_pytest(LOGOUT % False + "    heap.root('bus', None)\n")
+        self.assertEqual(status, 0, said)
+
+    def test_a_test_that_fails_itself(self):
+        status, said = self.run_pytest(LOGOUT % False + "    assert session is None\n")
+        self.assertEqual(status, 1, said)
+        self.assertIn("assert session is None", said)
+        self.assertNotIn("gcaudit found a violation", said)
+
+    def test_without_gcaudit_nothing_passes(self):
+        status, said = self.run_pytest(LOGOUT % True, "/no/such/gcaudit")
+        self.assertEqual(status, 1, said)
+        self.assertIn("there is no program /no/such/gcaudit", said)
 
 
 if __name__ == "__main__":
