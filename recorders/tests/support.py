@@ -22,11 +22,14 @@ def needs_commands(*names):
     return unittest.skipIf(missing, "not there: " + ", ".join(missing))
 
 
-def python_with(*modules):
-    """The Python that runs the tests, or else the system's, where it has the modules. None where neither has."""
-    for python in (sys.executable, "/usr/bin/python3"):
+_HAS_MODULES = "import sys, importlib.util as u; sys.exit(not all(map(u.find_spec, sys.argv[1:])))"
+
+
+def python_with(*modules, among=(sys.executable, "/usr/bin/python3")):
+    """The first Python that has the modules: the one that runs the tests, or else the system's. None where neither has."""
+    for python in among:
         try:
-            found = subprocess.run([python, "-c", "import " + ", ".join(modules)], stdout=subprocess.DEVNULL, stderr=subprocess.DEVNULL)
+            found = subprocess.run([python, "-c", _HAS_MODULES, *modules])
         except OSError:
             continue
         if found.returncode == 0:
