@@ -1,10 +1,11 @@
 """What the readers of heap dumps share: the words of the command line, progress, and writing a trace of one collection."""
 import argparse
+import contextlib
 import os
 import sys
 import tempfile
 import time
-from typing import Dict, Iterable, List, Tuple
+from typing import Any, Callable, Dict, Iterable, List, Tuple
 
 from .names import UniqueNames, legal_name
 from .writer import MOST_OBJECTS, TraceError, TraceWriter, WholeFile
@@ -34,6 +35,8 @@ def main(program: str, about: str, convert, words=None) -> int:
     """Runs a reader of dumps; what went wrong is said in a sentence, with the status 2."""
     asked = parser_for(program, about).parse_args(words)
     try:
+        if os.path.exists(asked.trace) and os.path.samefile(asked.dump, asked.trace):
+            raise TraceError("the trace would replace the dump, %s" % asked.dump)
         convert(asked, Progress(program))
     except TraceError as error:
         print("%s: %s" % (program, error), file=sys.stderr)
@@ -106,6 +109,23 @@ class Wishes:
         return (not self._only or name.startswith(self._only)) and not (self._without and name.startswith(self._without))
 
 
+class _Batch:
+    """Hands lines on many at a time, since a file takes long for each write."""
+
+    def __init__(self, write: Callable[[str], Any]) -> None:
+        self._write = write
+        self._lines: List[str] = []
+
+    def add(self, line: str) -> None:
+        self._lines.append(line)
+        if len(self._lines) >= _LINES_AT_A_TIME:
+            self.flush()
+
+    def flush(self) -> None:
+        self._write("".join(self._lines))
+        self._lines.clear()
+
+
 class DumpTrace:
     """Writes a trace of one collection: objects and what they hold, in one go, then roots and assertions.
 
@@ -114,13 +134,16 @@ class DumpTrace:
 
     def __init__(self, path: str, wishes: Wishes) -> None:
         self._whole = WholeFile(path)
-        self._lines: List[str] = []         # what is not yet in the file
-        self.trace = TraceWriter(self._lines.append)
+        try:
+            self._waiting = tempfile.TemporaryFile("w+", encoding="utf-8", newline="\n", dir=self._whole.folder, buffering=1 << 20)
+        except OSError as error:
+            self._whole.give_up()
+            raise self._whole.failed(error) from None
+        self._lines = _Batch(self._whole.write)
+        self._stores = _Batch(self._waiting.write)
+        self.trace = TraceWriter(self._lines.add)
+        self._contents = TraceWriter(self._stores.add)
         self._wishes = wishes
-        folder = os.path.dirname(self._whole.path)
-        self._stores = tempfile.TemporaryFile("w+", encoding="utf-8", newline="\n", dir=folder, buffering=1 << 20)
-        self._store_lines: List[str] = []   # what is not yet in the file of stores
-        self._after = TraceWriter(self._store_lines.append)
         self._names = UniqueNames()
         self._legal: Dict[str, str] = {}
         self._of_class: Dict[str, List[int]] = {name: [] for name in wishes.named}
@@ -129,9 +152,10 @@ class DumpTrace:
         return self
 
     def __exit__(self, kind, error, trace) -> None:
-        self._stores.close()
         if kind is not None:
             self._whole.give_up()
+        with contextlib.suppress(OSError):  # what it held is in the trace by now, or given up
+            self._waiting.close()
 
     def object(self, class_name: str, contents: List[Tuple[str, int, bool]]) -> None:
         """The next object with what it holds: label, number in the trace, whether weakly."""
@@ -141,25 +165,15 @@ class DumpTrace:
         number = self.trace.alloc(legal, len(contents))
         if class_name in self._of_class:
             self._of_class[class_name].append(number)
-        self._after.fill(number, contents)
-        if len(self._lines) + len(self._store_lines) > _LINES_AT_A_TIME:
-            self._write_lines()
-
-    def _write_lines(self) -> None:
-        self._whole.write("".join(self._lines))
-        self._stores.write("".join(self._store_lines))
-        self._lines.clear()
-        self._store_lines.clear()
+        try:
+            self._contents.fill(number, contents)
+        except OSError as error:
+            raise self._whole.failed(error) from None
 
     def finish(self, roots: Iterable[Tuple[str, int]], progress: Progress) -> None:
         """Writes the stores, the roots, the assertions and the collection, and gives the file its name."""
-        self._write_lines()
-        self._stores.seek(0)
-        while True:
-            text = self._stores.read(1 << 20)
-            if not text:
-                break
-            self._whole.write(text)
+        self._lines.flush()
+        self._copy_stores()
         seen = set()
         for name, number in roots:
             if (name, number) not in seen:
@@ -167,9 +181,20 @@ class DumpTrace:
                 self.trace.root(self._names.name_for(name), number)
         self._assert(progress)
         self.trace.collect()
-        self._write_lines()
+        self._lines.flush()
         self._whole.finish()
         progress.say("%d objects and %d roots in %s" % (self.trace.objects, len(seen), self._whole.path))
+
+    def _copy_stores(self) -> None:
+        try:
+            self._stores.flush()
+            self._waiting.seek(0)
+            text = self._waiting.read(1 << 20)
+            while text:
+                self._whole.write(text)
+                text = self._waiting.read(1 << 20)
+        except OSError as error:
+            raise self._whole.failed(error) from None
 
     def _assert(self, progress: Progress) -> None:
         wishes = self._wishes

@@ -75,9 +75,9 @@ def name_slots(report: str, trace: str) -> str:
     named = {}
     heap = _Labels(wanted)
     collection = 0
-    with open(trace, encoding="utf-8") as lines:
+    with open(trace, encoding="utf-8", newline="\n") as lines:
         for line in lines:
-            if heap.read(line):
+            if not line.isspace() and heap.read(line):
                 collection += 1
                 for shown in by_collection.get(collection, ())[1:]:
                     named[shown] = _name_line(shown, heap)
@@ -99,7 +99,8 @@ class _Labels:
         op = event["op"]
         if op == "store":
             if event["at"] in self._wanted:
-                self.labels[event["at"], event["slot"]] = event.get("label", "")
+                label = event.get("label")
+                self.labels[event["at"], event["slot"]] = label if isinstance(label, str) else ""
         elif op == "alloc":
             if event["id"] in self._wanted:
                 self.types[event["id"]] = event["type"]

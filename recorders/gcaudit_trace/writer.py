@@ -22,24 +22,35 @@ class WholeFile:
     """
 
     def __init__(self, path: str) -> None:
-        self.path = os.path.abspath(os.fspath(path))
-        folder, base = os.path.split(self.path)
+        self.path = os.path.abspath(os.fsdecode(path))
+        self._place = os.path.realpath(self.path)   # a link stays, and what it leads to is replaced
+        self.folder, base = os.path.split(self._place)
+        if os.path.exists(self._place) and not os.path.isfile(self._place):
+            raise TraceError("%s can't be written: something is there that is no plain file" % path)
         try:
-            handle, self._temporary = tempfile.mkstemp(prefix="." + base[:100] + ".", suffix=".part", dir=folder)
+            handle, self._temporary = tempfile.mkstemp(prefix="." + base[:60] + ".", suffix=".part", dir=self.folder)
         except OSError as error:
-            raise TraceError("%s can't be written: %s" % (path, error.strerror)) from None
+            raise self.failed(error) from None
         self._file = os.fdopen(handle, "w", encoding="utf-8", newline="\n", buffering=1 << 20)
-        self.write = self._file.write
+
+    def failed(self, error: OSError) -> TraceError:
+        return TraceError("%s can't be written: %s" % (self.path, error.strerror or error))
+
+    def write(self, text: str) -> None:
+        try:
+            self._file.write(text)
+        except OSError as error:
+            raise self.failed(error) from None
 
     def finish(self) -> None:
         """Everything was written: the file takes its name."""
         try:
             self._file.close()
             os.chmod(self._temporary, 0o666 & ~_umask())
-            os.replace(self._temporary, self.path)
+            os.replace(self._temporary, self._place)
         except OSError as error:
             self.give_up()
-            raise TraceError("%s can't be written: %s" % (self.path, error.strerror)) from None
+            raise self.failed(error) from None
 
     def give_up(self) -> None:
         """Leaves no file behind."""

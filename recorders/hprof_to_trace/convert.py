@@ -55,9 +55,13 @@ class Heap:
             if tag == PRIMITIVE_ARRAY:
                 primitive[number] = primitive.get(number, 0) + 1
                 continue
-            if not number:
+            if tag in ROOTS:
                 self.roots.append(self.dump.root(tag, place))
                 continue
+            if not number:
+                raise TraceError("%s is damaged: an object has the identifier 0" % self.dump.name)
+            if number in codes:
+                continue    # the same record again
             if tag == CLASS:
                 self.classes[number] = self.dump.class_dump(place)
             if keeps[class_id] if class_id in keeps else keeps_class(class_id):

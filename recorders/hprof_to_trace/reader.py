@@ -9,7 +9,7 @@ OBJECT = 2
 SIZES = {4: 1, 5: 2, 6: 4, 7: 8, 8: 1, 9: 2, 10: 4, 11: 8}
 PRIMITIVES = {4: "boolean", 5: "char", 6: "float", 7: "double", 8: "byte", 9: "short", 10: "int", 11: "long"}
 _STRING, _LOAD_CLASS, _FRAME, _STACK = 0x01, 0x02, 0x04, 0x05
-_HEAP = (0x0C, 0x1C)
+_HEAP, _HEAP_SEGMENT, _HEAP_END = 0x0C, 0x1C, 0x2C
 INSTANCE, OBJECT_ARRAY, PRIMITIVE_ARRAY, CLASS = 0x21, 0x22, 0x23, 0x20
 # What a root is called, and how many bytes stand behind its object: identifiers, and numbers of four bytes.
 ROOTS = {0xFF: ("unknown root", 0, 0), 0x01: ("JNI global", 1, 0), 0x02: ("JNI local", 0, 2), 0x03: ("frame", 0, 2),
@@ -61,7 +61,10 @@ class Dump:
         self._frames: Dict[int, Tuple[int, int, int]] = {}  # method, serial number of the class, line
         self._stacks: Dict[int, Tuple[int, ...]] = {}
         self._segments: List[Tuple[int, int]] = []
-        self._read_outer()
+        try:
+            self._read_outer()
+        except struct.error:
+            raise TraceError("%s is damaged: a record is too short for what stands in it" % self.name) from None
 
     def _cut(self) -> TraceError:
         return TraceError("%s is cut: its last record is not whole" % self.name)
@@ -69,7 +72,7 @@ class Dump:
     def _read_outer(self) -> None:
         """Steps over the outer records, and notes what the others need."""
         data, position, head = self.data, self._start, struct.Struct(">BII")
-        one_id = struct.Struct(">" + self.id_code)
+        one_id, lacks_end = struct.Struct(">" + self.id_code), False
         load, frame = struct.Struct(">I%sI%s" % ((self.id_code,) * 2)), struct.Struct(">%s%s%s%sIi" % ((self.id_code,) * 4))
         while position < self.size:
             if position + 9 > self.size:
@@ -90,10 +93,15 @@ class Dump:
             elif tag == _STACK:
                 serial, _, count = struct.unpack_from(">III", data, body)
                 self._stacks[serial] = struct.unpack_from(">%d%s" % (count, self.id_code), data, body + 12)
-            elif tag in _HEAP:
+            elif tag in (_HEAP, _HEAP_SEGMENT):
                 self._segments.append((body, position))
+                lacks_end = tag == _HEAP_SEGMENT
+            elif tag == _HEAP_END:
+                lacks_end = False
         if not self._segments:
             raise TraceError("%s has no heap in it" % self.name)
+        if lacks_end:
+            raise TraceError("%s is cut: the end of its heap is not in it" % self.name)
 
     def text(self, number: int) -> str:
         start, end = self._strings.get(number, (0, 0))
@@ -127,7 +135,7 @@ class Dump:
     def records(self, step: str) -> Iterator[Tuple[int, int, int, int]]:
         """Each record of the heap: its tag, the place of its first byte after the tag, its object, and its class.
 
-        Of an array of primitives the element's type stands in place of the object. Roots have neither.
+        Of an array of primitives the element's type stands in place of the object. Roots have zeros there.
         """
         data, id_size, code = self.data, self.id_size, self.id_code
         instance, array, of_primitives = (struct.Struct(form % ((code,) * 2)[:form.count("%")]) for form in (">%sI%sI", ">%sII%s", ">%sIIB"))
@@ -195,8 +203,10 @@ class Dump:
         count = u2.unpack_from(data, position)[0]
         position += 2
         for _ in range(count):
+            kind = data[position + id_size]
+            self._size_of(kind)     # refuses one that is not known
             if fields is not None:
-                fields.append((one_id.unpack_from(data, position)[0], data[position + id_size]))
+                fields.append((one_id.unpack_from(data, position)[0], kind))
             position += id_size + 1
         return position
 

@@ -3,7 +3,9 @@ import contextlib
 import io
 import json
 import os
+import resource
 import shutil
+import stat
 import struct
 import subprocess
 import sys
@@ -118,7 +120,29 @@ class DumpTests:
         self.refused([self.path("no such dump"), self.path("none.jsonl")])
         self.refused([self.folder, self.path("none.jsonl")])
         self.refused([self.leak, self.path("no/such/folder.jsonl")])
+        self.refused([self.leak, self.path("n" * 300)])
+        self.refused([self.leak, self.folder])
+        self.refused([self.leak, "/dev/null"])
+        self.refused([self.path("dump"), self.path("dump")])
         self.assertEqual(os.listdir(self.folder), ["dump"])
+        self.assertTrue(stat.S_ISCHR(os.stat("/dev/null").st_mode))
+
+    def test_a_full_disk(self):
+        def limit():
+            resource.setrlimit(resource.RLIMIT_FSIZE, (100000, 100000))
+        for name in ("none.jsonl", "é" * 120):
+            done = subprocess.run([sys.executable, "-B", "-m", type(self).convert.__module__, self.leak, self.path(name)], stderr=subprocess.PIPE,
+                                  env=dict(os.environ, PYTHONPATH=RECORDERS), preexec_fn=limit)
+            self.assertEqual((done.returncode, os.listdir(self.folder)), (2, []))
+            self.assertRegex(done.stderr.decode(), r"^(\w+: [^\n]+\n)*\w+: %s can't be written: File too large\n$" % self.path(name))
+
+    def test_a_link_stays(self):
+        os.mkdir(self.path("elsewhere"))
+        os.symlink(os.path.join("elsewhere", "real.jsonl"), self.path("trace.jsonl"))
+        self.trace_of(self.clean)
+        self.assertEqual(sorted(os.listdir(self.folder)), ["elsewhere", "trace.jsonl"])
+        self.assertTrue(os.path.islink(self.path("trace.jsonl")))
+        self.assertEqual(os.listdir(self.path("elsewhere")), ["real.jsonl"])
 
     def test_wrong_words_are_refused(self):
         for words in (["--limit", "A"], ["--limit", "A=x"], ["--owned-by", "A"], ["--dead", "A", "--only", "B"],
@@ -276,6 +300,43 @@ class WrittenDumps(InFolder):
         status, said = run(hprof_to_trace, self.path("dump"), self.path("none.jsonl"))
         self.assertEqual((status, os.listdir(self.folder)), (2, ["dump"]))
         self.assertIn("has a record in its heap that is not known (0x99 ", said)
+
+    def test_damaged_hprof(self):
+        def record(tag, body):
+            return struct.pack(">BII", tag, 0, len(body)) + body
+        whole = written_hprof("I", ["A", "B"])
+        field = struct.pack(">IHHH", 8, 0, 0, 1) + struct.pack(">I", 1)
+        for dump, why in ((whole.replace(field + b"\x02", field + b"\x63"), "is not known"),
+                          (whole.replace(b"\x21" + struct.pack(">I", 2000), b"\x21" + struct.pack(">I", 0)), "the identifier 0"),
+                          (whole.replace(b"\x21" + struct.pack(">III", 2000, 0, 1000), b"\x21" + struct.pack(">III", 2000, 0, 999)), "is not in it"),
+                          (whole + record(1, b"\0\0"), "a record is too short"),
+                          (whole + record(2, b"\0\0"), "a record is too short"),
+                          (whole + record(4, b"\0\0"), "a record is too short"),
+                          (whole + record(5, struct.pack(">III", 1, 0, 0xFFFFFFFF)), "a record is too short"),
+                          (whole[:-9], "is cut: the end of its heap"),
+                          (whole[:-1], "is cut: its last record")):
+            self.assertNotEqual(dump, whole)
+            with open(self.path("dump"), "wb") as file:
+                file.write(dump)
+            status, said = run(hprof_to_trace, self.path("dump"), self.path("none.jsonl"))
+            self.assertEqual((status, os.listdir(self.folder)), (2, ["dump"]), said)
+            self.assertRegex(said.splitlines()[-1], "^hprof_to_trace: .*%s" % why)
+
+    def test_an_object_that_is_there_twice(self):
+        whole = written_hprof("I", ["A", "B"])
+        first = b"\x21" + struct.pack(">IIIII", 2000, 0, 1000, 4, 2001)
+        head, heap = whole.split(struct.pack(">BI", 0x1C, 0), 1)
+        size = struct.unpack(">I", heap[:4])[0]
+        twice = head + struct.pack(">BII", 0x1C, 0, size + len(first)) + heap[4:].replace(first, first + first)
+        traces = []
+        for dump in (whole, twice):
+            with open(self.path("dump"), "wb") as file:
+                file.write(dump)
+            status, said = run(hprof_to_trace, self.path("dump"), self.path("trace.jsonl"))
+            self.assertEqual(status, 0, said)
+            traces.append(events(self.path("trace.jsonl")))
+        self.assertEqual(len(twice), len(whole) + len(first))
+        self.assertEqual(traces[0], traces[1])
 
     def test_snapshot_in_odd_pieces(self):
         from heapsnapshot_to_trace import reader

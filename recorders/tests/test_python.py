@@ -13,6 +13,7 @@ from tests.support import PROGRAM, RECORDERS, InFolder, events, needs_program, p
 from tests.programs import service
 
 from gcaudit_recorder import HeapViolation, Recorder, TraceError, audited
+from gcaudit_trace import audit
 
 
 class App:
@@ -457,6 +458,22 @@ class Traces(InFolder):
         self.assertRaises(TraceError, recorder.collect)
         self.assertRaises(TraceError, lambda: recorder.check("/no/such/gcaudit"))
         self.assertRaises(TraceError, lambda: Recorder(self.path("no/such/folder")))
+
+
+@needs_program
+class Naming(InFolder):
+    """The names in a report, of traces that no recorder wrote."""
+
+    def test_what_gcaudit_reads_is_named(self):
+        held = '{"op":"store","at":1,"slot":0,"to":2,%s}\n'
+        deep = '"other":' + "[" * 60 + "]" * 60
+        for line, step in ((held % '"label":".x"', " .x -> "), ("\n \t\n" + held % '"label":".x"', " .x -> "), (held % '"label":".x"\r', " .x -> "),
+                           (held % '"label":5', " [slot 0] -> "), (held % '"label":null', " [slot 0] -> "), (held % '"other":1', " [slot 0] -> "),
+                           (held % deep, " [slot 0] -> ")):
+            with open(self.path("trace.jsonl"), "w", newline="\n") as file:
+                file.write('{"op":"alloc","id":1,"type":"A","slots":1}\n{"op":"alloc","id":2,"type":"B","slots":0}\n' + line +
+                           '{"op":"root","name":"r","to":1}\n{"op":"assert-dead","id":2}\n{"op":"collect"}\n')
+            self.assertIn("gc 1 dead 2 B: root r -> 1 A%s2 B\n" % step, audit(self.path("trace.jsonl"), PROGRAM).named)
 
 
 # The test of the page gcaudit_recorder/README.md, with what it tests.
