@@ -4,7 +4,7 @@ ghost use Rattle.std.specs.List.{All};
 ghost use Rattle.heap_base.specs.declared.limits.TheConstants.{MOST_WORKERS};
 ghost use Rattle.crossbeam_utils.specs.Padded.{padded_value};
 ghost use Rattle.steal_pool.specs.Jobs.{AllFit};
-ghost use Rattle.steal_pool.specs.Needs.{CanRun};
+ghost use Rattle.steal_pool.specs.Needs.{CanRun, HasRun};
 ghost use Rattle.steal_pool.specs.Rests.{IsAtRest};
 ghost use Rattle.steal_pool.specs.Runs.{workers_of, room_of, fit_tasks, most_tasks, AreReady, ShareFit, HaveRoom, HaveTurns, TurnsLast, Run, HasNoTasks};
 
@@ -141,17 +141,12 @@ fn run_on<R: Threads + Sync, S: Sync, J: Job<S> + Send + Drop, G: Gate>(
     gate: &G,
 )
     requires { CanRun J.meaning shared.now (places.old, room) (jobs.old.items, first.now.lists) }
-    ensures ran { Run J.meaning shared.now first.now.lists jobs.old.items jobs.new.items }
-    ensures ready { AreReady J.meaning shared.now jobs.new.items }
-    ensures same_fit { ShareFit J.meaning shared.now (fit_tasks J.meaning shared.now jobs.old.items) jobs.new.items }
-    ensures turns { TurnsLast J.meaning (most_tasks J.meaning jobs.old.items first.now.lists) jobs.old.items jobs.new.items }
-    ensures count { length places.new ≡ length places.old }
-    ensures rest { All (λ p. IsAtRest (length places.old) room (padded_value p)) places.new }
+    ensures { HasRun J.meaning shared.now (places.old, room) (jobs.old.items, first.now.lists) (jobs.new.items, places.new) }
 {
+    let threads = threads_for(places.len(), room);
     seat_jobs(jobs, places);
     begin_all(places, shared, first, 0);
     lend_all(places);
-    let threads = threads_for(places.len(), room);
     run_all(rt, shared, places, threads, first.busy(), gate);
     take_back_all(places);
     finish_all(places, shared, gate);
