@@ -15,6 +15,7 @@ mod trail;
 
 pub use finding::finds;
 pub use level_table::Levels;
+pub use objects::{object_id, object_kind};
 pub use references::{owner_step, root_path};
 pub use searching::levels;
 pub use start::Start;

@@ -9,8 +9,8 @@ use graph_meaning::PathStep;
 use heap_base::{Name, OutOfMemory};
 use object_table::ObjectTable;
 
-/// The id of the object in a cell.
-pub(crate) fn object_id(table: &ObjectTable, cell: u32) -> u32
+/// The id of the object in a cell that holds one: what a trace calls it, whichever cell it stands in.
+pub fn object_id(table: &ObjectTable, cell: u32) -> u32
     requires { IsSome (id_in table.now cell) }
     ensures id { result ≡ id_at table.now.cells cell }
     ensures held { id_in table.now cell ≡ Some result }
@@ -21,8 +21,8 @@ pub(crate) fn object_id(table: &ObjectTable, cell: u32) -> u32
     }
 }
 
-/// The name of the type of the object in a cell.
-pub(crate) fn object_kind(table: &ObjectTable, cell: u32) -> Result<Name, OutOfMemory>
+/// The name of the type of the object in a cell that holds one, as a copy.
+pub fn object_kind(table: &ObjectTable, cell: u32) -> Result<Name, OutOfMemory>
     requires { IsSome (id_in table.now cell) }
     ensures { IfOk result (λ kind. kind ≡ kind_at table.now.table (id_at table.now.cells cell)) }
 {

@@ -7,12 +7,12 @@ ghost use Rattle.object_table.specs.Placed.{id_in};
 ghost use Rattle.object_paths.specs.PlainPaths.{ArePlainLevels};
 ghost use Rattle.verdicts.specs.Listed.{verdict_if, GoesOn, ShowsPaths};
 
-use crate::objects::{object_id, object_kind};
 use crate::shown::plain_path;
 use graph_meaning::{Verdict, VerdictList};
 use heap_base::OutOfMemory;
 use object_paths::PlainLevels;
 use object_table::ObjectTable;
+use path_cert::{object_id, object_kind};
 
 // The verdict on the object in a cell.
 fn dead_verdict(

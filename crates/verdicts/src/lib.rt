@@ -4,7 +4,6 @@
 mod dead;
 mod instances;
 mod listing;
-mod objects;
 mod over_limit;
 mod ownees;
 mod past_limit;

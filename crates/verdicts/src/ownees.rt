@@ -11,12 +11,12 @@ ghost use Rattle.assert_registry.specs.Laws.{StandFor};
 ghost use Rattle.ownership_check.specs.Ownership.{AreViolating};
 ghost use Rattle.verdicts.specs.Listed.{path_if, verdict_if, owned_pair, GoesOn};
 
-use crate::objects::{object_id, object_kind};
 use crate::shown::shown;
 use graph_meaning::{OwnerRole, Roles, Shown, Verdict, VerdictList};
 use heap_base::OutOfMemory;
 use object_table::ObjectTable;
 use ownership_check::OwnershipCheck;
+use path_cert::{object_id, object_kind};
 
 // The owner of an ownee: its id, and whether it was freed.
 #[derive(Clone, Copy)]

@@ -12,12 +12,12 @@ ghost use Rattle.reference_search.specs.References.{RefersTo, IsReference, AreFi
 ghost use Rattle.verdicts.specs.Verdicts.{counted_in};
 ghost use Rattle.verdicts.specs.Listed.{path_if, verdict_if, GoesOn, ShowsPaths, AreFirstOf};
 
-use crate::objects::{object_id, object_kind};
 use graph_meaning::{Shown, Verdict, VerdictList};
 use heap_base::OutOfMemory;
 use heap_trace::Traced;
 use object_paths::PlainLevels;
 use object_table::ObjectTable;
+use path_cert::{object_id, object_kind};
 use reference_search::{CellReference, FirstReferences};
 
 // The path by a reference, if there is one, as a verdict shows it. The levels are there then.
