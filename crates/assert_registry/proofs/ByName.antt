@@ -22,7 +22,8 @@ use Rattle.assert_registry.specs.Laws.{NewTypeHasNoLimit, RoomChangesNoLimit, Li
 
 -- ---- names
 
-name-itself : (name : List ℕ) → is_at (name_cmp name) name ≡ true
+-- a name is found at itself
+pub name-itself : (name : List ℕ) → is_at (name_cmp name) name ≡ true
 name-itself name = (Equal-is (name_cmp name name)).1 (go (name_cmp name name) (nat_list_cmp_total.antisymm name name))
   where
     go : (o : Ordering) → o ≡ ordering_reverse o → o ≡ Equal
@@ -30,20 +31,23 @@ name-itself name = (Equal-is (name_cmp name name)).1 (go (name_cmp name name) (n
     go Equal e = refl
     go Greater e = cc
 
-name-same : (name other : List ℕ) → is_at (name_cmp name) other ≡ true → name ≡ other
+-- a name is found at no other
+pub name-same : (name other : List ℕ) → is_at (name_cmp name) other ≡ true → name ≡ other
 name-same name other at = exact_bytes name other ((Equal-is (name_cmp name other)).0 at)
 
-cond_twice : {X : Type 0} (b : Bool) (v w : X) (rest : Option X) → cond b (Some v) rest ≡ cond b (Some v) (cond b (Some w) rest)
+-- of two values under one test the first counts
+pub cond_twice : {X : Type 0} (b : Bool) (v w : X) (rest : Option X) → cond b (Some v) rest ≡ cond b (Some v) (cond b (Some w) rest)
 cond_twice true v w rest = refl
 cond_twice false v w rest = refl
 
-cond_swapped : {X : Type 0} (b c : Bool) (v w : X) (rest : Option X) → (b ≡ true → c ≡ true → ⊥) → cond b (Some w) (cond c (Some v) rest) ≡ cond c (Some v) (cond b (Some w) rest)
+-- two tests of which one at most passes may be made in either order
+pub cond_swapped : {X : Type 0} (b c : Bool) (v w : X) (rest : Option X) → (b ≡ true → c ≡ true → ⊥) → cond b (Some w) (cond c (Some v) rest) ≡ cond c (Some v) (cond b (Some w) rest)
 cond_swapped true true v w rest apart = absurd (apart refl refl)
 cond_swapped true false v w rest apart = refl
 cond_swapped false c v w rest apart = refl
 
 -- what a name has after another, or itself, was given a limit
-lookup-insert_entry : (named : List (List ℕ × ℕ)) (kind name : List ℕ) (limit : ℕ) → lookup (is_at (name_cmp name)) (insert_entry name_cmp named kind limit) ≡ cond (is_at (name_cmp name) kind) (Some limit) (lookup (is_at (name_cmp name)) named)
+pub lookup-insert_entry : (named : List (List ℕ × ℕ)) (kind name : List ℕ) (limit : ℕ) → lookup (is_at (name_cmp name)) (insert_entry name_cmp named kind limit) ≡ cond (is_at (name_cmp name) kind) (Some limit) (lookup (is_at (name_cmp name)) named)
 lookup-insert_entry [] kind name limit = refl
 lookup-insert_entry (e ∷ named) kind name limit =
     go (name_cmp kind e.0) refl (lookup-insert_entry named kind name limit)
@@ -65,7 +69,7 @@ lookup-insert_entry (e ∷ named) kind name limit =
 -- ---- limits
 
 -- a type past those that were seen has no limit
-no_limit : (numbered : List (Option ℕ)) (kinds : List (List ℕ)) → AreOfSeenTypes numbered kinds → limit_of numbered (length kinds) ≡ None
+pub no_limit : (numbered : List (Option ℕ)) (kinds : List (List ℕ)) → AreOfSeenTypes numbered kinds → limit_of numbered (length kinds) ≡ None
 no_limit numbered kinds seen = go (limit_of numbered (length kinds)) (seen (length kinds))
   where
     go : (o : Option ℕ) → (IsSome o → length kinds < length kinds) → o ≡ None

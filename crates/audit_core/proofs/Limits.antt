@@ -1,12 +1,12 @@
 -- The limits of types by name, where they are given by number.
-use Rattle.std.proofs.Common.{◌≡◌, ℕ, zero, suc, ◌-◌, ◌<◌, ◌≤◌, Bool, true, false, cond, List, [], ◌∷◌, ◌++◌, length, replicate, Option, None, Some, sym, ap, refl, subst, ⊎_elim, ◌∙◌, arith, slice_set}
+use Rattle.std.proofs.Common.{◌≡◌, ℕ, zero, suc, ◌-◌, ◌<◌, Bool, true, false, cond, List, [], ◌∷◌, ◌++◌, length, replicate, Option, None, Some, sym, ap, refl, subst, ⊎_elim, ◌∙◌, arith, slice_set}
 use Rattle.std.specs.BTreeMap.{insert_entry, is_at}
-use Rattle.std.specs.Cmp.{Equal-is, eq_by_cmp_equiv}
+use Rattle.std.specs.Cmp.{eq_by_cmp_equiv}
 use Rattle.std.specs.List.{position, IsDistinct}
 use Rattle.std.specs.List.Sorted.{IsStrictlySortedBy}
 use Rattle.std.specs.Map.{keys_of, lookup}
-use Rattle.std.specs.Option.{IsSome, is_some, option_and_then, option_map}
-use Rattle.std.specs.Ordering.{match_ordering, ordering_reverse}
+use Rattle.std.specs.Option.{option_and_then, option_map}
+use Rattle.std.specs.Ordering.{ordering_reverse}
 use Rattle.std.specs.Str.{bytes_eq}
 use Rattle.std.specs.declared.cmp.Ordering.{Ordering}
 use Rattle.std.specs.declared.cmp.Ordering.TheVariants.{Less, Equal, Greater}
@@ -24,20 +24,10 @@ use Rattle.graph_meaning.specs.Step.{with_kind}
 use Rattle.graph_meaning.proofs.Orders.{sorted-insert_entry}
 use Rattle.assert_registry.specs.Assertions.{AreOfSeenTypes, limit_of, with_room}
 use Rattle.assert_registry.specs.Laws.{LimitsAgree}
+use Rattle.assert_registry.proofs.ByName.{name-itself, name-same, cond_twice, cond_swapped, lookup-insert_entry, no_limit}
 use Rattle.audit_core.specs.Parts.{named_limits}
 
--- ---- look-ups by name
-
-name-itself : (name : List ℕ) → is_at (name_cmp name) name ≡ true
-name-itself name = (Equal-is (name_cmp name name)).1 (go (name_cmp name name) (nat_list_cmp_total.antisymm name name))
-  where
-    go : (o : Ordering) → o ≡ ordering_reverse o → o ≡ Equal
-    go Less e = cc
-    go Equal e = refl
-    go Greater e = cc
-
-name-same : (name other : List ℕ) → is_at (name_cmp name) other ≡ true → name ≡ other
-name-same name other at = exact_bytes name other ((Equal-is (name_cmp name other)).0 at)
+-- ---- two tests of names
 
 bytes-itself : (name : List ℕ) → bytes_eq name name ≡ true
 bytes-itself name = (bytes_eq-Decides name name).1 refl
@@ -53,35 +43,6 @@ same_test name other = go (is_at (name_cmp name) other) refl (bytes_eq name othe
         absurd (false≢true (sym eq ∙ ap (bytes_eq name) (sym (name-same name other is)) ∙ bytes-itself name))
     go false is true eq =
         absurd (false≢true (sym is ∙ ap (is_at (name_cmp name)) (sym ((bytes_eq-Decides name other).0 eq)) ∙ name-itself name))
-
-cond_twice : {X : Type 0} (b : Bool) (v w : X) (rest : Option X) → cond b (Some v) rest ≡ cond b (Some v) (cond b (Some w) rest)
-cond_twice true v w rest = refl
-cond_twice false v w rest = refl
-
-cond_swapped : {X : Type 0} (b c : Bool) (v w : X) (rest : Option X) → (b ≡ true → c ≡ true → ⊥) → cond b (Some w) (cond c (Some v) rest) ≡ cond c (Some v) (cond b (Some w) rest)
-cond_swapped true true v w rest apart = absurd (apart refl refl)
-cond_swapped true false v w rest apart = refl
-cond_swapped false c v w rest apart = refl
-
--- what a name has after another, or itself, was given a limit
-lookup-insert_entry : (named : List (List ℕ × ℕ)) (kind name : List ℕ) (limit : ℕ) → lookup (is_at (name_cmp name)) (insert_entry name_cmp named kind limit) ≡ cond (is_at (name_cmp name) kind) (Some limit) (lookup (is_at (name_cmp name)) named)
-lookup-insert_entry [] kind name limit = refl
-lookup-insert_entry (e ∷ named) kind name limit =
-    go (name_cmp kind e.0) refl (lookup-insert_entry named kind name limit)
-  where
-    go : (c : Ordering) → name_cmp kind e.0 ≡ c → lookup (is_at (name_cmp name)) (insert_entry name_cmp named kind limit) ≡ cond (is_at (name_cmp name) kind) (Some limit) (lookup (is_at (name_cmp name)) named) → lookup (is_at (name_cmp name)) (match_ordering c ((kind, limit) ∷ e ∷ named) ((e.0, limit) ∷ named) (e ∷ insert_entry name_cmp named kind limit)) ≡ cond (is_at (name_cmp name) kind) (Some limit) (lookup (is_at (name_cmp name)) (e ∷ named))
-    go Less is rest = refl
-    go Equal is rest =
-        let same : kind ≡ e.0 = exact_bytes kind e.0 is in
-        subst (λ (x : List ℕ). cond (is_at (name_cmp name) e.0) (Some limit) (lookup (is_at (name_cmp name)) named) ≡ cond (is_at (name_cmp name) x) (Some limit) (lookup (is_at (name_cmp name)) (e ∷ named))) (sym same)
-        (cond_twice (is_at (name_cmp name) e.0) limit e.1 (lookup (is_at (name_cmp name)) named))
-    go Greater is rest =
-        ap (λ found. cond (is_at (name_cmp name) e.0) (Some e.1) found) rest
-        ∙ cond_swapped (is_at (name_cmp name) e.0) (is_at (name_cmp name) kind) limit e.1 (lookup (is_at (name_cmp name)) named)
-        (λ first later.
-        let same : kind ≡ e.0 = sym (name-same name kind later) ∙ name-same name e.0 first in
-        let equal : name_cmp kind e.0 ≡ Equal = (Equal-is (name_cmp kind e.0)).0 (ap (is_at (name_cmp kind)) (sym same) ∙ name-itself kind) in
-        cc)
 
 -- ---- entries in order are told apart by what look-ups find in them
 
@@ -193,14 +154,6 @@ named-pushed [] kind (Some limit ∷ limits) none = cc
 named-pushed (k ∷ kinds) kind [] none = refl
 named-pushed (k ∷ kinds) kind (None ∷ limits) none = named-pushed kinds kind limits none
 named-pushed (k ∷ kinds) kind (Some limit ∷ limits) none = ap (λ named. insert_entry name_cmp named k limit) (named-pushed kinds kind limits none)
-
--- a type past those that were seen has no limit
-no_limit : (limits : List (Option ℕ)) (kinds : List (List ℕ)) → AreOfSeenTypes limits kinds → limit_of limits (length kinds) ≡ None
-no_limit limits kinds seen = go (limit_of limits (length kinds)) (seen (length kinds))
-  where
-    go : (o : Option ℕ) → (IsSome o → length kinds < length kinds) → o ≡ None
-    go None seen = refl
-    go (Some limit) seen = let less : length kinds < length kinds = seen refl in absurd (omega arith)
 
 -- a type that was just seen has no limit
 pub named-with_kind : (kinds : List (List ℕ)) (kind : List ℕ) (limits : List (Option ℕ)) → AreOfSeenTypes limits kinds → named_limits (with_kind kinds kind) limits ≡ named_limits kinds limits
