@@ -1,5 +1,5 @@
 -- What is cut off by force after a sweep.
-use Rattle.std.proofs.Common.{◌≡◌, ℕ, ◌<◌, Bool, true, false, ◌&&◌, cond, List, [], ◌∷◌, length, map, get_or, Option, None, Some, IsTrue, sym, ap, refl, subst, ◌∙◌, arith}
+use Rattle.std.proofs.Common.{◌≡◌, ℕ, ◌<◌, Bool, true, false, ◌&&◌, cond, List, [], ◌∷◌, length, get_or, Option, None, Some, sym, ap, refl, subst, ◌∙◌, arith}
 use Rattle.std.specs.Prelude.{sum_by}
 use Rattle.std.specs.Cmp.{both_ways}
 use Rattle.std.specs.List.{count_by}
@@ -25,7 +25,7 @@ use Rattle.heap_trace.specs.Results.{TraceResult}
 use Rattle.heap_trace.specs.Traces.{IsTraceOf}
 use Rattle.sweep.specs.Parts.{Parts, ArePartsOf, AreTraced, SweepsHeap, assertions_on}
 use Rattle.audit_core.specs.Audit.{rules_of}
-use Rattle.reference_search.proofs.Edges.{held-within}
+use Rattle.object_table.proofs.ObjectsByCell.{held-within}
 use Rattle.audit_core.specs.Parts.{AreDeadAndTraced, AreParts, IsWellFormed, PlacedHeap, dead_below, heap_of, placed_heap, placed_in, named_limits}
 use Rattle.audit_core.proofs.Stepping.{well_formed-collection}
 use Rattle.audit_core.proofs.Swept.{has_id-kept_ids, kept_ids-cell, are_traced, traced_closed, parts_of_heap, heap_left, seen_left}

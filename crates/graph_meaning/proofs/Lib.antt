@@ -3,6 +3,7 @@ pub mod Computed
 pub mod Counting
 pub mod Distances
 pub mod Edges
+pub mod EdgesOfSlots
 pub mod Flags
 pub mod HeapLemmas
 pub mod Keeping

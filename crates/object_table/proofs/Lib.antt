@@ -8,6 +8,7 @@ pub mod Laid
 pub mod Lookups
 pub mod Named
 pub mod Numbering
+pub mod ObjectsByCell
 pub mod Paging
 pub mod Parted
 pub mod Parts

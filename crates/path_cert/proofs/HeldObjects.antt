@@ -1,28 +1,17 @@
 -- The object in a cell, its id and its type.
-use Rattle.std.proofs.Common.{◌≡◌, ℕ, ◌<◌, true, ⊎_elim, List, [], length, get_or, sym, refl, ap, ◌∙◌, subst, arith, Option, None, Some, IsTrue}
-use Rattle.std.specs.Prelude.{IsSome, unwrap_or}
+use Rattle.std.proofs.Common.{◌≡◌, ℕ, ◌<◌, true, List, [], length, get_or, sym, refl, ap, ◌∙◌, subst, arith, Option, None, Some, IsTrue}
+use Rattle.std.specs.Prelude.{IsSome}
 use Rattle.std.specs.List.{position, slice_get}
 use Rattle.std.specs.Option.{IfSome, is_some, option_and_then, option_map_or}
 use Rattle.std.specs.Str.{bytes_eq}
-use Rattle.std.proofs.lemmas.Bool.{false≢true, cases_lt}
-use Rattle.std.proofs.lemmas.List.{get_or_past}
+use Rattle.std.proofs.lemmas.Bool.{false≢true}
 use Rattle.std.proofs.lemmas.List.Quantifiers.{position-Some}
 use Rattle.std.proofs.lemmas.Option.{get_or_from_slice_get}
 use Rattle.std.proofs.lemmas.Slice.Eq.{bytes_eq-Decides}
 use Rattle.graph_meaning.specs.Heap.{Object, object_at, kind_at}
 use Rattle.graph_meaning.specs.Roles.{id_at}
 use Rattle.object_table.specs.Placed.{Placed, id_in, object_in, slots_in, IsPlaced}
-
--- a cell that holds an object holds the one with the cell's id
-pub held-id : (p : Placed) (cell : ℕ) → IsSome (id_in p cell) → id_in p cell ≡ Some (id_at p.cells cell)
-held-id p cell held = go (id_in p cell) held
-  where
-    go : (o : Option ℕ) → IsSome o → o ≡ Some (unwrap_or o 0)
-    go None held = absurd (false≢true held)
-    go (Some id) held = refl
-
-pub id-held : (p : Placed) (cell id : ℕ) → id_in p cell ≡ Some id → id_at p.cells cell ≡ id
-id-held p cell id held = ap (λ o. unwrap_or o 0) held
+pub use Rattle.object_table.proofs.ObjectsByCell.{held-id, id-held, held-within}
 
 -- the number of a type is below the number of types, and its name is the type's
 pub kind_named : (kinds : List (List ℕ)) (kind name : List ℕ) (n : ℕ) → position (bytes_eq kind) kinds ≡ Some n → slice_get kinds n ≡ Some name → name ≡ kind
@@ -51,14 +40,6 @@ module _ (p : Placed) (placed : IsPlaced p) (cell n : ℕ) (held : IsSome (id_in
   pub kind-is : (name : List ℕ) → slice_get p.table.kinds n ≡ Some name → name ≡ kind_at p.table id
   kind-is name is =
       kind_named p.table.kinds there.0.kind name n numbered is ∙ sym (ap (λ o. option_map_or (λ (x : Object). x.kind) o []) there.1)
-
--- a cell that holds an object is one of the table's
-pub held-within : (p : Placed) (cell id : ℕ) → id_in p cell ≡ Some id → cell < length p.cells
-held-within p cell id held =
-    ⊎_elim
-    (λ less. less)
-    (λ past. absurd (let none : None ≡ Some id = sym (get_or_past p.cells cell None past) ∙ held in cc))
-    (cases_lt cell (length p.cells))
 
 -- a cell with a slot holds an object
 pub held-from_edge : (p : Placed) (cell slot : ℕ) → slot < length (slots_in p cell) → IsSome (id_in p cell)

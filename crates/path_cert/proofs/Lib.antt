@@ -1,6 +1,5 @@
 pub mod HeldObjects
 pub mod ShownSteps
-pub mod EdgesByCell
 pub mod Growing
 pub mod NextLevel
 pub mod Rounds

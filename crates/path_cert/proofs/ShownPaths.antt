@@ -21,7 +21,7 @@ use Rattle.path_cert.specs.declared.start.Start.TheVariants.{Roots, Owners}
 use Rattle.path_cert.specs.Levels.{Search, LevelTable, arrival_in, way_in, AreLevelsOf}
 use Rattle.path_cert.specs.Steps.{way_by_slot}
 use Rattle.path_cert.specs.Trails.{path_steps}
-use Rattle.path_cert.proofs.EdgesByCell.{edge_at-cell}
+use Rattle.object_table.proofs.ObjectsByCell.{edge_at-cell}
 use Rattle.path_cert.proofs.HeldObjects.{held-id}
 use Rattle.path_cert.proofs.Walking.{IsLevelOf, IsWayOf, LeadsHere, root-back, steps-back, way-there}
 

@@ -1,4 +1,3 @@
 pub mod Places
-pub mod Edges
 pub mod Listing
 pub mod Puts

@@ -10,7 +10,7 @@ use Rattle.graph_meaning.specs.Roles.{id_at}
 use Rattle.object_table.specs.Placed.{Placed, id_in, IsPlaced}
 use Rattle.reference_search.specs.declared.cell_reference.FirstReferences.{FirstReferences}
 use Rattle.reference_search.specs.Prefixes.{Finding, FindsFirst, StartList, IsOneMore}
-use Rattle.reference_search.proofs.Edges.{held-id, id-held}
+use Rattle.object_table.proofs.ObjectsByCell.{held-id, id-held}
 
 -- a list of another object
 list-other : (id x : ℕ) (r : Reference) (before after : ℕ → List Reference) → IsOneMore id r before after → id ≢ x → before x ≡ after x

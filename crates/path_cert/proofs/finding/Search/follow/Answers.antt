@@ -6,7 +6,8 @@ use Rattle.graph_meaning.specs.Roles.{id_at}
 use Rattle.object_table.specs.Placed.{id_in, slots_in, slot_in}
 use Rattle.path_cert.specs.Quests.{Reaches, remaining}
 use Rattle.path_cert.specs.Searches.{sought_in}
-use Rattle.path_cert.proofs.EdgesByCell.{edges-cell, edges-edge, edges-none, edges-all, target-held, no-edge}
+use Rattle.graph_meaning.proofs.EdgesOfSlots.{edges-edge, edges-none, edges-all}
+use Rattle.object_table.proofs.ObjectsByCell.{edges-cell, target-held, no-edge}
 use Rattle.path_cert.proofs.HeldObjects.{held-id}
 use Rattle.path_cert.proofs.QuestSteps.{Reaches-more}
 use Rattle.path_cert.proofs.finding.Search.follow.Goals as goal
@@ -45,5 +46,5 @@ pub returns-clause-reaches : goal.returns-clause-reaches
 returns-clause-reaches c =
     let p = c.args.table.now in
     let slots = slots_in c.args.table.now c.args.cell in
-    let all = edges-all slots c.loop-slot.slot (omega arith) (omega arith) ∙ sym (edges-cell p c.args.cell (id_at p.cells c.args.cell) (held-id p c.args.cell c.requires.cell)) in
+    let all = edges-all slots c.loop-slot.slot (omega arith) ∙ sym (edges-cell p c.args.cell (id_at p.cells c.args.cell) (held-id p c.args.cell c.requires.cell)) in
     subst (λ (es : List (ℕ × ℕ)). Reaches p c.args.roles.now (map (λ e. e.1) es) (sought_in c.args.self.now) (sought_in c.loop-slot.self)) all c.loop-slot.invariant.reaches

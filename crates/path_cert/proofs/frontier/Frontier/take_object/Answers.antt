@@ -6,7 +6,8 @@ use Rattle.object_table.specs.Placed.{slots_in, slot_in}
 use Rattle.path_cert.specs.Frontiers.{Round, by_edges}
 use Rattle.path_cert.specs.Levels.{arrival_in}
 use Rattle.path_cert.specs.Fronts.{front_of}
-use Rattle.path_cert.proofs.EdgesByCell.{edges-cell, edges-edge, edges-none, edges-all, target-held, no-edge}
+use Rattle.graph_meaning.proofs.EdgesOfSlots.{edges-edge, edges-none, edges-all}
+use Rattle.object_table.proofs.ObjectsByCell.{edges-cell, target-held, no-edge}
 use Rattle.path_cert.proofs.Growing.{Grows-trans}
 use Rattle.path_cert.proofs.HeldObjects.{held-id, held-within}
 use Rattle.path_cert.proofs.NextLevel.{AreBy, next, next-grows, next-under_way, next-by}
@@ -61,5 +62,5 @@ returns-clause-arrivals c to id at_to =
     let slots = slots_in c.args.table.now c.args.cell in
     let r : Round = record { placed = c.args.table.now; shut = []; level = c.args.level } in
     let known = arrival_in c.args.self.now.arrivals.items to in
-    let all = edges-all slots c.loop-slot.slot (omega arith) (omega arith) ∙ sym (edges-cell p c.args.cell (id_at p.cells c.args.cell) (held-id p c.args.cell c.requires.cell)) in
+    let all = edges-all slots c.loop-slot.slot (omega arith) ∙ sym (edges-cell p c.args.cell (id_at p.cells c.args.cell) (held-id p c.args.cell c.requires.cell)) in
     c.loop-slot.invariant.arrivals to id at_to ∙ ap (λ es. by_edges r c.args.cell es known id) all

@@ -10,7 +10,8 @@ use Rattle.path_cert.specs.declared.start.Start.TheVariants.{Owners}
 use Rattle.path_cert.specs.declared.arrival.Arrival.{Arrival}
 use Rattle.path_cert.specs.Frontiers.{HasTaken}
 use Rattle.path_cert.specs.Fronts.{front_of}
-use Rattle.path_cert.proofs.EdgesByCell.{edge_at-cell, edges-cell, edges-edge, edges-none, edges-all, target-held, no-edge}
+use Rattle.graph_meaning.proofs.EdgesOfSlots.{edges-edge, edges-none, edges-all}
+use Rattle.object_table.proofs.ObjectsByCell.{edge_at-cell, edges-cell, target-held, no-edge}
 use Rattle.path_cert.proofs.FirstLevel.{next_first, first-taken, grows-first, ways_by, ways_by-more, ways_by-all}
 use Rattle.path_cert.proofs.Growing.{Grows-refl, Grows-trans}
 use Rattle.path_cert.proofs.HeldObjects.{held-id, held-within}
@@ -77,5 +78,5 @@ returns-clause-taken c ways begun =
     let t = c.args.table.now.table in
     let slots = slots_in c.args.table.now c.args.owner in
     let o = id_at c.args.table.now.cells c.args.owner in
-    let all = edges-all slots c.loop-slot.slot (omega arith) (omega arith) ∙ sym (edges-cell p c.args.owner o (held-id p c.args.owner c.requires.owner)) in
+    let all = edges-all slots c.loop-slot.slot (omega arith) ∙ sym (edges-cell p c.args.owner o (held-id p c.args.owner c.requires.owner)) in
     subst (λ vs. HasTaken p Owners vs (front_of c.loop-slot.self)) (ap (λ es. ways ++ ways_by t o es) all ∙ ways_by-all t o ways) (c.loop-slot.invariant.taken ways begun)

@@ -1,4 +1,4 @@
-use Rattle.std.proofs.Common.{◌≡◌, ◌<◌, ◌++◌, [], ℕ, length, filter, take, get_or, Some, sym, ap, subst, refl, ◌∙◌, arith, append-nil}
+use Rattle.std.proofs.Common.{◌≡◌, ◌<◌, ◌++◌, [], ℕ, length, filter, take, take_all, get_or, Some, sym, ap, subst, refl, ◌∙◌, arith, append-nil}
 use Rattle.std.specs.Prelude.{IsSome}
 use Rattle.std.specs.List.{flat_map, slice_get}
 use Rattle.std.proofs.lemmas.List.{length-map}
@@ -8,7 +8,7 @@ use Rattle.graph_meaning.specs.Heap.{Object, ids}
 use Rattle.graph_meaning.specs.Roles.{id_at}
 use Rattle.object_table.specs.Placed.{Placed, id_in}
 use Rattle.reference_search.specs.Findings.{finding_in}
-use Rattle.reference_search.proofs.Edges.{id-held, held-within, take-all}
+use Rattle.object_table.proofs.ObjectsByCell.{id-held, held-within}
 use Rattle.reference_search.proofs.Listing.{finds-same, scanned-next, scanned-passed}
 use Rattle.reference_search.proofs.search.Search.take_objects.Goals as goal
 use Rattle.reference_search.proofs.search.Search.take_objects.Goals.{then-is_scanned, else-is_scanned}
@@ -88,5 +88,5 @@ returns-clause-finds c asked before is_scanned said begun =
     let p = c.args.table.now in
     let t = c.args.table.now.table in
     let many = length-map t.objects (λ (o : Object). o.id) in
-    let all = take-all (ids t) c.loop-number.number (omega arith) (omega arith) in
+    let all = take_all c.loop-number.number (ids t) (omega arith) in
     finds-same p asked (λ id. before id ++ flat_map (slots_to t id) (filter is_scanned (take c.loop-number.number (ids t)))) _ (finding_in c.loop-number.self) (λ id. ap (λ xs. before id ++ flat_map (slots_to t id) (filter is_scanned xs)) all) (c.loop-number.invariant.finds asked before is_scanned said begun)

@@ -1,4 +1,4 @@
-use Rattle.std.proofs.Common.{◌≡◌, ◌<◌, ◌+◌, [], ℕ, List, length, take, get_or, Some, sym, ap, subst, ◌∙◌, arith}
+use Rattle.std.proofs.Common.{◌≡◌, ◌<◌, ◌+◌, [], ℕ, List, length, take, take_all, get_or, Some, sym, ap, subst, ◌∙◌, arith}
 use Rattle.std.specs.List.{slice_get}
 use Rattle.std.specs.Option.{IfSome, option_map}
 use Rattle.std.proofs.lemmas.List.{take_more}
@@ -7,7 +7,6 @@ use Rattle.graph_meaning.specs.Assertions.{by_root}
 use Rattle.object_table.specs.Placed.{id_in}
 use Rattle.reference_search.specs.Findings.{finding_in}
 use Rattle.reference_search.specs.Prefixes.{FindsFirst, IsOneMore}
-use Rattle.reference_search.proofs.Edges.{take-all}
 use Rattle.reference_search.proofs.Listing.{by_roots, one_more}
 use Rattle.reference_search.proofs.search.Search.take_roots.Goals as goal
 
@@ -30,5 +29,5 @@ loop-root-preserved c =
 pub returns-clause-finds : goal.returns-clause-finds
 returns-clause-finds c asked begun =
     let roots = c.args.table.now.table.roots in
-    let all = take-all roots c.loop-root.root (omega arith) (omega arith) in
+    let all = take_all c.loop-root.root roots (omega arith) in
     subst (λ rs. FindsFirst c.args.table.now asked (by_roots rs) (finding_in c.loop-root.self)) all (c.loop-root.invariant.finds asked begun)

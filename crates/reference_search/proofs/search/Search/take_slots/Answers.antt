@@ -6,7 +6,8 @@ use Rattle.graph_meaning.specs.Roles.{id_at}
 use Rattle.object_table.specs.Placed.{slots_in, slot_in}
 use Rattle.reference_search.specs.Findings.{finding_in}
 use Rattle.reference_search.specs.Prefixes.{IsOneMore}
-use Rattle.reference_search.proofs.Edges.{held-id, edges-cell, edges-edge, edges-none, take-all, target-held, no-edge}
+use Rattle.graph_meaning.proofs.EdgesOfSlots.{edges-edge, edges-none, edges-all}
+use Rattle.object_table.proofs.ObjectsByCell.{held-id, edges-cell, target-held, no-edge}
 use Rattle.reference_search.proofs.Listing.{by_edges, one_more, one_more-after, finds-same}
 use Rattle.reference_search.proofs.search.Search.take_slots.Goals as goal
 use Rattle.reference_search.proofs.search.Search.take_slots.Goals.{in-Some, in_default}
@@ -53,5 +54,5 @@ returns-clause-finds c asked before begun =
     let p = c.args.table.now in
     let slots = slots_in c.args.table.now c.args.holder in
     let holder = id_at c.args.table.now.cells c.args.holder in
-    let all = ap edges_of (take-all slots c.loop-slot.slot (omega arith) (omega arith)) ∙ sym (edges-cell p c.args.holder holder (held-id p c.args.holder c.requires.holder)) in
+    let all = edges-all slots c.loop-slot.slot (omega arith) ∙ sym (edges-cell p c.args.holder holder (held-id p c.args.holder c.requires.holder)) in
     finds-same p asked (λ id. before id ++ by_edges holder (edges_of (take c.loop-slot.slot slots)) id) _ (finding_in c.loop-slot.self) (λ id. ap (λ xs. before id ++ by_edges holder xs id) all) (c.loop-slot.invariant.finds asked before begun)
