@@ -8,7 +8,7 @@ use Rattle.std.specs.Map.{keys_of, values_of}
 use Rattle.std.specs.Option.{is_some, option_and_then, option_map_or}
 use Rattle.std.specs.Ordering.{nat_cmp}
 use Rattle.std.specs.Str.{bytes_eq}
-use Rattle.std.proofs.lemmas.Bool.{false≢true, and_from}
+use Rattle.std.proofs.lemmas.Bool.{false≢true, and_from, and_parts}
 use Rattle.std.proofs.lemmas.Bool.Decides.{nat_tests}
 use Rattle.std.proofs.lemmas.Map.Made.{is_some-lookup}
 use Rattle.std.proofs.lemmas.Option.{get_or_from_slice_get, slice_get_within}
@@ -23,7 +23,7 @@ use Rattle.object_table.proofs.Positions.{position_distinct}
 use Rattle.assert_registry.specs.Assertions.{Assertions, limit_of, owner_of}
 use Rattle.assert_registry.specs.ByCell.{AreRolesBy, IsRoleBy, holds_one_of, owner_at, live_owners}
 use Rattle.assert_registry.specs.Laws.{StandFor, RolesStandForHeap, RolesSayOfHeap}
-use Rattle.assert_registry.proofs.RolesOfTable.{held_by, holder_of, is_live_owner, and_parts, role-cell}
+use Rattle.assert_registry.proofs.RolesOfTable.{held_by, holder_of, is_live_owner, role-cell}
 
 -- an object is an ownee where a look-up finds its owner
 ownee_found : (owners : List (ℕ × ℕ)) (id : ℕ) → has_id (keys_of owners) id ≡ is_some (owner_of owners id)

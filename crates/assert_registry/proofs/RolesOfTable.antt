@@ -1,10 +1,11 @@
 -- Roles that say what is asserted are roles of the table.
-use Rattle.std.proofs.Common.{◌≡◌, ◌≢◌, ℕ, ◌<◌, Bool, true, false, ◌&&◌, List, [], ◌∷◌, length, get_or, map, Option, None, Some, sym, ap, refl, subst, ◌∙◌, arith, ⊎_elim, eqb-true}
+use Rattle.std.proofs.Common.{◌≡◌, ◌≢◌, ℕ, ◌<◌, true, false, ◌&&◌, List, [], ◌∷◌, length, get_or, map, Option, None, Some, sym, ap, refl, subst, ◌∙◌, arith, ⊎_elim, eqb-true}
 use Rattle.std.specs.Prelude.{IsTrue, unwrap_or}
 use Rattle.std.specs.List.{All, AllPairs}
 use Rattle.std.specs.Map.{keys_of, values_of}
 use Rattle.std.specs.Option.{IsSome, option_and_then, option_map_or}
 use Rattle.std.proofs.lemmas.Bool.{false≢true, or_cases, or_right, and_from}
+pub use Rattle.std.proofs.lemmas.Bool.{and_parts}
 use Rattle.std.proofs.lemmas.List.{length-map}
 use Rattle.std.proofs.lemmas.List.Elements.{All-contains}
 use Rattle.std.proofs.lemmas.List.Kept.{AllPairs-filter}
@@ -59,10 +60,6 @@ module _ (f : ℕ → Option ℕ) where
       let first : f c ≡ Some x = cc in
       let others : map f cells ≡ map Some ids = cc in
       ap (λ o. unwrap_or o 0 ∷ map (λ c. unwrap_or (f c) 0) cells) first ∙ ap (λ ys. x ∷ ys) (ids_held cells ids others)
-
-pub and_parts : (x y : Bool) → (x && y) ≡ true → (x ≡ true) × (y ≡ true)
-and_parts true y both = (refl, both)
-and_parts false y both = absurd (false≢true both)
 
 All-at : (P : ℕ → Type 0) (xs : List ℕ) (x : ℕ) → All P xs → has_id xs x ≡ true → P x
 All-at P xs x all at = All-contains P xs x all ((has_id-Contains xs x).0 at)

@@ -13,10 +13,11 @@ use std::alloc::Global;
 use std::thread::Threads;
 use verdicts::verdicts;
 
-fn both(first: bool, second: bool) -> bool
-    ensures { result ≡ (first && second) }
+// Whether an object is both. A function of its own, so that its answer is one value where it is pushed.
+fn is_dead_and_traced(is_dead: bool, is_traced: bool) -> bool
+    ensures { result ≡ (is_dead && is_traced) }
 {
-    first && second
+    is_dead && is_traced
 }
 
 // For each of so many cells whether its object is asserted dead and traced.
@@ -33,7 +34,7 @@ fn dead_and_traced(
     let kept = traced.kept();
     let mut flags = Vec::with_capacity(alloc, cells as usize)?;
     for cell in 0..cells {
-        flags.push_reserved(both(roles.dead(cell), kept[cell as usize]));
+        flags.push_reserved(is_dead_and_traced(roles.dead(cell), kept[cell as usize]));
     }
     Ok(flags)
 }

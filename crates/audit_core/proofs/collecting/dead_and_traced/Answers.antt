@@ -1,4 +1,4 @@
-use Rattle.std.proofs.Common.{◌≡◌, ◌∷◌, [], ◌++◌, ◌&&◌, false, get_or, sym, ap, ◌∙◌, arith}
+use Rattle.std.proofs.Common.{◌≡◌, ◌∷◌, [], ◌++◌, ◌&&◌, false, get_or, sym, ◌∙◌, arith}
 use Rattle.std.proofs.lemmas.List.FromFn.{map-range_with_len_more}
 use Rattle.audit_core.proofs.collecting.dead_and_traced.Goals as goal
 
@@ -8,7 +8,7 @@ loop-cell-preserved c =
     let kept = c.args.traced.now.kept in
     let cell = c.loop-cell.cell in
     let before = c.loop-cell.invariant in
-    let flag : c.both.result ≡ (get_or dead cell false && get_or kept cell false) = c.both.ensures ∙ (λ i. c.dead.ensures i && get_or (c.kept-kept.ensures i) cell false) in
+    let flag : c.is_dead_and_traced.result ≡ (get_or dead cell false && get_or kept cell false) = c.is_dead_and_traced.ensures ∙ (λ i. c.dead.ensures i && get_or (c.kept-kept.ensures i) cell false) in
     let longer = c.push_reserved.ensures.len in
     record {
       flags = c.push_reserved.ensures.items ∙ (λ i. before.flags i ++ flag i ∷ []) ∙ sym (map-range_with_len_more (λ x. get_or dead x false && get_or kept x false) 0 cell cell (omega arith));
