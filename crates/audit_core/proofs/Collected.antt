@@ -1,20 +1,18 @@
 -- What a collection finds and leaves.
-use Rattle.std.proofs.Common.{◌≡◌, ℕ, ◌+◌, ◌-◌, Bool, false, cond, List, [], ◌∷◌, ◌++◌, length, map, take, drop, get_or, Option, None, Some, IsTrue, sym, ap, refl, subst, ◌∙◌, arith}
-use Rattle.std.specs.Prelude.{sum_by}
-use Rattle.std.specs.List.{All, count_by}
+use Rattle.std.proofs.Common.{◌≡◌, ℕ, ◌+◌, ◌-◌, List, [], ◌∷◌, ◌++◌, length, map, take, drop, get_or, Option, IsTrue, sym, ap, refl, subst, ◌∙◌, arith}
+use Rattle.std.specs.List.{All}
 use Rattle.std.specs.Option.{option_map_or}
 use Rattle.std.proofs.lemmas.List.{length-append, length-map, take-append-drop}
 use Rattle.std.proofs.lemmas.List.Elements.{All-filter, All-head, All-tail}
-use Rattle.std.proofs.lemmas.List.Sums.{sum_by-cons}
 use Rattle.graph_meaning.specs.declared.collection.Collection.{Collection}
 use Rattle.graph_meaning.specs.declared.collection.Verdict.{Verdict}
-use Rattle.graph_meaning.specs.Heap.{Slot, Object, Table, Heap, is_live}
+use Rattle.graph_meaning.specs.Heap.{Heap, is_live}
 use Rattle.graph_meaning.specs.Laws.{AllLive}
 use Rattle.graph_meaning.specs.Reach.{has_id}
 use Rattle.graph_meaning.specs.Assertions.{traced_ids, reference_count}
 use Rattle.graph_meaning.specs.Collecting.{Rules, after_sweep, after_collection, holders_of, ids_to_clear, violating_dead, violating_kinds, violating_unshared, violating_ownees, dead_verdict, instances_verdict, unshared_verdict, ownedby_verdict, without_paths, all_verdicts, first_with_paths, collection_counted, collection_of}
 use Rattle.graph_meaning.specs.Roles.{RoleTable}
-use Rattle.object_table.specs.Placed.{Placed, IsPlaced, id_in, cell_of}
+use Rattle.object_table.specs.Placed.{Placed, IsPlaced}
 use Rattle.assert_registry.specs.Laws.{StandFor}
 use Rattle.heap_trace.specs.Results.{TraceResult}
 use Rattle.heap_trace.specs.Traces.{CountsReferences}

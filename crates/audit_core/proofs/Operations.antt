@@ -17,7 +17,6 @@ use Rattle.graph_meaning.specs.declared.event.Event.TheVariants.{Alloc, Store, S
 use Rattle.graph_meaning.specs.declared.refusal.Refusal.{Refusal}
 use Rattle.graph_meaning.specs.declared.refusal.Refusal.TheVariants.{SelfOwned}
 use Rattle.graph_meaning.specs.declared.refusal.Stop.{Stop}
-use Rattle.graph_meaning.specs.declared.refusal.Stop.TheVariants.{Refused, OutOfMemory}
 use Rattle.graph_meaning.specs.Answers.{RefusesBy}
 use Rattle.graph_meaning.specs.Heap.{Slot, Table, Heap, name_cmp, is_seen, regions_of}
 use Rattle.graph_meaning.specs.Laws.{AllLive}
@@ -30,7 +29,7 @@ use Rattle.region_log.specs.Regions.{RegionTable, IsAbove, start_refusal, end_re
 use Rattle.region_log.proofs.Above.{IsAbove-live}
 use Rattle.region_log.proofs.Steps.{step-start_region, step-assert_all_dead}
 use Rattle.sweep.specs.Parts.{Parts}
-use Rattle.audit_core.specs.Parts.{PlacedHeap, IsWellFormed, AreParts, Steps, heap_of, placed_heap, named_limits}
+use Rattle.audit_core.specs.Parts.{IsWellFormed, AreParts, Steps, heap_of, placed_heap, named_limits}
 use Rattle.audit_core.proofs.Limits.{named-with_kind, named-with_room, named-set}
 use Rattle.audit_core.proofs.Stepping.{steps-by, parts-after}
 

@@ -1,5 +1,5 @@
 -- What one operation of a trace leaves of the parts of a heap.
-use Rattle.std.proofs.Common.{◌≡◌, ℕ, List, [], Option, None, Some, Result, Ok, Err, sym, ap, refl, subst, ◌∙◌}
+use Rattle.std.proofs.Common.{◌≡◌, Option, None, Some, Result, Ok, Err, sym, ap, refl, subst, ◌∙◌}
 use Rattle.std.specs.Result.{OnOk, OnErr, IfOk, IsErr, IsErrAnd, result_err}
 use Rattle.std.proofs.lemmas.Bool.{false≢true}
 use Rattle.graph_meaning.specs.declared.event.Event.{Event}
@@ -18,7 +18,7 @@ use Rattle.object_table.specs.Placed.{nothing_placed}
 use Rattle.assert_registry.specs.Assertions.{AreOfSeenTypes, no_assertions}
 use Rattle.region_log.specs.Regions.{no_open_regions}
 use Rattle.sweep.specs.Parts.{Parts}
-use Rattle.audit_core.specs.Parts.{PlacedHeap, IsWellFormed, AreParts, Steps, heap_of, placed_heap}
+use Rattle.audit_core.specs.Parts.{PlacedHeap, IsWellFormed, AreParts, Steps, placed_heap}
 
 -- ---- what is true of a heap at any time
 

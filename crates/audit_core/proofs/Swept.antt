@@ -1,11 +1,11 @@
 -- What a sweep leaves of the parts of a heap, where the cells that are kept are those of its traced objects.
-use Rattle.std.proofs.Common.{◌≡◌, ℕ, zero, suc, ◌+◌, ◌-◌, Bool, true, false, cond, List, [], ◌∷◌, length, map, get_or, Option, None, Some, IsTrue, ⊎_elim, sym, ap, refl, subst, ◌∙◌, eq-eqb, eqb-true, ◌==◌}
+use Rattle.std.proofs.Common.{◌≡◌, ℕ, zero, suc, ◌+◌, Bool, true, false, cond, List, [], ◌∷◌, map, get_or, Option, None, Some, IsTrue, ⊎_elim, sym, ap, refl, subst, ◌∙◌, eq-eqb, eqb-true, ◌==◌}
 use Rattle.std.specs.List.{All, filter_map, cons_option, enumerate_from}
-use Rattle.std.specs.Option.{IfSome, is_some, option_map, option_map_or}
-use Rattle.std.proofs.lemmas.Bool.{false≢true, or_left, or_right, or_cases, and_parts}
+use Rattle.std.specs.Option.{IfSome, option_map, option_map_or}
+use Rattle.std.proofs.lemmas.Bool.{false≢true, or_left, or_right, or_cases}
 use Rattle.std.proofs.lemmas.List.{length-map, get_or-map}
 use Rattle.std.proofs.lemmas.List.Elements.{All-head, All-tail, Contains-get_or}
-use Rattle.graph_meaning.specs.Assertions.{root_ids, is_traced, traced_ids}
+use Rattle.graph_meaning.specs.Assertions.{root_ids, is_traced}
 use Rattle.graph_meaning.specs.Collecting.{with_only, after_sweep}
 use Rattle.graph_meaning.specs.Heap.{Slot, Object, Table, Heap, object_at, is_live, edge_of, numbered_edge, targets}
 use Rattle.graph_meaning.specs.Laws.{HoldsLive}
@@ -16,7 +16,7 @@ use Rattle.graph_meaning.proofs.HeapLemmas.{has_id-ids}
 use Rattle.graph_meaning.proofs.Keeping.{has_id-traced_ids}
 use Rattle.graph_meaning.proofs.Membership.{has_id-Contains}
 use Rattle.graph_meaning.proofs.Tracing.{traced_from_root, traced_along, traced_node}
-use Rattle.object_table.specs.Placed.{Placed, IsPlaced, LeadsToKept, kept_ids, id_in}
+use Rattle.object_table.specs.Placed.{IsPlaced, LeadsToKept, kept_ids}
 use Rattle.assert_registry.specs.Assertions.{Assertions, AreOfSeenTypes}
 use Rattle.sweep.specs.Parts.{Parts, ArePartsOf, AreTraced, SweepsHeap, assertions_on}
 use Rattle.heap_trace.specs.Results.{TraceResult}

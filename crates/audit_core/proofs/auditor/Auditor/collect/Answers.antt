@@ -1,4 +1,4 @@
-use Rattle.std.proofs.Common.{◌≡◌, sym, ap, ◌∙◌}
+use Rattle.std.proofs.Common.{◌≡◌, ◌∙◌}
 use Rattle.std.proofs.lemmas.Result.{IfOk-weaker}
 use Rattle.audit_core.specs.Audit.{Audit, next_collection, next_counted}
 use Rattle.audit_core.proofs.Collected.{counted_as_defined}

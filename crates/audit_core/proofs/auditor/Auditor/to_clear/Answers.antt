@@ -1,5 +1,4 @@
 use Rattle.std.proofs.Common.{◌≡◌, length, sym, ap, subst, ◌∙◌}
-use Rattle.heap_trace.specs.Traces.{IsTraceOf}
 use Rattle.audit_core.specs.Audit.{Audit, placed_of, rules_of}
 use Rattle.object_table.specs.Placed.{IsPlaced}
 use Rattle.audit_core.specs.Parts.{PlacedHeap, AreDeadAndTraced, placed_in, placed_heap}

@@ -1,4 +1,4 @@
-use Rattle.std.proofs.Common.{fold, sym, ap, refl, ◌∙◌, Ok, Err}
+use Rattle.std.proofs.Common.{fold, ap, refl, ◌∙◌, Ok, Err}
 use Rattle.std.specs.BTreeSet.{insert_key}
 use Rattle.std.specs.Ordering.{nat_cmp}
 use Rattle.graph_meaning.specs.declared.refusal.Stop.TheVariants.{OutOfMemory}

@@ -1,4 +1,4 @@
-use Rattle.std.proofs.Common.{◌≡◌, ◌+◌, length, sym, ap, refl, subst, ◌∙◌, Some, Ok, Err, slice_set}
+use Rattle.std.proofs.Common.{◌≡◌, ◌+◌, length, sym, ap, refl, subst, ◌∙◌, Some, slice_set}
 use Rattle.std.specs.List.{position}
 use Rattle.std.specs.Str.{bytes_eq}
 use Rattle.graph_meaning.specs.declared.refusal.Stop.TheVariants.{Refused, OutOfMemory}

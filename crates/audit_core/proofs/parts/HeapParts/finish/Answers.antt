@@ -1,4 +1,4 @@
-use Rattle.std.proofs.Common.{◌≡◌, sym, ap, ◌∙◌}
+use Rattle.std.proofs.Common.{sym, ap, ◌∙◌}
 use Rattle.std.specs.Option.{is_some}
 use Rattle.audit_core.proofs.Cleared.{left_without, none_cleared, by_force_cleared}
 use Rattle.audit_core.proofs.parts.HeapParts.finish.Goals as goal

@@ -1,7 +1,6 @@
-use Rattle.std.proofs.Common.{◌≡◌, length, ◌-◌, sym, ap, subst, ◌∙◌}
+use Rattle.std.proofs.Common.{length, ◌-◌, sym, ap, subst, ◌∙◌}
 use Rattle.graph_meaning.specs.Assertions.{traced_ids}
 use Rattle.graph_meaning.specs.Collecting.{after_sweep, with_only}
-use Rattle.graph_meaning.specs.Heap.{Heap}
 use Rattle.heap_trace.specs.Traces.{IsTraceOf}
 use Rattle.object_table.specs.Placed.{LeadsToKept, kept_ids}
 use Rattle.sweep.specs.Parts.{Parts, AreTraced, assertions_on}
