@@ -1,9 +1,8 @@
 -- Plain paths are canonical paths with nothing shut.
-use Rattle.std.proofs.Common.{◌≡◌, ℕ, ◌≤◌, ◌*◌, Bool, false, List, [], ◌∷◌, length, map, filter, replicate, get_or, sym, refl, ap, subst, ◌∙◌, arith, Option, None, Some}
+use Rattle.std.proofs.Common.{◌≡◌, ℕ, ◌≤◌, ◌*◌, false, List, [], ◌∷◌, length, map, filter, get_or, sym, refl, ap, subst, ◌∙◌, arith, Option, None, Some}
 use Rattle.std.specs.Prelude.{unwrap_or, Result, Ok, Err, IfOk}
 use Rattle.heap_base.specs.declared.errors.OutOfMemory.{OutOfMemory}
 use Rattle.std.specs.Option.{IfSome, option_map, option_map_or, option_or, option_and_then}
-use Rattle.std.proofs.lemmas.Bool.{false≢true}
 use Rattle.heap_base.specs.declared.limits.TheConstants.{END_STEPS}
 use Rattle.graph_meaning.specs.declared.paths.PathView.{PathView}
 use Rattle.graph_meaning.specs.Assertions.{owner_ids, is_owner}

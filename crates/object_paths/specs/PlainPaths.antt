@@ -1,5 +1,5 @@
 -- The levels by which plain paths go: from the roots and from the owners, with nothing shut.
-use Rattle.std.specs.Prelude.{◌≡◌, ℕ, List, length, replicate, Bool, false}
+use Rattle.std.specs.Prelude.{List, length, replicate, Bool, false}
 use Rattle.graph_meaning.specs.Roles.{RoleTable}
 use Rattle.object_table.specs.Placed.{Placed}
 use Rattle.path_cert.specs.declared.start.Start.TheVariants.{Roots, Owners}

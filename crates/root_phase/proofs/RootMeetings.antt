@@ -1,10 +1,10 @@
 -- The first job's meetings with what the roots name, one after another.
-use Rattle.std.proofs.Common.{◌≡◌, ℕ, ◌+◌, ◌*◌, ◌/◌, ◌%◌, ◌^◌, ◌<◌, ◌≤◌, Bool, true, false, not, ◌&&◌, cond, List, [], ◌∷◌, ◌++◌, length, filter, map, take, get_or, replicate, sym, refl, ap, ◌∙◌, subst, arith, append-nil, length-append, length-take, Option, None, Some}
+use Rattle.std.proofs.Common.{◌≡◌, ℕ, ◌+◌, ◌%◌, ◌<◌, ◌≤◌, Bool, true, false, not, ◌&&◌, cond, List, [], ◌∷◌, ◌++◌, length, map, take, get_or, replicate, sym, refl, ap, ◌∙◌, subst, arith, append-nil, length-append, length-take, Option, None, Some}
 use Rattle.std.specs.Prelude.{IfSome, slice_get}
 use Rattle.std.specs.List.{filter_map, cons_option}
 use Rattle.std.proofs.lemmas.List.{length-map, length-replicate, map-append}
 use Rattle.std.proofs.lemmas.List.Elements.{filter-append}
-use Rattle.heap_base.specs.declared.limits.TheConstants.{MOST_SLOTS, MOST_ROOTS}
+use Rattle.heap_base.specs.declared.limits.TheConstants.{MOST_ROOTS}
 use Rattle.heap_base.specs.declared.task.Task.{Task}
 use Rattle.graph_meaning.proofs.Membership.{length-filter_le}
 use Rattle.object_table.specs.Placed.{id_in, cell_of}

@@ -1,13 +1,11 @@
 -- The run of the root phase: what it needs and leaves.
-use Rattle.std.proofs.Common.{◌≡◌, ℕ, ◌+◌, ◌*◌, ◌/◌, ◌^◌, ◌<◌, ◌≤◌, not, List, [], ◌∷◌, length, get_or, set, map, take, sym, refl, ap, ◌∙◌, subst, arith, length-set}
+use Rattle.std.proofs.Common.{◌≡◌, ℕ, ◌+◌, ◌^◌, ◌<◌, ◌≤◌, not, List, [], ◌∷◌, length, get_or, set, map, sym, ap, ◌∙◌, subst, arith, length-set}
 use Rattle.std.specs.List.{All, filter_map}
 use Rattle.std.proofs.Math.Seq.{take-length}
 use Rattle.std.proofs.lemmas.List.{length-map}
-use Rattle.heap_base.specs.declared.task.Task.{Task}
 use Rattle.graph_meaning.proofs.Membership.{length-filter_le}
 use Rattle.steal_pool.specs.declared.crew.Crew.{Crew}
 use Rattle.steal_pool.specs.FirstLists.{FirstLists}
-use Rattle.steal_pool.specs.Lists.{Pairs}
 use Rattle.steal_pool.specs.Runs.{workers_of, most_tasks, Run, AreReady, TurnsLast}
 use Rattle.scan_job.specs.declared.mode.Mode.TheVariants.{Root}
 use Rattle.scan_job.specs.declared.shared.ScanShared.{ScanShared}

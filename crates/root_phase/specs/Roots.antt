@@ -6,7 +6,7 @@ use Rattle.object_table.specs.Placed.{Placed, cell_of}
 use Rattle.scan_job.specs.declared.shared.ScanShared.{ScanShared}
 use Rattle.scan_job.specs.Jobs.{shared_graph}
 use Rattle.scan_job.specs.Phases.{cells_in, dealt, root_firsts}
-use Rattle.scan_job.specs.Scans.{Meeting, one_meeting, Meets}
+use Rattle.scan_job.specs.Scans.{one_meeting, Meets}
 use Rattle.scan_job.specs.States.{ScanState}
 
 -- The job j met the cell and became k; the scan goes on from the cell where it was won and is no owner's.

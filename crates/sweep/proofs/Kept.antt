@@ -1,5 +1,5 @@
 -- What is left of the parts of a heap where some objects stay.
-use Rattle.std.proofs.Common.{◌≡◌, ℕ, zero, suc, ◌≤◌, ◌-◌, Bool, true, false, ◌&&◌, not, List, [], ◌∷◌, length, map, filter, get_or, ⊎_elim, refl, sym, ap, ◌∙◌, subst, arith, eqb-true, Option, None, Some, IsTrue}
+use Rattle.std.proofs.Common.{◌≡◌, ℕ, zero, suc, ◌≤◌, ◌-◌, Bool, true, false, ◌&&◌, not, List, [], ◌∷◌, length, map, filter, get_or, ⊎_elim, refl, sym, ap, ◌∙◌, arith, eqb-true, Option, None, Some}
 use Rattle.std.proofs.lemmas.Bool.{false≢true, or_cases}
 use Rattle.std.proofs.lemmas.List.{length-map}
 use Rattle.graph_meaning.specs.Heap.{Object, Table, Heap, ids, is_live}
@@ -9,7 +9,7 @@ use Rattle.graph_meaning.specs.Collecting.{object_without, with_only, after_swee
 use Rattle.graph_meaning.proofs.HeapLemmas.{is_live-with_only}
 use Rattle.graph_meaning.proofs.Membership.{length-filter_le, filter_itself}
 use Rattle.graph_meaning.proofs.Rising.{ids-with_only}
-use Rattle.object_table.specs.Placed.{Placed, kept_ids, id_in, IsPlaced}
+use Rattle.object_table.specs.Placed.{Placed, kept_ids, IsPlaced}
 use Rattle.assert_registry.specs.Assertions.{Assertions, live_part}
 use Rattle.region_log.specs.Regions.{RegionTable}
 use Rattle.sweep.specs.Parts.{Parts, assertions_on, regions_with, ArePartsOf, AreTraced, SweepsHeap}

@@ -3,7 +3,7 @@ use Rattle.std.proofs.Common.{◌≡◌, ℕ, Bool, true, false, not, cond, List
 use Rattle.std.specs.Option.{option_map_or}
 use Rattle.std.proofs.lemmas.Bool.{false≢true}
 use Rattle.std.proofs.lemmas.List.Elements.{All-nil, All-head, All-tail, All-push, All-map, All-filter, All-weaker}
-use Rattle.graph_meaning.specs.Heap.{Object, Table, empty_table, object_at, edges_of, targets}
+use Rattle.graph_meaning.specs.Heap.{Object, Table, empty_table, object_at, edges_of}
 use Rattle.graph_meaning.specs.Reach.{has_id}
 use Rattle.graph_meaning.specs.Collecting.{slot_without, object_without, with_only}
 use Rattle.graph_meaning.specs.Step.{with_object}

@@ -1,7 +1,5 @@
-use Rattle.std.proofs.Common.{◌≡◌, ℕ, ◌+◌, ◌*◌, ◌<◌, ◌≤◌, List, length, map, take, get_or, sym, ap, ◌∙◌, arith}
-use Rattle.std.proofs.Math.Seq.{take-length}
-use Rattle.heap_base.specs.declared.task.Task.{Task}
-use Rattle.scan_job.specs.Phases.{all_held, dealt}
+use Rattle.std.proofs.Common.{◌≡◌, length, map, ap, ◌∙◌, arith}
+use Rattle.scan_job.specs.Phases.{dealt}
 use Rattle.scan_job.specs.Scans.{task_at}
 use Rattle.owner_phase.proofs.HeldCells.{HeldBy, held-more, few-more, few-so_far, length-more, has-room, dealt-more}
 use Rattle.owner_phase.proofs.held.add_held.Goals as goal

@@ -1,7 +1,7 @@
-use Rattle.std.proofs.Common.{◌≡◌, length, ◌∙◌}
+use Rattle.std.proofs.Common.{◌∙◌}
 use Rattle.scan_job.specs.declared.mode.Mode.TheVariants.{TakeUp}
 use Rattle.scan_job.specs.Jobs.{shared_graph}
-use Rattle.scan_job.specs.Phases.{cells_in, all_held, held_firsts, TakeUpGains}
+use Rattle.scan_job.specs.Phases.{all_held, held_firsts, TakeUpGains}
 use Rattle.scan_job.proofs.Gaining.{none-held}
 use Rattle.scan_job.proofs.PhaseRuns.{HasBegun, begun-run, modes-after, turns-after, take_up-start, take_up-gained}
 use Rattle.scan_job.proofs.Starting.{ready-cells}

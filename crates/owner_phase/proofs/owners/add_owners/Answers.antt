@@ -1,4 +1,4 @@
-use Rattle.std.proofs.Common.{◌≡◌, ℕ, ◌+◌, ◌*◌, ◌%◌, ◌<◌, ◌≤◌, List, [], ◌∷◌, ◌++◌, length, map, take, get_or, sym, ap, ◌∙◌, subst, arith, length-take}
+use Rattle.std.proofs.Common.{◌≡◌, ℕ, ◌+◌, ◌%◌, ◌<◌, ◌≤◌, List, [], ◌∷◌, length, map, take, get_or, sym, ap, ◌∙◌, arith, length-take}
 use Rattle.std.proofs.lemmas.List.{length-map, map-append, take_more}
 use Rattle.heap_base.specs.declared.task.Task.{Task}
 use Rattle.scan_job.specs.Phases.{put_last, dealt}

@@ -1,4 +1,4 @@
-use Rattle.std.proofs.Common.{◌≡◌, ◌≤◌, [], length, replicate, sym, ap, ◌∙◌, arith}
+use Rattle.std.proofs.Common.{[], length, replicate, sym, ap, ◌∙◌, arith}
 use Rattle.scan_job.specs.declared.mode.Mode.TheVariants.{Owner}
 use Rattle.scan_job.specs.Phases.{owner_firsts}
 use Rattle.scan_job.proofs.Starting.{first-ready}

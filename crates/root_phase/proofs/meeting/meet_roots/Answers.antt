@@ -1,6 +1,5 @@
-use Rattle.std.proofs.Common.{◌≡◌, ◌<◌, ◌≤◌, Bool, true, false, length, refl, sym, ap, ◌∙◌, arith}
+use Rattle.std.proofs.Common.{◌≡◌, ◌<◌, length, refl, sym, ap, ◌∙◌, arith}
 use Rattle.std.proofs.lemmas.List.{length-replicate}
-use Rattle.scan_job.specs.Phases.{cells_in}
 use Rattle.scan_job.proofs.Placing.{is-whole, root-there, held-from_node}
 use Rattle.root_phase.specs.Roots.{JobAndLists}
 use Rattle.root_phase.proofs.RootMeetings.{NextRoot, meets-no_roots, turns-left, passed-by, below, has-room, goes-on}

@@ -1,7 +1,6 @@
-use Rattle.std.proofs.Common.{◌≡◌, ℕ, length, replicate, []}
+use Rattle.std.proofs.Common.{◌≡◌, length}
 use Rattle.scan_job.specs.Jobs.{IsReady, shared_graph}
 use Rattle.scan_job.specs.Phases.{root_firsts}
-use Rattle.scan_job.specs.States.{ScanState}
 use Rattle.root_phase.specs.Roots.{MeetsRoots}
 use Rattle.root_phase.proofs.meeting.meet_roots.Given as goal
 

@@ -1,4 +1,4 @@
-use Rattle.std.proofs.Common.{rules, ◌≡◌, [], length, ap, ◌∙◌}
+use Rattle.std.proofs.Common.{[], length, ap, ◌∙◌}
 use Rattle.std.proofs.lemmas.List.{length-replicate}
 use Rattle.scan_job.proofs.PhaseRuns.{some-jobs}
 use Rattle.root_phase.proofs.RootRuns.{RootStart, first-of-begun, root-run, root-first, root-turns, root-modes, root-gained, root-none_held}

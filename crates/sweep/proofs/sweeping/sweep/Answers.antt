@@ -1,7 +1,6 @@
 use Rattle.std.proofs.Common.{◌≡◌, ◌≤◌, ◌-◌, ℕ, length, ap, ◌∙◌, subst, sym, arith}
 use Rattle.graph_meaning.specs.Heap.{Table, is_live}
 use Rattle.graph_meaning.specs.Reach.{has_id}
-use Rattle.graph_meaning.specs.Collecting.{with_only}
 use Rattle.object_table.specs.Placed.{kept_ids}
 use Rattle.sweep.proofs.Kept.{live_is_kept, assertions-kept, regions-kept, length-with_only, sweeps}
 use Rattle.sweep.proofs.sweeping.sweep.Goals as goal

@@ -1,12 +1,5 @@
-use Rattle.std.proofs.Common.{◌≡◌, ◌≤◌, ◌*◌, ℕ, List, length, sym, ap, subst, ◌∙◌, Option, None, Some}
-use Rattle.std.specs.Prelude.{Result, Ok, Err, IfOk}
+use Rattle.std.proofs.Common.{subst}
 use Rattle.std.specs.List.{slice_get}
-use Rattle.std.specs.Option.{IfSome}
-use Rattle.std.proofs.lemmas.Option.{slice_get-get_or}
-use Rattle.heap_base.specs.declared.errors.OutOfMemory.{OutOfMemory}
-use Rattle.heap_base.specs.declared.limits.TheConstants.{END_STEPS}
-use Rattle.graph_meaning.specs.declared.paths.PathView.{PathView}
-use Rattle.graph_meaning.specs.Paths.{root_way, view_of}
 use Rattle.reference_search.specs.declared.cell_reference.CellReference.{CellReference}
 use Rattle.reference_search.specs.References.{RefersTo}
 use Rattle.object_paths.proofs.PlainWays.{few-root}

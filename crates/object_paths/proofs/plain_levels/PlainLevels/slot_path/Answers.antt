@@ -1,19 +1,18 @@
-use Rattle.std.proofs.Common.{◌≡◌, ℕ, ◌≤◌, ◌*◌, length, sym, ap, subst, ◌∙◌, Option, None, Some}
+use Rattle.std.proofs.Common.{◌≡◌, ℕ, sym, ap, subst, ◌∙◌, Some}
 use Rattle.std.specs.Prelude.{Result, Ok, Err, IfOk}
-use Rattle.std.specs.Option.{option_map, option_map_or, option_or}
+use Rattle.std.specs.Option.{option_map}
 use Rattle.heap_base.specs.declared.errors.OutOfMemory.{OutOfMemory}
-use Rattle.heap_base.specs.declared.limits.TheConstants.{END_STEPS}
 use Rattle.graph_meaning.specs.declared.paths.PathView.{PathView}
-use Rattle.graph_meaning.specs.Heap.{Heap, Table, edge_of}
-use Rattle.graph_meaning.specs.Paths.{Way, way_by_edge, owner_way, holder_way, view_of}
+use Rattle.graph_meaning.specs.Heap.{Heap, edge_of}
+use Rattle.graph_meaning.specs.Paths.{way_by_edge, owner_way, holder_way, view_of}
 use Rattle.graph_meaning.specs.Roles.{RoleTable, id_at}
 use Rattle.object_table.specs.Placed.{slot_in}
 use Rattle.assert_registry.specs.Laws.{StandFor}
 use Rattle.path_cert.specs.declared.start.Start.TheVariants.{Roots, Owners}
-use Rattle.path_cert.specs.Levels.{Search, LevelTable, AreLevelsOf, search_of, way_in}
+use Rattle.path_cert.specs.Levels.{LevelTable, AreLevelsOf, search_of, way_in}
 use Rattle.path_cert.specs.Steps.{way_by_slot}
 use Rattle.object_paths.specs.PlainPaths.{PlainTable, ArePlainLevels, none_shut}
-use Rattle.object_paths.proofs.PlainWays.{holder-way-is, by-first, no-first, by-second, by-start, by-holder, few-shown}
+use Rattle.object_paths.proofs.PlainWays.{by-first, no-first, by-second, by-start, by-holder, few-shown}
 use Rattle.object_paths.proofs.plain_levels.PlainLevels.slot_path.Goals as goal
 
 pub returns-in-Some-clause-path : goal.returns-in-Some-clause-path
