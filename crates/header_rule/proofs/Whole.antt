@@ -1,15 +1,18 @@
 -- The seat that has all the rights knows all that was met.
-use Rattle.std.proofs.Common.{◌≡◌, ℕ, ◌+◌, ◌^◌, ◌<◌, List, get_or, sym, refl, ap, ◌∙◌, arith}
+use Rattle.std.proofs.Common.{◌≡◌, ℕ, ◌+◌, ◌^◌, ◌<◌, ◌≤◌, List, get_or, sym, refl, ap, ◌∙◌, subst, arith}
 use lib.ListN.{get_elem?}
-use mathlib.Core.Option.{some}
-use Rattle.atomic_table.specs.Table.{Seen, Final}
+use lib.Seq.{set-get_or}
+use mathlib.Core.Option.{none, some}
+use Rattle.atomic_table.specs.Table.{State, Me, step, keeps, Allows, Seen, Final}
+use Rattle.atomic_table.proofs.Lists.{set_again}
 use Rattle.heap_base.specs.Counting.{bit, is_positive, total, times}
 use Rattle.heap_base.proofs.Counting.{le_total, only_one}
 use Rattle.header_rule.specs.declared.mark.Mark.{Mark}
 use Rattle.header_rule.specs.declared.view.View.{View}
 use Rattle.header_rule.specs.Layout.{count_of, has_bit}
-use Rattle.header_rule.specs.Views.{times_marked, rights_in, adds_in, wins_in, marks_in, has_mark, word_of}
+use Rattle.header_rule.specs.Views.{times_marked, rights_in, adds_in, wins_in, marks_in, has_mark}
 use Rattle.header_rule.specs.Rule.{new_view, KeepsRule}
+use Rattle.header_rule.specs.Steps.{ReadsWord}
 use Rattle.header_rule.proofs.Bits.{count_of-word, has_bit-word}
 use Rattle.header_rule.proofs.Moves.{AllFit}
 use Rattle.header_rule.proofs.WordSteps.{adds_in-lt}
@@ -24,12 +27,8 @@ pub record TellsAll (cells : ℕ) (ws : List ℕ) (v : View) : Type 0 where
   pub marks : (m : Mark) (x : ℕ) → x < cells → has_bit (get_or ws (x + 1) 0) m ≡ is_positive (times_marked m x v.marks)
   pub wins : (x : ℕ) → times x v.wins ≡ bit (is_positive (times x v.adds))
 
-pub tells_all : (cells id : ℕ) (v : View) (ws : List ℕ) (xs : List (Unit {0})) → v.rights ≡ 16 → Final (Seen (KeepsRule cells) id v) ws xs → TellsAll cells ws v
-tells_all cells id v ws xs whole final =
-    let s = final.0 in
-    let k = final.1.0 in
-    let at = final.1.1 in
-    let words = final.2 in
+pub state_tells : (cells id : ℕ) (v : View) (s : State (Unit {0}) View) → v.rights ≡ 16 → KeepsRule cells s → get_elem? s.views id ≡ some v → TellsAll cells s.words v
+state_tells cells id v s whole k at =
     let some = le_total (λ (u : View). u.rights) s.views id v at in
     let opening = k.opening in
     let rights = k.rights in
@@ -38,9 +37,29 @@ tells_all cells id v ws xs whole final =
     let wins : (x : ℕ) → wins_in x s.views ≡ times x v.wins = λ x. has_all (λ u. times x u.wins) refl s.views k.fits id v at all in
     let marks : (m : Mark) (x : ℕ) → marks_in m x s.views ≡ times_marked m x v.marks = λ m x. has_all (λ u. times_marked m x u.marks) refl s.views k.fits id v at all in
     let few : (x : ℕ) → adds_in x s.views < 2 ^ 56 = λ x. (let b = adds_in-lt cells s k x in omega arith) in
-    let word : (x : ℕ) → x < cells → get_or ws (x + 1) 0 ≡ word_of x s.views = λ x h. ap (λ (us : List ℕ). get_or us (x + 1) 0) (sym words) ∙ k.words x h in
     record {
-      counts = λ x h. ap count_of (word x h) ∙ (count_of-word (has_mark s.views x) (adds_in x s.views) (few x) ∙ adds x);
-      marks = λ m x h. ap (λ n. has_bit n m) (word x h) ∙ (has_bit-word (has_mark s.views x) (adds_in x s.views) (few x) m ∙ ap is_positive (marks m x));
+      counts = λ x h. ap count_of (k.words x h) ∙ (count_of-word (has_mark s.views x) (adds_in x s.views) (few x) ∙ adds x);
+      marks = λ m x h. ap (λ n. has_bit n m) (k.words x h) ∙ (has_bit-word (has_mark s.views x) (adds_in x s.views) (few x) m ∙ ap is_positive (marks m x));
       wins = λ x. sym (wins x) ∙ (k.wins x ∙ ap (λ n. bit (is_positive n)) (adds x));
     }
+
+pub tells_all : (cells id : ℕ) (v : View) (ws : List ℕ) (xs : List (Unit {0})) → v.rights ≡ 16 → Final (Seen (KeepsRule cells) id v) ws xs → TellsAll cells ws v
+tells_all cells id v ws xs whole final = subst (λ us. TellsAll cells us v) final.2 (state_tells cells id v final.0 whole final.1.0 final.1.1)
+
+-- the step: a word is read, and nothing changes
+pub reads_word : (cells slots id word : ℕ) (me : Me (Unit {0}) View) → word ≤ cells → Allows (KeepsRule cells) slots id me word (λ n. n) (ReadsWord (step slots word 0 0 none) me)
+reads_word cells slots id word me within s k _ at _ =
+    let here : (x : ℕ) → word ≡ x + 1 → x < cells = λ x e. omega arith in (
+      me.0,
+      keeps,
+      tt,
+      subst (λ (z : List ℕ × List View). KeepsRule cells record { words = z.0; homes = s.homes; views = z.1 }) (λ i. (sym (set-get_or s.words word 0) i, sym (set_again s.views id me.0 at) i)) k,
+      (
+        refl,
+        λ whole. (let all = state_tells cells id me.0 s whole k at in record {
+          count = λ x e. ap (λ n. count_of (get_or s.words n 0)) e ∙ all.counts x (here x e);
+          marks = λ m x e. ap (λ n. has_bit (get_or s.words n 0) m) e ∙ all.marks m x (here x e);
+          wins = all.wins;
+        }),
+      ),
+    )

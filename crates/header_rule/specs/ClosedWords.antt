@@ -1,13 +1,13 @@
 -- What clauses say of the words after the last meet.
 use Rattle.std.specs.Prelude.{ℕ, ◌+◌, Bool, slice_index}
-use Rattle.std.specs.Mem.Slots.{slots_items}
 use Rattle.header_rule.specs.declared.mark.Mark.{Mark}
 use Rattle.header_rule.specs.declared.words.Words.{Words}
 use Rattle.header_rule.specs.Layout.{count_of, has_bit}
+use Rattle.header_rule.specs.Stores.{words_of}
 
 -- the word of the cell x
 abbrev pub word_in : Words → ℕ → ℕ
-word_in w x = slice_index (slots_items w.closed.words) (x + 1)
+word_in w x = slice_index (words_of w.store) (x + 1)
 
 abbrev pub count_in : Words → ℕ → ℕ
 count_in w x = count_of (word_in w x)

@@ -4,4 +4,5 @@ pub mod Passes
 pub mod Rule
 pub mod Shares
 pub mod Steps
+pub mod Stores
 pub mod Views

@@ -6,6 +6,7 @@ use Rattle.header_rule.specs.declared.mark.Mark.{Mark}
 use Rattle.header_rule.specs.declared.view.View.{View}
 use Rattle.header_rule.specs.Layout.{count_of, has_bit, marks_passing}
 use Rattle.header_rule.specs.Rule.{new_view}
+use Rattle.header_rule.specs.Views.{TellsWord}
 
 -- a view, and the slots that the seat has taken, of which the table has none
 abbrev SeatState : Type 0
@@ -29,6 +30,10 @@ with_marks marks v = record v { marks = v.marks ++ marks }
 -- the marks are those whose bits were set
 abbrev pub SetsMarks : Step (Unit {0}) → SeatState → ℕ → SeatState → Type 0
 SetsMarks st m found m' = m' ≡ (with_marks (marks_passing (has_bit st.first) (st.word - 1)) m.0, m.1)
+
+-- Nothing changes, and a seat with all the rights is told of the word.
+abbrev pub ReadsWord : Step (Unit {0}) → SeatState → ℕ → SeatState → Type 0
+ReadsWord st m found m' = (m' ≡ m) × (m.0.rights ≡ 16 → TellsWord st.word found m.0)
 
 abbrev pub one_right_less : View → View
 one_right_less v = record v { rights = v.rights - 1 }

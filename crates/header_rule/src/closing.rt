@@ -9,12 +9,13 @@ ghost use Rattle.header_rule.specs.ClosedWords.{count_in, has_mark_in};
 use crate::headers::Headers;
 use crate::pass::Pass;
 use crate::steps::Together;
+use crate::store::{ClosedTable, WordStore};
 use crate::view::View;
 use crate::words::Words;
 use atomic_table::Seat;
 
 // One seat with all the rights and all that the passes met.
-fn joined(headers: &Headers, mut passes: Vec<Pass>) -> Seat<(), View>
+pub(crate) fn joined(headers: &Headers, mut passes: Vec<Pass>) -> Seat<(), View>
     requires { ArePassesOf headers.now passes.items }
     ensures table { result.table_id ≡ headers.now.table.shared.table_id }
     ensures rights { result.me.0.rights ≡ 16 }
@@ -55,6 +56,7 @@ impl Headers {
             workers: _,
         } = self;
         let closed = table.close_with(seat);
-        Words { closed, cells }
+        let store = WordStore::Closed(ClosedTable { closed });
+        Words { store, cells }
     }
 }

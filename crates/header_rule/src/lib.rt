@@ -12,9 +12,9 @@ mod mark;
 mod meeting;
 mod pass;
 mod reading;
+mod rereading;
 mod steps;
-#[cfg(test)]
-mod tests;
+mod store;
 mod view;
 mod words;
 

@@ -1,10 +1,11 @@
-//! What the closed words say of a cell.
+//! What the words say of a cell.
 ghost use Rattle.std.specs.Prelude.{◌≡◌, ◌<◌};
 ghost use Rattle.header_rule.specs.declared.mark.Mark.TheVariants.{Found, Disputed, MetByRoots};
 ghost use Rattle.header_rule.specs.ClosedWords.{word_in, count_in, has_mark_in};
 
 use crate::layout::{count, is_set};
 use crate::mark::Mark;
+use crate::store::WordStore;
 use crate::words::Words;
 
 impl Words {
@@ -12,7 +13,11 @@ impl Words {
         requires { cell < self.now.cells }
         ensures { result ≡ word_in self.now cell }
     {
-        self.closed.word(cell as usize + 1)
+        let word = cell as usize + 1;
+        match &self.store {
+            WordStore::Closed(table) => table.closed.word(word),
+            WordStore::Read(words) => words[word],
+        }
     }
 
     /// How often the cell was met.

@@ -1,6 +1,6 @@
 //! The kinds of step on the table, and what each tells the seat that makes it.
 ghost use Rattle.header_rule.specs.Rule.{new_view};
-ghost use Rattle.header_rule.specs.Steps.{TakesRights, AddsCell, SetsMarks, one_right_less, both_views};
+ghost use Rattle.header_rule.specs.Steps.{TakesRights, AddsCell, SetsMarks, ReadsWord, one_right_less, both_views};
 
 use crate::view::View;
 use atomic_table::{Join, Play, Split};
@@ -24,6 +24,13 @@ pub(crate) struct SetMarks;
 
 impl Play<(), View> for SetMarks {
     ghost then = { SetsMarks };
+}
+
+/// A word is read, and nothing changes.
+pub(crate) struct ReadWord;
+
+impl Play<(), View> for ReadWord {
+    ghost then = { ReadsWord };
 }
 
 /// A seat gives one right to a new one.

@@ -1,21 +1,12 @@
 ghost use Rattle.std.specs.Prelude.{◌≡◌, ◌+◌};
-ghost use Rattle.std.specs.Mem.Slots.{slots_len, IsFull};
+ghost use Rattle.header_rule.specs.Stores.{many_words};
 
-use atomic_table::Closed;
-use std::alloc::Global;
+use crate::store::WordStore;
 
 /// The header words after the last meet. Contracts see how many cells there are, and the word of each.
+#[derive(Drop)]
 pub struct Words {
-    pub(crate) closed: Closed<(), Global>,
+    pub(crate) store: WordStore,
     pub(crate) cells: u32,
-    ghost full: { IsFull closed.words },
-    ghost sized: { slots_len closed.words ≡ cells + 1 },
-    ghost slotless: { slots_len closed.slots ≡ 0 },
-}
-
-impl Drop for Words {
-    fn drop(self) {
-        let Words { closed, cells: _ } = self;
-        closed.free();
-    }
+    ghost sized: { many_words store ≡ cells + 1 },
 }

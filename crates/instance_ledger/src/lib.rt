@@ -2,7 +2,5 @@
 #![tactic(auto)]
 
 mod tally;
-#[cfg(test)]
-mod tests;
 
 pub use tally::Tally;

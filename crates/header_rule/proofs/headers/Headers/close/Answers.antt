@@ -6,13 +6,8 @@ use Rattle.header_rule.proofs.headers.Headers.close.Goals as goal
 pub invariant_of-result : goal.invariant_of-result
 invariant_of-result c =
     let counts = c.close_with-closed.ensures.counts in
-    let h = c.args.self in
-    let sized = h.sized in
-    record {
-      full = c.close_with-closed.ensures.values.0;
-      sized = omega arith;
-      slotless = counts.1 ∙ h.slotless;
-    }
+    let sized = c.args.self.sized in
+    omega arith
 
 pub returns : goal.returns
 returns c =
