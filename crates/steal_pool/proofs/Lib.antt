@@ -8,4 +8,3 @@ pub mod PlaceTurns
 pub mod LoanLemmas
 pub mod ReturnLemmas
 pub mod WholeRun
-pub mod CellTaskLemmas

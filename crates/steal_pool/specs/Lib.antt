@@ -3,7 +3,6 @@ pub mod Needs
 pub mod Runs
 pub mod FirstLists
 pub mod Outboxes
-pub mod CellTasks
 pub mod Seats
 pub mod Loans
 pub mod Jobs

@@ -22,8 +22,6 @@ mod returning;
 mod running;
 mod seating;
 mod stealing;
-#[cfg(test)]
-mod tests;
 mod victim;
 mod working;
 
