@@ -1,25 +1,28 @@
 -- Jobs that have gone through one phase can go through the next.
-use Rattle.std.proofs.Common.{◌≡◌, ℕ, ◌+◌, ◌<◌, ◌≤◌, List, [], ◌∷◌, length, sym, ap, ◌∙◌, subst, arith}
+use Rattle.std.proofs.Common.{◌≡◌, ℕ, ◌+◌, ◌^◌, ◌<◌, ◌≤◌, List, [], ◌∷◌, length, sym, ap, ◌∙◌, subst, arith}
 use Rattle.std.specs.List.{All}
 use Rattle.std.proofs.lemmas.List.Elements.{All-head, All-tail, All-weaker}
 use Rattle.steal_pool.specs.declared.crew.Crew.{Crew}
 use Rattle.steal_pool.specs.FirstLists.{FirstLists}
-use Rattle.steal_pool.specs.Runs.{workers_of, AreReady, TurnsLast}
-use Rattle.steal_pool.specs.Runs as Runs
+use Rattle.steal_pool.specs.Runs.{workers_of, room_of, TurnsLast}
+use Rattle.scan_job.specs.declared.mode.Mode.{Mode}
+use Rattle.scan_job.specs.Gains.{Gain}
+use Rattle.scan_job.specs.Shared.{Shared, lent}
 use Rattle.scan_job.specs.declared.shared.ScanShared.{ScanShared}
-use Rattle.scan_job.specs.Jobs.{scan_meaning}
-use Rattle.scan_job.specs.Phases.{CanScan}
+use Rattle.scan_job.specs.Jobs.{shared_meaning}
+use Rattle.scan_job.specs.Phases.{CanBegin, CanScan, IsDone}
 use Rattle.scan_job.specs.States.{ScanState, turns_of}
+use Rattle.scan_job.proofs.PhaseRuns.{can-begin}
 use Rattle.scan_job.proofs.Starting.{all-cons}
 
 -- there are as many jobs as before
-pub same-many : (m : ℕ) (js ks : List ScanState) → TurnsLast scan_meaning m js ks → length ks ≡ length js
+pub same-many : (m : ℕ) (js ks : List ScanState) → TurnsLast shared_meaning m js ks → length ks ≡ length js
 same-many m [] ks last = ap length last
 same-many m (j ∷ js) [] last = absurd last
 same-many m (j ∷ js) (k ∷ ks) last = let r = same-many m js ks last.1 in omega arith
 
 -- and each has lost no more turns than it may
-pub turns-left : (n m : ℕ) (js ks : List ScanState) → TurnsLast scan_meaning m js ks → All (λ j. n + m < turns_of j) js → All (λ j. n < turns_of j) ks
+pub turns-left : (n m : ℕ) (js ks : List ScanState) → TurnsLast shared_meaning m js ks → All (λ j. n + m < turns_of j) js → All (λ j. n < turns_of j) ks
 turns-left n m [] ks last turns = subst (All (λ j. n < turns_of j)) (sym last) (λ k d within. absurd (omega arith))
 turns-left n m (j ∷ js) [] last turns = absurd last
 turns-left n m (j ∷ js) (k ∷ ks) last turns =
@@ -31,13 +34,37 @@ pub turns-enough : (n m : ℕ) (js : List ScanState) → n ≤ m → All (λ j. 
 turns-enough n m js less turns =
     All-weaker (λ j. m < turns_of j) (λ j. n < turns_of j) (λ j more. omega arith) js turns
 
-module _ (s : ScanShared) (js ks : List ScanState) (crew next : Crew ScanState) (first then : FirstLists) (can : CanScan s js crew first) where
-  pub next-can : AreReady scan_meaning s ks → All (λ j. 33554432 < turns_of j) ks → length ks ≡ length js → length then.lists ≡ workers_of crew → then.room ≡ first.room → Runs.room_of next ≡ Runs.room_of crew → workers_of next ≡ workers_of crew → CanScan s ks next then
-  next-can ready turns many lists first_room room workers = record {
-    ready = ready;
-    turns = turns;
-    jobs = many ∙ can.jobs ∙ sym workers;
-    lists = lists ∙ sym workers;
-    list_room = (let l = can.list_room in omega arith);
-    room = (let l = can.room in omega arith);
-  }
+-- Jobs that went through a phase can begin the next, whoever ran them, and have so many turns left.
+pub next-begins : (n : ℕ) (s : Shared) (mode : Mode) (P : Gain → Type 0) (js ks : List ScanState) (first then : FirstLists) → 2 ^ 25 ≤ n → CanBegin s js first → IsDone s mode P js ks → All (λ j. n + 33554433 < turns_of j) js → length then.lists ≡ length js → then.room ≡ first.room → CanBegin s ks then × All (λ j. n < turns_of j) ks
+next-begins n s mode P js ks first then enough can done turns lists first_room =
+    let some = can.some in
+    let few = can.few in
+    let many = same-many 33554433 js ks done.turns in
+    let left = turns-left n 33554433 js ks done.turns turns in (
+      record {
+        some = omega arith;
+        few = omega arith;
+        ready = done.ready;
+        turns = turns-enough 33554432 n ks (omega arith) left;
+        lists = lists ∙ sym many;
+        list_room = (let l = can.list_room in omega arith);
+      },
+      left,
+    )
+
+-- The same where a crew ran them, which is as large as before.
+pub next-scans : (n : ℕ) (s : ScanShared) (mode : Mode) (P : Gain → Type 0) (js ks : List ScanState) (crew next : Crew ScanState) (first then : FirstLists) → 2 ^ 25 ≤ n → CanScan s js crew first → IsDone (lent s) mode P js ks → All (λ j. n + 33554433 < turns_of j) js → length then.lists ≡ workers_of crew → then.room ≡ first.room → room_of next ≡ room_of crew → workers_of next ≡ workers_of crew → CanScan s ks next then × All (λ j. n < turns_of j) ks
+next-scans n s mode P js ks crew next first then enough can done turns lists first_room room workers =
+    let went = next-begins n (lent s) mode P js ks first then enough (can-begin s js crew first can) done turns (lists ∙ sym can.jobs) first_room in
+    let begins = went.0 in
+    let jobs = same-many 33554433 js ks done.turns ∙ can.jobs ∙ sym workers in (
+      record {
+        ready = begins.ready;
+        turns = begins.turns;
+        jobs = jobs;
+        lists = begins.lists ∙ jobs;
+        list_room = begins.list_room;
+        room = (let l = can.room in omega arith);
+      },
+      went.1,
+    )

@@ -1,20 +1,19 @@
 -- New jobs can go through the three phases, and afterwards they have the passes of the headers.
-use Rattle.std.proofs.Common.{◌≡◌, ℕ, zero, suc, ◌*◌, ◌<◌, ◌≤◌, List, [], ◌∷◌, length, sym, ap, ◌∙◌, arith}
+use Rattle.std.proofs.Common.{◌≡◌, ℕ, zero, suc, ◌<◌, ◌≤◌, List, [], ◌∷◌, length, sym, ap, ◌∙◌, arith}
 use Rattle.std.specs.List.{All}
+use Rattle.heap_base.specs.declared.limits.TheConstants.{MOST_WORKERS}
 use Rattle.graph_meaning.specs.Roles.{AreRolesOf}
 use Rattle.header_rule.specs.declared.headers.Headers.{Headers}
 use Rattle.header_rule.specs.Passes.{IsPassOf, ArePassesOf, numbers}
 use Rattle.object_table.specs.Placed.{IsPlaced, IsSound}
-use Rattle.steal_pool.specs.declared.crew.Crew.{Crew}
 use Rattle.steal_pool.specs.FirstLists.{FirstLists}
 use Rattle.steal_pool.specs.Lists.{Each}
-use Rattle.steal_pool.specs.Runs.{workers_of, AreReady}
-use Rattle.steal_pool.specs.Runs as Runs
-use Rattle.scan_job.specs.declared.shared.ScanShared.{ScanShared}
+use Rattle.steal_pool.specs.Runs.{AreReady}
+use Rattle.scan_job.specs.Shared.{Shared}
 use Rattle.scan_job.specs.Gains.{Gain, Grows}
 use Rattle.scan_job.specs.Graphs.{StoppedGraph}
-use Rattle.scan_job.specs.Jobs.{IsReady, scan_meaning}
-use Rattle.scan_job.specs.Phases.{cells_in, CanScan}
+use Rattle.scan_job.specs.Jobs.{IsReadyFor, shared_meaning}
+use Rattle.scan_job.specs.Phases.{cells_in, CanBegin}
 use Rattle.scan_job.specs.States.{ScanState}
 use Rattle.scan_job.proofs.Starting.{all-map}
 use Rattle.heap_trace.specs.TracedCells.{passes_of, IsNew, IsNewFor, ThreePhases}
@@ -28,23 +27,25 @@ passes-at h (j ∷ js) all zero d within = all 0 j.pass (omega arith)
 passes-at h (j ∷ js) all (suc k) d within =
     passes-at h js (λ i e less. all (suc i) e (omega arith)) k d (omega arith)
 
--- What a kit has, and that it was prepared for a table.
-pub record FitsTable (s : ScanShared) (js : List ScanState) (crew : Crew ScanState) (first : FirstLists) : Type 0 where
-  pub passes : ArePassesOf s.headers.now (passes_of js)
-  pub new : All (IsNewFor s.headers.now.cells (length s.table.now.table.kinds)) js
-  pub cells : s.headers.now.cells ≡ cells_in s
-  pub jobs : length js ≡ workers_of crew
-  pub lists : length first.lists ≡ workers_of crew
-  pub list_room : s.headers.now.cells ≤ first.room
-  pub room : 2 * s.headers.now.cells < Runs.room_of crew
+-- What the memory of a trace has, and that it was taken for a table.
+pub record FitsTable (s : Shared) (js : List ScanState) (first : FirstLists) : Type 0 where
+  pub passes : ArePassesOf s.headers (passes_of js)
+  pub new : All (IsNewFor s.headers.cells (length s.table.table.kinds)) js
+  pub cells : s.headers.cells ≡ cells_in s
+  pub some : 0 < length js
+  pub few : length js ≤ MOST_WORKERS
+  pub lists : length first.lists ≡ length js
+  pub list_room : s.headers.cells ≤ first.room
 
-module _ (s : ScanShared) (js : List ScanState) (crew : Crew ScanState) (first : FirstLists) (fits : FitsTable s js crew first) (roles : AreRolesOf s.table.now.cells (length s.table.now.table.kinds) s.roles.now) (placed : IsPlaced s.table.now) (sound : IsSound s.table.now.table) where
-  pub can-scan : CanScan s js crew first
-  can-scan = record {
+module _ (s : Shared) (js : List ScanState) (first : FirstLists) (fits : FitsTable s js first) (roles : AreRolesOf s.table.cells (length s.table.table.kinds) s.roles) (placed : IsPlaced s.table) (sound : IsSound s.table.table) where
+  pub can-begin : CanBegin s js first
+  can-begin = record {
+    some = fits.some;
+    few = fits.few;
     ready = λ k d within.
         (let n = fits.new k d within in
         record {
-          pass = passes-at s.headers.now js fits.passes.0 k d within;
+          pass = passes-at s.headers js fits.passes.0 k d within;
           headers = sym n.cells_are;
           cells = n.cells_are ∙ fits.cells;
           kinds = n.kinds_are;
@@ -53,10 +54,8 @@ module _ (s : ScanShared) (js : List ScanState) (crew : Crew ScanState) (first :
           sound = sound;
         });
     turns = λ k d within. (let left = (fits.new k d within).is_new.fresh.left in omega arith);
-    jobs = fits.jobs;
     lists = fits.lists;
     list_room = (let a = fits.list_room in let b = fits.cells in omega arith);
-    room = (let a = fits.room in let b = fits.cells in omega arith);
   }
 
 pub all-new : (cells kinds : ℕ) (js : List ScanState) → All (IsNewFor cells kinds) js → All IsNew js
@@ -89,8 +88,8 @@ module _ (g : StoppedGraph) (js ms : List ScanState) (phases : ThreePhases g js 
       ∙ grown-numbers g phases.owned phases.take_up.gains phases.taken_up phases.take_up.each
       ∙ grown-numbers g js phases.owner_phase.gains phases.owned phases.owner_phase.each
 
-  pub passes-after : (s : ScanShared) → AreReady scan_meaning s ms → ArePassesOf s.headers.now (passes_of js) → ArePassesOf s.headers.now (passes_of ms)
+  pub passes-after : (s : Shared) → AreReady shared_meaning s ms → ArePassesOf s.headers (passes_of js) → ArePassesOf s.headers (passes_of ms)
   passes-after s ready are = (
-    all-map (λ (j : ScanState). j.pass) (λ j. IsReady j s) (IsPassOf s.headers.now) (λ j r. r.pass) ms ready,
+    all-map (λ (j : ScanState). j.pass) (λ j. IsReadyFor j s) (IsPassOf s.headers) (λ j r. r.pass) ms ready,
     numbers-after ∙ are.1,
   )

@@ -1,5 +1,5 @@
 //! How the memory of a trace is taken.
-ghost use Rattle.std.specs.Prelude.{◌≡◌, ◌<◌, ◌≤◌, IfOk};
+ghost use Rattle.std.specs.Prelude.{◌≡◌, ◌<◌, ◌≤◌, length, IfOk};
 ghost use Rattle.std.specs.List.{All};
 ghost use Rattle.heap_base.specs.declared.limits.TheConstants.{MOST_OBJECTS, MOST_WORKERS};
 ghost use Rattle.header_rule.specs.Passes.{IsFresh};
@@ -7,6 +7,7 @@ ghost use Rattle.heap_trace.specs.Kits.{cells_of, kinds_of};
 ghost use Rattle.heap_trace.specs.TracedCells.{passes_of, IsNewFor};
 
 use crate::kit::Kit;
+use crate::memory::TraceMemory;
 use header_rule::{Headers, Pass};
 use heap_base::OutOfMemory;
 use instance_ledger::Tally;
@@ -32,6 +33,36 @@ fn make_jobs(
     Ok(jobs)
 }
 
+impl TraceMemory {
+    /// The memory of a trace of so many cells and types by 1 to 16 workers, whoever runs its jobs. Answers `OutOfMemory`
+    /// where memory is wanting.
+    pub fn take(
+        alloc: Global,
+        cells: u32,
+        kinds: u32,
+        workers: u32,
+    ) -> Result<TraceMemory, OutOfMemory>
+        requires cells { cells ≤ MOST_OBJECTS }
+        requires workers { (0 < workers) × (workers ≤ MOST_WORKERS) }
+        ensures cells { IfOk result (λ m. m.headers.cells ≡ cells) }
+        ensures kinds { IfOk result (λ m. length m.tally ≡ kinds) }
+        ensures workers { IfOk result (λ m. length m.jobs.items ≡ workers) }
+    {
+        let (headers, passes) = Headers::make(alloc, cells, workers)?;
+        let jobs = make_jobs(alloc, passes, cells, kinds)?;
+        let first = FirstTasks::make(alloc, workers, cells)?;
+        let passes = Vec::with_capacity(alloc, workers as usize)?;
+        let tally = Tally::make(alloc, kinds)?;
+        Ok(TraceMemory {
+            headers,
+            jobs,
+            first,
+            passes,
+            tally,
+        })
+    }
+}
+
 impl Kit {
     /// The memory of a trace of so many cells and types by 1 to 16 workers. A cell costs at most 64 bytes with one
     /// worker. Answers `OutOfMemory` where memory is wanting.
@@ -41,22 +72,10 @@ impl Kit {
         ensures cells { IfOk result (λ k. cells_of k ≡ cells) }
         ensures kinds { IfOk result (λ k. kinds_of k ≡ kinds) }
     {
-        let (headers, passes) = Headers::make(alloc, cells, workers)?;
-        let jobs = make_jobs(alloc, passes, cells, kinds)?;
+        let memory = TraceMemory::take(alloc, cells, kinds, workers)?;
         // A worker has at most as many first tasks as there are cells, and puts each cell that it wins once.
         let crew = Crew::make(alloc, workers, 2 * cells as u64 + 1)?;
-        let first = FirstTasks::make(alloc, workers, cells)?;
-        let passes = Vec::with_capacity(alloc, workers as usize)?;
-        let tally = Tally::make(alloc, kinds)?;
         let kept = Vec::with_capacity(alloc, cells as usize)?;
-        Ok(Kit {
-            headers,
-            jobs,
-            crew,
-            first,
-            passes,
-            tally,
-            kept,
-        })
+        Ok(Kit { memory, crew, kept })
     }
 }

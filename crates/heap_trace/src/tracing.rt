@@ -1,50 +1,22 @@
 //! A trace by many workers.
-ghost use Rattle.std.specs.Prelude.{◌≡◌, ℕ, ◌≤◌, [], length, vec_capacity, slice_index};
-ghost use Rattle.std.specs.List.{All};
-ghost use Rattle.heap_base.specs.declared.limits.TheConstants.{MOST_OBJECTS, MOST_WORKERS};
+ghost use Rattle.std.specs.Prelude.{◌≡◌, length};
 ghost use Rattle.assert_registry.specs.Laws.{StandFor};
 ghost use Rattle.graph_meaning.specs.Heap.{Heap};
 ghost use Rattle.graph_meaning.specs.Roles.{AreRolesOf};
 ghost use Rattle.heap_trace.specs.Kits.{cells_of, kinds_of};
 ghost use Rattle.heap_trace.specs.Results.{IsByCounts};
-ghost use Rattle.heap_trace.specs.TracedCells.{passes_of, all_tallies};
 ghost use Rattle.heap_trace.specs.Traces.{IsTraceOf, CountsReferences};
 
+use crate::gathering::{merge_tallies, take_passes};
 use crate::kit::Kit;
+use crate::memory::TraceMemory;
 use crate::phases::run_phases;
 use crate::traced::Traced;
 use graph_meaning::Roles;
-use header_rule::Pass;
 use heap_base::Gate;
-use instance_ledger::Tally;
 use object_table::ObjectTable;
-use scan_job::{ScanJob, ScanShared};
+use scan_job::ScanShared;
 use std::thread::Threads;
-
-// Adds the tallies of all jobs up.
-fn merge_tallies(jobs: &[ScanJob], tally: &mut Tally)
-    requires kinds { All (λ j. length j.tally ≡ length tally.old) jobs.now }
-    requires cells { All (λ j. j.cells ≤ MOST_OBJECTS) jobs.now }
-    requires few { length jobs.now ≤ MOST_WORKERS }
-    requires zero { (kind : ℕ) → slice_index tally.old kind ≡ 0 }
-    ensures kinds { length tally.new ≡ length tally.old }
-    ensures sums { (kind : ℕ) → slice_index tally.new kind ≡ all_tallies kind jobs.now }
-{
-    for job in jobs {
-        tally.merge(job.tally());
-    }
-}
-
-// The passes of the jobs, in order, in memory that was taken before.
-fn take_passes(jobs: Vec<ScanJob>, passes: &mut Vec<Pass>)
-    requires empty { passes.old.items ≡ [] }
-    requires room { length jobs.items ≤ vec_capacity passes.old }
-    ensures { passes.new.items ≡ passes_of jobs.items }
-{
-    for job in jobs {
-        passes.push_reserved(job.into_pass());
-    }
-}
 
 /// Traces the objects of a table by many workers: from the owners, from what they found of others' ownees, and from
 /// the roots. The kit was prepared for the table's cells and types. It takes no memory, and always gives what the
@@ -67,14 +39,17 @@ pub fn trace<R: Threads + Sync, G: Gate>(
 {
     let cells = table.cells();
     let Kit {
+        memory,
+        mut crew,
+        kept,
+    } = kit;
+    let TraceMemory {
         headers,
         mut jobs,
-        mut crew,
         mut first,
         mut passes,
         mut tally,
-        kept,
-    } = kit;
+    } = memory;
     let shared = ScanShared {
         headers: &headers,
         table,

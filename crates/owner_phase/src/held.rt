@@ -6,7 +6,8 @@ ghost use Rattle.steal_pool.specs.Runs.{workers_of, room_of, AreReady, TurnsLast
 ghost use Rattle.scan_job.specs.declared.mode.Mode.TheVariants.{TakeUp};
 ghost use Rattle.scan_job.specs.Gains.{Gained};
 ghost use Rattle.scan_job.specs.Jobs.{shared_graph, scan_meaning};
-ghost use Rattle.scan_job.specs.Phases.{CanScan, AreIn, all_held, AreUnderOwners, dealt, held_firsts, TakeUpGains};
+ghost use Rattle.scan_job.specs.Phases.{CanBegin, CanScan, HasBegun, AreIn, all_held, AreUnderOwners, dealt, held_firsts, TakeUpGains};
+ghost use Rattle.scan_job.specs.Shared.{lent};
 
 use heap_base::{Gate, Task};
 use scan_job::{Mode, ScanJob, ScanShared, begin_phase, run_scans};
@@ -40,6 +41,20 @@ fn add_held(jobs: &[ScanJob], first: &mut FirstTasks, workers: u32)
     }
 }
 
+/// Begins take-up, whoever runs the jobs: held cell number k, from 0, by job and then in the order of `held()`, goes
+/// first to worker k modulo the number of workers. It takes no memory.
+pub fn begin_take_up(shared: &ScanShared<'_>, jobs: &mut Vec<ScanJob>, first: &mut FirstTasks)
+    requires begin { CanBegin (lent shared.now) jobs.old.items first.old }
+    requires held { AreUnderOwners (shared_graph shared.now) (all_held jobs.old.items) }
+    ensures begun { HasBegun (lent shared.now) TakeUp (TakeUpGains (shared_graph shared.now) (all_held jobs.old.items)) jobs.old.items jobs.new.items first.new.lists }
+    ensures first { first.new.lists ≡ dealt (length jobs.old.items) (held_firsts jobs.old.items) }
+    ensures first_room { first.new.room ≡ first.old.room }
+{
+    first.clear();
+    add_held(jobs.as_slice(), first, jobs.len() as u32);
+    begin_phase(jobs, Mode::TakeUp);
+}
+
 /// Scans from every cell that the jobs hold, which holds an object that is under owners and no owner. Held cell
 /// number k, from 0, by job and then in the order of `held()`, goes first to worker k modulo the number of workers;
 /// the lists stay in `first`. Afterwards nothing is held, and no mark was set. It takes no memory; where nothing is
@@ -64,8 +79,6 @@ pub fn take_up<R: Threads + Sync, G: Gate>(
     ensures room { room_of crew.new ≡ room_of crew.old }
     ensures workers { workers_of crew.new ≡ workers_of crew.old }
 {
-    first.clear();
-    add_held(jobs.as_slice(), first, crew.workers());
-    begin_phase(jobs, Mode::TakeUp);
+    begin_take_up(shared, jobs, first);
     run_scans(rt, crew, shared, jobs, first, gate);
 }

@@ -4,9 +4,7 @@
 mod held;
 mod laws;
 mod owners;
-#[cfg(test)]
-mod tests;
 
-pub use held::take_up;
+pub use held::{begin_take_up, take_up};
 pub use laws::what_the_owner_phase_holds_can_be_taken_up;
-pub use owners::owner_phase;
+pub use owners::{begin_owner_phase, owner_phase};

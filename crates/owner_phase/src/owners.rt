@@ -5,8 +5,9 @@ ghost use Rattle.steal_pool.specs.Runs.{workers_of, room_of, AreReady, TurnsLast
 ghost use Rattle.scan_job.specs.declared.mode.Mode.TheVariants.{Owner};
 ghost use Rattle.scan_job.specs.Gains.{Gained};
 ghost use Rattle.scan_job.specs.Jobs.{shared_graph, scan_meaning};
-ghost use Rattle.scan_job.specs.Phases.{CanScan, AreIn, dealt, owner_firsts, OwnerGains};
+ghost use Rattle.scan_job.specs.Phases.{CanBegin, CanScan, HasBegun, AreIn, dealt, owner_firsts, OwnerGains};
 ghost use Rattle.scan_job.specs.Scans.{task_at};
+ghost use Rattle.scan_job.specs.Shared.{lent};
 
 use heap_base::{Gate, Task};
 use scan_job::{Mode, ScanJob, ScanShared, begin_phase, run_scans};
@@ -33,6 +34,19 @@ fn add_owners(owners: &[u32], first: &mut FirstTasks, workers: u32)
     }
 }
 
+/// Begins the owner phase, whoever runs the jobs: owner number k, from 0, goes first to worker k modulo the number of
+/// workers, in the order of the roles. What the jobs held before is taken away. It takes no memory.
+pub fn begin_owner_phase(shared: &ScanShared<'_>, jobs: &mut Vec<ScanJob>, first: &mut FirstTasks)
+    requires { CanBegin (lent shared.now) jobs.old.items first.old }
+    ensures begun { HasBegun (lent shared.now) Owner (OwnerGains (shared_graph shared.now)) jobs.old.items jobs.new.items first.new.lists }
+    ensures first { first.new.lists ≡ dealt (length jobs.old.items) (owner_firsts shared.now.roles.now) }
+    ensures first_room { first.new.room ≡ first.old.room }
+{
+    first.clear();
+    add_owners(shared.roles.owners(), first, jobs.len() as u32);
+    begin_phase(jobs, Mode::Owner);
+}
+
 /// Scans from every owner. Owner number k, from 0, goes first to worker k modulo the number of workers, in the order
 /// of the roles; the lists stay in `first`. What the jobs held before is taken away. Afterwards they hold the ownees
 /// at which the scans stopped, and all is as `take_up` asks. It takes no memory; where there is no owner no thread is
@@ -55,8 +69,6 @@ pub fn owner_phase<R: Threads + Sync, G: Gate>(
     ensures room { room_of crew.new ≡ room_of crew.old }
     ensures workers { workers_of crew.new ≡ workers_of crew.old }
 {
-    first.clear();
-    add_owners(shared.roles.owners(), first, crew.workers());
-    begin_phase(jobs, Mode::Owner);
+    begin_owner_phase(shared, jobs, first);
     run_scans(rt, crew, shared, jobs, first, gate);
 }

@@ -9,10 +9,10 @@ use Rattle.heap_base.specs.declared.task.Task.{Task}
 use Rattle.graph_meaning.proofs.Membership.{length-filter_le}
 use Rattle.object_table.specs.Placed.{id_in, cell_of}
 use Rattle.header_rule.specs.Passes.{adds, wins}
-use Rattle.scan_job.specs.declared.shared.ScanShared.{ScanShared}
+use Rattle.scan_job.specs.Shared.{Shared}
 use Rattle.scan_job.specs.Fit.{no_owners}
 use Rattle.scan_job.specs.Graphs.{StoppedGraph}
-use Rattle.scan_job.specs.Jobs.{shared_graph, IsReady}
+use Rattle.scan_job.specs.Jobs.{graph_in, IsReadyFor}
 use Rattle.scan_job.specs.Phases.{cells_in, put_last, dealt, root_firsts}
 use Rattle.scan_job.specs.Scans.{one_meeting, Meets, task_at}
 use Rattle.scan_job.specs.States.{ScanState, IsWithinWins, turns_of}
@@ -31,11 +31,11 @@ length-filter_map h (x ∷ xs) = go (h x) (length-filter_map h xs)
     go (Some y) r = omega arith
 
 -- before the first root
-pub meets-no_roots : (s : ScanShared) (n : ℕ) (j : ScanState) (fs : List (List Task)) → fs ≡ replicate n [] → (r : MeetsRoots s 0 (record { job = j; lists = fs }) (record { job = j; lists = fs })) × (0 ≡ length (root_firsts (shared_graph s) r.won))
+pub meets-no_roots : (s : Shared) (n : ℕ) (j : ScanState) (fs : List (List Task)) → fs ≡ replicate n [] → (r : MeetsRoots s 0 (record { job = j; lists = fs }) (record { job = j; lists = fs })) × (0 ≡ length (root_firsts (graph_in s) r.won))
 meets-no_roots s n j fs none = (
   record {
     won = [];
-    meets = meets-none (shared_graph s) j 0;
+    meets = meets-none (graph_in s) j 0;
     few = omega arith;
     lists = none ∙ ap (λ m. replicate m []) (sym (ap length none ∙ length-replicate n []));
   },
@@ -43,12 +43,12 @@ meets-no_roots s n j fs none = (
 )
 
 -- the meetings with the first roots use up few of the meets that are left
-pub turns-left : (s : ScanShared) (roots : ℕ) (old new : JobAndLists) → MeetsRoots s roots old new → roots ≤ MOST_ROOTS → turns_of old.job ≤ turns_of new.job + 1
+pub turns-left : (s : Shared) (roots : ℕ) (old new : JobAndLists) → MeetsRoots s roots old new → roots ≤ MOST_ROOTS → turns_of old.job ≤ turns_of new.job + 1
 turns-left s roots old new p few =
     let met = ap length p.meets.adds in
-    let sum = length-append (adds old.job.pass) (first_roots s.table.now roots) in
-    let short = length-filter_map (λ root. cell_of s.table.now root.1) (take roots s.table.now.table.roots) in
-    let taken = length-take roots s.table.now.table.roots in
+    let sum = length-append (adds old.job.pass) (first_roots s.table roots) in
+    let short = length-filter_map (λ root. cell_of s.table root.1) (take roots s.table.table.roots) in
+    let taken = length-take roots s.table.table.roots in
     let before = old.job.pass.room in
     let after = new.job.pass.room in
     omega arith
@@ -70,25 +70,25 @@ firsts-more g won cell b put is =
     one true false = refl
 
 -- One root more: the job that met it, and whether the scan goes on from its cell.
-pub record NextRoot (s : ScanShared) (roots cell : ℕ) (goes_on : Bool) (j k : ScanState) : Type 0 where
-  pub within : roots < length s.table.now.table.roots
-  pub names : IfSome (slice_get s.table.now.table.roots roots) (λ n. id_in s.table.now cell ≡ Some n.1)
+pub record NextRoot (s : Shared) (roots cell : ℕ) (goes_on : Bool) (j k : ScanState) : Type 0 where
+  pub within : roots < length s.table.table.roots
+  pub names : IfSome (slice_get s.table.table.roots roots) (λ n. id_in s.table cell ≡ Some n.1)
   pub meets : MeetsRoot s cell goes_on j k
-  pub ready : IsReady k s
+  pub ready : IsReadyFor k s
   pub within_wins : IsWithinWins k
 
-module _ (s : ScanShared) (roots cell : ℕ) (goes_on : Bool) (old now : JobAndLists) (next : ScanState) (p : MeetsRoots s roots old now) (q : NextRoot s roots cell goes_on now.job next) where
+module _ (s : Shared) (roots cell : ℕ) (goes_on : Bool) (old now : JobAndLists) (next : ScanState) (p : MeetsRoots s roots old now) (q : NextRoot s roots cell goes_on now.job next) where
   abbrev g : StoppedGraph
-  g = shared_graph s
+  g = graph_in s
 
   -- what is won with this root
   abbrev won_more : List ℕ
   won_more = p.won ++ won_of q.meets.won cell
 
-  met-more : Meets g (record { tag = 0; cells = first_roots s.table.now (roots + 1); won = won_more }) old.job next
+  met-more : Meets g (record { tag = 0; cells = first_roots s.table (roots + 1); won = won_more }) old.job next
   met-more =
-      subst (λ xs. Meets g (record { tag = 0; cells = xs; won = won_more }) old.job next) (sym (roots-more s.table.now roots cell q.ready.placed q.within q.names))
-      (meets-both g (record { tag = 0; cells = first_roots s.table.now roots; won = p.won }) (one_meeting 0 cell q.meets.won) old.job now.job next refl p.meets q.meets.meets)
+      subst (λ xs. Meets g (record { tag = 0; cells = xs; won = won_more }) old.job next) (sym (roots-more s.table roots cell q.ready.placed q.within q.names))
+      (meets-both g (record { tag = 0; cells = first_roots s.table roots; won = p.won }) (one_meeting 0 cell q.meets.won) old.job now.job next refl p.meets q.meets.meets)
 
   few-more : length won_more ≤ cells_in s
   few-more =

@@ -4,21 +4,19 @@ use Rattle.std.specs.List.{All, filter_map}
 use Rattle.std.proofs.Math.Seq.{take-length}
 use Rattle.std.proofs.lemmas.List.{length-map}
 use Rattle.graph_meaning.proofs.Membership.{length-filter_le}
-use Rattle.steal_pool.specs.declared.crew.Crew.{Crew}
 use Rattle.steal_pool.specs.FirstLists.{FirstLists}
-use Rattle.steal_pool.specs.Runs.{workers_of, most_tasks, Run, AreReady, TurnsLast}
+use Rattle.steal_pool.specs.Runs.{most_tasks, AreReady, TurnsLast}
 use Rattle.scan_job.specs.declared.mode.Mode.TheVariants.{Root}
-use Rattle.scan_job.specs.declared.shared.ScanShared.{ScanShared}
+use Rattle.scan_job.specs.Shared.{Shared}
 use Rattle.object_table.specs.Placed.{cell_of}
 use Rattle.scan_job.specs.Fit.{no_owners}
-use Rattle.scan_job.specs.Gains.{Gained}
 use Rattle.scan_job.specs.Graphs.{StoppedGraph, IsWhole}
-use Rattle.scan_job.specs.Jobs.{shared_graph, IsReady, scan_meaning}
-use Rattle.scan_job.specs.Phases.{cells_in, CanScan, AreIn, all_held, begun, CanRun, dealt, root_firsts, BeginsAtRoots, RootGains}
+use Rattle.scan_job.specs.Jobs.{graph_in, IsReadyFor, shared_meaning}
+use Rattle.scan_job.specs.Phases.{cells_in, CanBegin, HasBegun, begun, dealt, root_firsts, BeginsAtRoots, RootGains}
 use Rattle.scan_job.specs.Scans.{Meets, task_at}
 use Rattle.scan_job.specs.States.{ScanState, turns_of}
-use Rattle.scan_job.proofs.Gaining.{run-modes, root_meeting, roots-fit, root-phase, none-held}
-use Rattle.scan_job.proofs.PhaseRuns.{some-jobs, le-times}
+use Rattle.scan_job.proofs.Gaining.{run-modes, root_meeting, roots-fit, root-phase}
+use Rattle.scan_job.proofs.PhaseRuns.{le-times}
 use Rattle.scan_job.proofs.Starting.{IsStart, all-map, all-cons, all-tail, graph-whole, begun-ready, begun-modes, begun-last, few-tasks, can-run}
 use Rattle.root_phase.specs.Roots.{JobAndLists, MeetsRoots}
 use Rattle.root_phase.proofs.RootMeetings.{turns-left}
@@ -28,74 +26,78 @@ all-set : {X : Type 0} (P : X → Type 0) (x : X) (xs : List X) → P x → All 
 all-set P x [] here all = all
 all-set P x (y ∷ xs) here all = all-cons P x xs here (all-tail P y xs all)
 
-first-last : (n m : ℕ) (js ks : List ScanState) (j k : ScanState) → n + 1 ≤ m → j ≡ get_or (map (begun Root) js) 0 j → turns_of j ≤ turns_of k + 1 → TurnsLast scan_meaning n (set (map (begun Root) js) 0 k) ks → TurnsLast scan_meaning m js ks
+first-last : (n m : ℕ) (js ks : List ScanState) (j k : ScanState) → n + 1 ≤ m → j ≡ get_or (map (begun Root) js) 0 j → turns_of j ≤ turns_of k + 1 → TurnsLast shared_meaning n (set (map (begun Root) js) 0 k) ks → TurnsLast shared_meaning m js ks
 first-last n m [] ks j k enough is met last = last
 first-last n m (i ∷ js) [] j k enough is met last = absurd last
 first-last n m (i ∷ js) (l ∷ ks) j k enough is met last =
     (let a = last.0 in let b = ap turns_of is in omega arith, begun-last Root n m js ks (omega arith) last.1)
 
 -- the first of jobs that have begun the phase is ready
-pub first-of-begun : (s : ScanShared) (js begins : List ScanState) (j : ScanState) → 0 < length js → AreReady scan_meaning s js → begins ≡ map (begun Root) js → j ≡ get_or begins 0 j → IsReady j s
+pub first-of-begun : (s : Shared) (js begins : List ScanState) (j : ScanState) → 0 < length js → AreReady shared_meaning s js → begins ≡ map (begun Root) js → j ≡ get_or begins 0 j → IsReadyFor j s
 first-of-begun s js begins j some ready are_begun is =
     let l = ap length are_begun ∙ length-map js (begun Root) in
-    let all = subst (λ zs. AreReady scan_meaning s zs) (sym are_begun) (begun-ready s Root js ready) in
-    subst (λ z. IsReady z s) (sym is) (all 0 j (omega arith))
+    let all = subst (λ zs. AreReady shared_meaning s zs) (sym are_begun) (begun-ready s Root js ready) in
+    subst (λ z. IsReadyFor z s) (sym is) (all 0 j (omega arith))
 
 -- A phase from the roots, whose first job met them.
-pub record RootStart (s : ScanShared) (js : List ScanState) (crew : Crew ScanState) (first : FirstLists) : Type 0 where
-  pub can : CanScan s js crew first
+pub record RootStart (s : Shared) (js : List ScanState) (first : FirstLists) : Type 0 where
+  pub can : CanBegin s js first
   pub begins : List ScanState
   pub are_begun : begins ≡ map (begun Root) js
   pub old : JobAndLists
   pub new : JobAndLists
   pub is_first : old.job ≡ get_or begins 0 old.job
-  pub workers : length old.lists ≡ workers_of crew
-  pub met : MeetsRoots s (length s.table.now.table.roots) old new
-  pub ready : IsReady new.job s
+  pub workers : length old.lists ≡ length js
+  pub met : MeetsRoots s (length s.table.table.roots) old new
+  pub ready : IsReadyFor new.job s
 
-module _ (s : ScanShared) (js : List ScanState) (crew : Crew ScanState) (first : FirstLists) (p : RootStart s js crew first) where
+module _ (s : Shared) (js : List ScanState) (first : FirstLists) (p : RootStart s js first) where
   abbrev g : StoppedGraph
-  g = shared_graph s
-
-  some : 0 < length js
-  some = some-jobs s js crew first p.can
+  g = graph_in s
 
   whole : IsWhole g
-  whole = graph-whole s js some p.can.ready
+  whole = graph-whole s js p.can.some p.can.ready
 
   met-roots : Meets g (root_meeting g p.met.won) p.old.job p.new.job
   met-roots =
-      subst (λ xs. Meets g (record { tag = 0; cells = filter_map (λ root. cell_of s.table.now root.1) xs; won = p.met.won }) p.old.job p.new.job) (take-length s.table.now.table.roots) p.met.meets
+      subst (λ xs. Meets g (record { tag = 0; cells = filter_map (λ root. cell_of s.table root.1) xs; won = p.met.won }) p.old.job p.new.job) (take-length s.table.table.roots) p.met.meets
 
   first-begun : p.old.job ≡ get_or (map (begun Root) js) 0 p.old.job
   first-begun = p.is_first ∙ ap (λ zs. get_or zs 0 p.old.job) p.are_begun
 
-  lists : p.new.lists ≡ dealt (workers_of crew) (root_firsts g p.met.won)
+  lists : p.new.lists ≡ dealt (length js) (root_firsts g p.met.won)
   lists = p.met.lists ∙ ap (λ n. dealt n (root_firsts g p.met.won)) p.workers
 
   old-turns : 2 ^ 25 < turns_of p.old.job
   old-turns =
       let all = all-map (begun Root) (λ j. 2 ^ 25 < turns_of j) (λ j. 2 ^ 25 < turns_of j) (λ j l. l) js p.can.turns in
       let l = length-map js (begun Root) in
-      let a = some in
+      let a = p.can.some in
       subst (λ j. 2 ^ 25 < turns_of j) (sym first-begun) (all 0 p.old.job (omega arith))
 
   turns-met : turns_of p.old.job ≤ turns_of p.new.job + 1
   turns-met =
-      turns-left s (length s.table.now.table.roots) p.old p.new p.met p.ready.sound.limits.roots
+      turns-left s (length s.table.table.roots) p.old p.new p.met p.ready.sound.limits.roots
 
-  start : IsStart s Root crew (set (map (begun Root) js) 0 p.new.job) (root_firsts g p.met.won)
+  abbrev starts : List ScanState
+  starts = set (map (begun Root) js) 0 p.new.job
+
+  many : length starts ≡ length js
+  many = length-set (map (begun Root) js) 0 p.new.job ∙ length-map js (begun Root)
+
+  start : IsStart s Root (length js) starts (root_firsts g p.met.won)
   start = record {
-    ready = all-set (λ j. IsReady j s) p.new.job (map (begun Root) js) p.ready (begun-ready s Root js p.can.ready);
+    ready = all-set (λ j. IsReadyFor j s) p.new.job (map (begun Root) js) p.ready (begun-ready s Root js p.can.ready);
     modes = all-set (λ j. j.mode ≡ Root) p.new.job (map (begun Root) js) (met-roots.mode ∙ first-mode) (begun-modes s Root js);
     turns = all-set (λ j. 2 ^ 25 ≤ turns_of j) p.new.job (map (begun Root) js) (let a = old-turns in let b = turns-met in omega arith) (all-map (begun Root) (λ j. 2 ^ 25 < turns_of j) (λ j. 2 ^ 25 ≤ turns_of j) (λ j l. omega arith) js p.can.turns);
-    jobs = length-set (map (begun Root) js) 0 p.new.job ∙ length-map js (begun Root) ∙ p.can.jobs;
-    room = p.can.room;
+    jobs = many;
+    some = p.can.some;
+    few_jobs = p.can.few;
     few =
         let a = length-map (no_owners g p.met.won) (task_at 0) in
         let b = length-filter_le (λ x. not (g.is_owner x)) p.met.won in
         let c = p.met.few in
-        let d = le-times (workers_of crew) (cells_in s) crew.some in
+        let d = le-times (length js) (cells_in s) p.can.some in
         omega arith;
     fit = roots-fit g whole p.met.won met-roots.among;
   }
@@ -103,34 +105,28 @@ module _ (s : ScanShared) (js : List ScanState) (crew : Crew ScanState) (first :
       first-mode : p.old.job.mode ≡ Root
       first-mode =
           let l = length-map js (begun Root) in
-          let a = some in
+          let a = p.can.some in
           subst (λ j. j.mode ≡ Root) (sym first-begun) (begun-modes s Root js 0 p.old.job (omega arith))
+
+  pub root-first : BeginsAtRoots g (length js) p.new.lists
+  root-first = record { won = p.met.won; among = met-roots.among; lists = lists }
 
   -- ---- what the run needs and leaves
 
-  pub root-run : CanRun s (set p.begins 0 p.new.job) crew p.new.lists
-  root-run =
-      subst (λ zs. CanRun s (set zs 0 p.new.job) crew p.new.lists) (sym p.are_begun) (can-run s Root crew (set (map (begun Root) js) 0 p.new.job) (root_firsts g p.met.won) p.new.lists start lists)
+  from-starts : HasBegun s Root (RootGains g) js starts p.new.lists
+  from-starts =
+      let n = length js in
+      let few = few-tasks s Root n starts (root_firsts g p.met.won) p.new.lists start lists in
+      record {
+        many = many;
+        can_run = can-run s Root n starts (root_firsts g p.met.won) p.new.lists start lists;
+        done = λ ks ran. record {
+          gains = root-phase s js ks p.old.job p.new.job p.met.won p.new.lists n p.can.some p.can.some whole first-begun met-roots lists ran.ran;
+          modes = run-modes s Root p.new.lists starts ks (let a = many in let b = p.can.some in omega arith) start.modes ran.ran;
+          ready = ran.ready;
+          turns = first-last (most_tasks shared_meaning starts p.new.lists) (2 ^ 25 + 1) js ks p.old.job p.new.job (omega arith) first-begun turns-met ran.turns;
+        };
+      }
 
-  pub root-first : BeginsAtRoots g (workers_of crew) p.new.lists
-  root-first = record { won = p.met.won; among = met-roots.among; lists = lists }
-
-  pub root-turns : (ks : List ScanState) → TurnsLast scan_meaning (most_tasks scan_meaning (set p.begins 0 p.new.job) p.new.lists) (set p.begins 0 p.new.job) ks → TurnsLast scan_meaning (2 ^ 25 + 1) js ks
-  root-turns ks last =
-      let few = few-tasks s Root crew (set (map (begun Root) js) 0 p.new.job) (root_firsts g p.met.won) p.new.lists start lists in
-      first-last (most_tasks scan_meaning (set (map (begun Root) js) 0 p.new.job) p.new.lists) (2 ^ 25 + 1) js ks p.old.job p.new.job (omega arith) first-begun turns-met (subst (λ zs. TurnsLast scan_meaning (most_tasks scan_meaning (set zs 0 p.new.job) p.new.lists) (set zs 0 p.new.job) ks) p.are_begun last)
-
-  module _ (ks : List ScanState) (run : Run scan_meaning s p.new.lists (set p.begins 0 p.new.job) ks) where
-    begun-run : Run scan_meaning s p.new.lists (set (map (begun Root) js) 0 p.new.job) ks
-    begun-run = subst (λ zs. Run scan_meaning s p.new.lists (set zs 0 p.new.job) ks) p.are_begun run
-
-    pub root-modes : AreIn Root ks
-    root-modes =
-        run-modes s Root p.new.lists (set (map (begun Root) js) 0 p.new.job) ks (let a = start.jobs in let b = crew.some in omega arith) start.modes begun-run
-
-    pub root-gained : Gained g (RootGains g) js ks
-    root-gained =
-        root-phase s js ks p.old.job p.new.job p.met.won p.new.lists (workers_of crew) some crew.some whole first-begun met-roots lists begun-run
-
-    pub root-none_held : all_held ks ≡ []
-    root-none_held = none-held g js ks (RootGains g) root-gained root-gained.all.none_held
+  pub root-begun : HasBegun s Root (RootGains g) js (set p.begins 0 p.new.job) p.new.lists
+  root-begun = subst (λ zs. HasBegun s Root (RootGains g) js (set zs 0 p.new.job) p.new.lists) (sym p.are_begun) from-starts

@@ -3,17 +3,17 @@ use Rattle.std.specs.Prelude.{◌≡◌, ℕ, ◌≤◌, List, length, Bool, not
 use Rattle.std.specs.List.{filter_map}
 use Rattle.heap_base.specs.declared.task.Task.{Task}
 use Rattle.object_table.specs.Placed.{Placed, cell_of}
-use Rattle.scan_job.specs.declared.shared.ScanShared.{ScanShared}
-use Rattle.scan_job.specs.Jobs.{shared_graph}
+use Rattle.scan_job.specs.Shared.{Shared}
+use Rattle.scan_job.specs.Jobs.{graph_in}
 use Rattle.scan_job.specs.Phases.{cells_in, dealt, root_firsts}
 use Rattle.scan_job.specs.Scans.{one_meeting, Meets}
 use Rattle.scan_job.specs.States.{ScanState}
 
 -- The job j met the cell and became k; the scan goes on from the cell where it was won and is no owner's.
-pub record MeetsRoot (s : ScanShared) (cell : ℕ) (goes_on : Bool) (j k : ScanState) : Type 0 where
+pub record MeetsRoot (s : Shared) (cell : ℕ) (goes_on : Bool) (j k : ScanState) : Type 0 where
   pub won : Bool
-  pub meets : Meets (shared_graph s) (one_meeting 0 cell won) j k
-  pub scanned : goes_on ≡ (won && not ((shared_graph s).is_owner cell))
+  pub meets : Meets (graph_in s) (one_meeting 0 cell won) j k
+  pub scanned : goes_on ≡ (won && not ((graph_in s).is_owner cell))
 
 -- the cells that the first of the roots name
 abbrev pub first_roots : Placed → ℕ → List ℕ
@@ -26,8 +26,8 @@ pub record JobAndLists : Type 0 where
 
 -- The job met what the first of the roots name, each once and in order, and those of its wins that are no owners were dealt.
 -- It won no more cells than there are.
-pub record MeetsRoots (s : ScanShared) (roots : ℕ) (old new : JobAndLists) : Type 0 where
+pub record MeetsRoots (s : Shared) (roots : ℕ) (old new : JobAndLists) : Type 0 where
   pub won : List ℕ
-  pub meets : Meets (shared_graph s) (record { tag = 0; cells = first_roots s.table.now roots; won = won }) old.job new.job
+  pub meets : Meets (graph_in s) (record { tag = 0; cells = first_roots s.table roots; won = won }) old.job new.job
   pub few : length won ≤ cells_in s
-  pub lists : new.lists ≡ dealt (length old.lists) (root_firsts (shared_graph s) won)
+  pub lists : new.lists ≡ dealt (length old.lists) (root_firsts (graph_in s) won)

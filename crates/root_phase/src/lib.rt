@@ -3,7 +3,5 @@
 
 mod meeting;
 mod roots;
-#[cfg(test)]
-mod tests;
 
-pub use roots::root_phase;
+pub use roots::{begin_root_phase, root_phase};

@@ -4,13 +4,29 @@ ghost use Rattle.steal_pool.specs.Runs.{workers_of, room_of, AreReady, TurnsLast
 ghost use Rattle.scan_job.specs.declared.mode.Mode.TheVariants.{Root};
 ghost use Rattle.scan_job.specs.Gains.{Gained};
 ghost use Rattle.scan_job.specs.Jobs.{shared_graph, scan_meaning};
-ghost use Rattle.scan_job.specs.Phases.{CanScan, AreIn, all_held, BeginsAtRoots, RootGains};
+ghost use Rattle.scan_job.specs.Phases.{CanBegin, CanScan, HasBegun, AreIn, all_held, BeginsAtRoots, RootGains};
+ghost use Rattle.scan_job.specs.Shared.{lent};
 
 use crate::meeting::meet_roots;
 use heap_base::Gate;
 use scan_job::{Mode, ScanJob, ScanShared, begin_phase, run_scans};
 use std::thread::Threads;
 use steal_pool::{Crew, FirstTasks};
+
+/// Begins the root phase, whoever runs the jobs: the first job meets every root once, in order, and each of its wins that
+/// is no owner is a first task. Such a win number k, from 0, goes first to worker k modulo the number of workers. What the
+/// jobs held before is taken away. It takes no memory.
+pub fn begin_root_phase(shared: &ScanShared<'_>, jobs: &mut Vec<ScanJob>, first: &mut FirstTasks)
+    requires { CanBegin (lent shared.now) jobs.old.items first.old }
+    ensures begun { HasBegun (lent shared.now) Root (RootGains (shared_graph shared.now)) jobs.old.items jobs.new.items first.new.lists }
+    ensures first { BeginsAtRoots (shared_graph shared.now) (length jobs.old.items) first.new.lists }
+    ensures first_room { first.new.room ≡ first.old.room }
+{
+    first.clear();
+    begin_phase(jobs, Mode::Root);
+    let workers = jobs.len() as u32;
+    meet_roots(shared, &mut jobs[0], first, workers);
+}
 
 /// Meets every root once, in order, by the first job, and scans from those of its wins that are no owners. Such a win
 /// number k, from 0, goes first to worker k modulo the number of workers; the lists stay in `first`. What the jobs
@@ -35,8 +51,6 @@ pub fn root_phase<R: Threads + Sync, G: Gate>(
     ensures room { room_of crew.new ≡ room_of crew.old }
     ensures workers { workers_of crew.new ≡ workers_of crew.old }
 {
-    first.clear();
-    begin_phase(jobs, Mode::Root);
-    meet_roots(shared, &mut jobs[0], first, crew.workers());
+    begin_root_phase(shared, jobs, first);
     run_scans(rt, crew, shared, jobs, first, gate);
 }

@@ -1,23 +1,22 @@
 -- From the run of a phase to what its jobs gain.
-use Rattle.std.proofs.Common.{◌≡◌, ℕ, zero, suc, ◌+◌, ◌<◌, ◌≤◌, true, not, ◌&&◌, inl, List, [], ◌∷◌, ◌++◌, length, filter, get_or, set, map, sym, refl, ap, ◌∙◌, subst, arith, IsTrue, eqb}
-use Rattle.std.specs.List.{All, AllByRecursion, Contains, flat_map}
+use Rattle.std.proofs.Common.{◌≡◌, ℕ, ◌<◌, true, not, ◌&&◌, inl, List, [], ◌∷◌, ◌++◌, length, filter, get_or, set, map, sym, refl, ap, ◌∙◌, subst, arith, eqb}
+use Rattle.std.specs.List.{AllByRecursion, Contains}
 use Rattle.std.proofs.lemmas.Bool.{or_right, and_parts}
 use Rattle.heap_base.specs.declared.task.Task.{Task}
 use Rattle.heap_base.specs.Counting.{bit, total, AsOften}
 use Rattle.heap_base.proofs.Counting.{total-map}
 use Rattle.graph_meaning.specs.Reach.{has_id}
-use Rattle.graph_meaning.specs.Roles.{RoleTable}
 use Rattle.graph_meaning.proofs.Membership.{has_id-head}
 use Rattle.steal_pool.specs.Jobs.{AllFit}
 use Rattle.steal_pool.specs.Lists.{Each}
 use Rattle.steal_pool.specs.Runs.{Run, all_first, AreReady}
 use Rattle.scan_job.specs.declared.mode.Mode.{Mode}
 use Rattle.scan_job.specs.declared.mode.Mode.TheVariants.{Owner, TakeUp, Root}
-use Rattle.scan_job.specs.declared.shared.ScanShared.{ScanShared}
-use Rattle.scan_job.specs.Fit.{fit_tasks, no_owners}
+use Rattle.scan_job.specs.Shared.{Shared}
+use Rattle.scan_job.specs.Fit.{fit_tasks}
 use Rattle.scan_job.specs.Gains.{Gain, all_gains, Grows, Gained}
 use Rattle.scan_job.specs.Graphs.{StoppedGraph, IsWhole, owners}
-use Rattle.scan_job.specs.Jobs.{shared_graph, IsReady, scan_meaning}
+use Rattle.scan_job.specs.Jobs.{graph_in, shared_meaning}
 use Rattle.scan_job.specs.Phases.{AreIn, all_held, AreUnderOwners, begun, dealt, owner_firsts, held_firsts, root_firsts, OwnerGains, TakeUpGains, RootGains}
 use Rattle.scan_job.specs.Scans.{Meeting, AreAmong, Meets, task_at}
 use Rattle.scan_job.specs.States.{ScanState}
@@ -26,8 +25,8 @@ use Rattle.scan_job.proofs.Fitting.{fit_tasks-is, times-at, at-times, among-at, 
 use Rattle.scan_job.proofs.OwnerCells.{owners-as_often}
 use Rattle.scan_job.proofs.PhaseGains.{owner-gains, take_up-gains, root-gains}
 use Rattle.scan_job.proofs.Reaching.{filter-at, root-reached}
-use Rattle.scan_job.proofs.Scanned.{Extends, RanScans, both_gains, both_gains-assoc, gain_of, extends-both, meets-extends, run-scans, begun-grows}
-use Rattle.scan_job.proofs.Starting.{all-cons, all-tail, all-map, first-ready, graph-whole, begun-modes}
+use Rattle.scan_job.proofs.Scanned.{Extends, both_gains, both_gains-assoc, gain_of, extends-both, meets-extends, run-scans, begun-grows}
+use Rattle.scan_job.proofs.Starting.{all-cons, all-tail, first-ready, graph-whole, begun-modes}
 
 -- ---- jobs that grew
 
@@ -47,9 +46,9 @@ same-modes g mode (j ∷ js) (a ∷ gains) [] e are = absurd e
 same-modes g mode (j ∷ js) (a ∷ gains) (k ∷ ks) e are =
     all-cons (λ i. i.mode ≡ mode) k ks (e.0.mode ∙ are 0 j (omega arith)) (same-modes g mode js gains ks e.1 (all-tail (λ i. i.mode ≡ mode) j js are))
 
-pub run-modes : (s : ScanShared) (mode : Mode) (fs : List (List Task)) (js ks : List ScanState) → 0 < length js → AreIn mode js → Run scan_meaning s fs js ks → AreIn mode ks
+pub run-modes : (s : Shared) (mode : Mode) (fs : List (List Task)) (js ks : List ScanState) → 0 < length js → AreIn mode js → Run shared_meaning s fs js ks → AreIn mode ks
 run-modes s mode fs js ks some are run =
-    let r = run-scans s mode fs js ks some are run in same-modes (shared_graph s) mode js r.gains ks r.each are
+    let r = run-scans s mode fs js ks some are run in same-modes (graph_in s) mode js r.gains ks r.each are
 
 -- a task of each element is fit where each is
 all-tasks : (P : Task → Type 0) (tag : ℕ → ℕ) (xs : List ℕ) → ((x : ℕ) → has_id xs x ≡ true → P (task_at (tag x) x)) → AllByRecursion P (map (λ x. task_at (tag x) x) xs)
@@ -65,18 +64,18 @@ first-often : (n : ℕ) (fs : List (List Task)) (ts : List Task) → 0 < n → f
 first-often n fs ts some lists h =
     ap (λ (hs : List (List Task)). total h (all_first hs)) lists ∙ dealt-as_often n ts some h
 
-module _ (s : ScanShared) (js : List ScanState) (some_jobs : 0 < length js) (ready : AreReady scan_meaning s js) where
+module _ (s : Shared) (js : List ScanState) (some_jobs : 0 < length js) (ready : AreReady shared_meaning s js) where
   abbrev g : StoppedGraph
-  g = shared_graph s
+  g = graph_in s
 
   whole : IsWhole g
   whole = graph-whole s js some_jobs ready
 
   -- ---- the first tasks are fit
 
-  pub owners-fit : AllFit (fit_tasks g Owner) (owner_firsts s.roles.now)
+  pub owners-fit : AllFit (fit_tasks g Owner) (owner_firsts s.roles)
   owners-fit =
-      all-tasks (Contains (fit_tasks g Owner)) (λ o. o) s.roles.now.owners (λ o at. (fit_tasks-is g whole Owner (task_at o o)).1 (at, inl refl))
+      all-tasks (Contains (fit_tasks g Owner)) (λ o. o) s.roles.owners (λ o at. (fit_tasks-is g whole Owner (task_at o o)).1 (at, inl refl))
 
   pub held-fit : AreUnderOwners g (all_held js) → AllFit (fit_tasks g TakeUp) (held_firsts js)
   held-fit under =
@@ -85,7 +84,7 @@ module _ (s : ScanShared) (js : List ScanState) (some_jobs : 0 < length js) (rea
   -- ---- what the run gains
 
   module _ (ks : List ScanState) (fs : List (List Task)) (n : ℕ) (some_workers : 0 < n) where
-    pub owner-phase : fs ≡ dealt n (owner_firsts s.roles.now) → Run scan_meaning s fs (map (begun Owner) js) ks → Gained g (OwnerGains g) js ks
+    pub owner-phase : fs ≡ dealt n (owner_firsts s.roles) → Run shared_meaning s fs (map (begun Owner) js) ks → Gained g (OwnerGains g) js ks
     owner-phase lists run =
         let r = run-scans s Owner fs (map (begun Owner) js) ks (map-some Owner js some_jobs) (begun-modes s Owner js) run in
         record {
@@ -93,14 +92,14 @@ module _ (s : ScanShared) (js : List ScanState) (some_jobs : 0 < length js) (rea
           each = begun-grows g Owner js r.gains ks r.each;
           all = owner-gains g whole r.done r.put (all_first fs) (all_gains r.gains) r.scanned r.are_fit r.as_often
               (λ h.
-              let a = first-often n fs (owner_firsts s.roles.now) some_workers lists h in
-              let b = total-map h (λ o. task_at o o) s.roles.now.owners in
+              let a = first-often n fs (owner_firsts s.roles) some_workers lists h in
+              let b = total-map h (λ o. task_at o o) s.roles.owners in
               let c = total-map h (λ o. task_at o o) (owners g) in
-              let d = owners-as_often s.table.now s.roles.now (first-ready s js some_jobs ready).1.roles (λ o. h (task_at o o)) in
+              let d = owners-as_often s.table s.roles (first-ready s js some_jobs ready).1.roles (λ o. h (task_at o o)) in
               omega arith);
         }
 
-    pub take_up-phase : fs ≡ dealt n (held_firsts js) → Run scan_meaning s fs (map (begun TakeUp) js) ks → Gained g (TakeUpGains g (all_held js)) js ks
+    pub take_up-phase : fs ≡ dealt n (held_firsts js) → Run shared_meaning s fs (map (begun TakeUp) js) ks → Gained g (TakeUpGains g (all_held js)) js ks
     take_up-phase lists run =
         let r = run-scans s TakeUp fs (map (begun TakeUp) js) ks (map-some TakeUp js some_jobs) (begun-modes s TakeUp js) run in
         record {
@@ -126,9 +125,9 @@ pub roots-fit : (g : StoppedGraph) → IsWhole g → (won : List ℕ) → AreAmo
 roots-fit g whole won among =
     all-tagged (Contains (fit_tasks g Root)) 0 (λ x. not (g.is_owner x)) won (λ x at free. (fit_tasks-is g whole Root (task_at 0 x)).1 (refl, free, root-reached g whole x (among-at won g.roots among x at)))
 
-root-jobs : (s : ScanShared) (j : ScanState) (js ks : List ScanState) (k : ScanState) (won : List ℕ) (fs : List (List Task)) (n : ℕ) → 0 < n → IsWhole (shared_graph s) → Meets (shared_graph s) (root_meeting (shared_graph s) won) (begun Root j) k → fs ≡ dealt n (root_firsts (shared_graph s) won) → Run scan_meaning s fs (k ∷ map (begun Root) js) ks → Gained (shared_graph s) (RootGains (shared_graph s)) (j ∷ js) ks
+root-jobs : (s : Shared) (j : ScanState) (js ks : List ScanState) (k : ScanState) (won : List ℕ) (fs : List (List Task)) (n : ℕ) → 0 < n → IsWhole (graph_in s) → Meets (graph_in s) (root_meeting (graph_in s) won) (begun Root j) k → fs ≡ dealt n (root_firsts (graph_in s) won) → Run shared_meaning s fs (k ∷ map (begun Root) js) ks → Gained (graph_in s) (RootGains (graph_in s)) (j ∷ js) ks
 root-jobs s j js ks k won fs n some whole met lists run =
-    let g = shared_graph s in
+    let g = graph_in s in
     let modes : AreIn Root (k ∷ map (begun Root) js) = all-cons (λ i. i.mode ≡ Root) k (map (begun Root) js) met.mode (begun-modes s Root js) in
     let r = run-scans s Root fs (k ∷ map (begun Root) js) ks (omega arith) modes run in
     let a = gain_of g Root (root_meeting g won) in
@@ -140,10 +139,10 @@ root-jobs s j js ks k won fs n some whole met lists run =
     }
 
 -- the first of the jobs that have begun met the roots and became k
-pub root-phase : (s : ScanShared) (js ks : List ScanState) (j k : ScanState) (won : List ℕ) (fs : List (List Task)) (n : ℕ) → 0 < length js → 0 < n → IsWhole (shared_graph s) → j ≡ get_or (map (begun Root) js) 0 j → Meets (shared_graph s) (root_meeting (shared_graph s) won) j k → fs ≡ dealt n (root_firsts (shared_graph s) won) → Run scan_meaning s fs (set (map (begun Root) js) 0 k) ks → Gained (shared_graph s) (RootGains (shared_graph s)) js ks
+pub root-phase : (s : Shared) (js ks : List ScanState) (j k : ScanState) (won : List ℕ) (fs : List (List Task)) (n : ℕ) → 0 < length js → 0 < n → IsWhole (graph_in s) → j ≡ get_or (map (begun Root) js) 0 j → Meets (graph_in s) (root_meeting (graph_in s) won) j k → fs ≡ dealt n (root_firsts (graph_in s) won) → Run shared_meaning s fs (set (map (begun Root) js) 0 k) ks → Gained (graph_in s) (RootGains (graph_in s)) js ks
 root-phase s [] ks j k won fs n some_jobs some_workers whole is met lists run = absurd (omega arith)
 root-phase s (i ∷ js) ks j k won fs n some_jobs some_workers whole is met lists run =
-    root-jobs s i js ks k won fs n some_workers whole (subst (λ z. Meets (shared_graph s) (root_meeting (shared_graph s) won) z k) is met) lists run
+    root-jobs s i js ks k won fs n some_workers whole (subst (λ z. Meets (graph_in s) (root_meeting (graph_in s) won) z k) is met) lists run
 
 -- What the owner phase holds can be taken up.
 pub held-under : (g : StoppedGraph) (js ks : List ScanState) → Gained g (OwnerGains g) js ks → AreUnderOwners g (all_held ks)

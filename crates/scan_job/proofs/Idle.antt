@@ -1,10 +1,10 @@
 -- A run without a task.
-use Rattle.std.proofs.Common.{◌≡◌, ℕ, zero, suc, ◌+◌, ◌<◌, ◌≤◌, List, [], ◌∷◌, ◌++◌, length, map, sym, refl, ap, ◌∙◌, arith}
+use Rattle.std.proofs.Common.{◌≡◌, ℕ, zero, suc, List, [], ◌∷◌, ◌++◌, map, sym, refl, ap, ◌∙◌, arith}
 use Rattle.std.specs.List.{All}
 use Rattle.heap_base.specs.declared.task.Task.{Task}
 use Rattle.heap_base.specs.Counting.{total}
 use Rattle.steal_pool.specs.Jobs.{Meaning, AllFit, Does}
-use Rattle.steal_pool.specs.Lists.{Each, Pairs}
+use Rattle.steal_pool.specs.Lists.{Each}
 use Rattle.steal_pool.specs.Runs.{Work, Run, TurnsLast, fit_tasks, all_first, all_done, all_put}
 
 abbrev no_work : Work

@@ -12,7 +12,3 @@ pub mod OwnerCells
 pub mod Starting
 pub mod Gaining
 pub mod PhaseRuns
-pub mod RoleSteps
-pub mod TestRoles
-pub mod TestRuns
-pub mod TestPhases

@@ -1,7 +1,7 @@
 -- What the jobs of a phase gain together.
-use Rattle.std.proofs.Common.{◌≡◌, ℕ, zero, suc, ◌+◌, ◌<◌, ◌≤◌, Bool, true, false, ◌||◌, ◌&&◌, not, cond, ⊎_elim, List, [], ◌∷◌, ◌++◌, filter, length, map, sym, refl, ap, ◌∙◌, subst, arith, IsTrue, eqb-true, eq-eqb, eqb}
-use Rattle.std.specs.List.{All, flat_map, AllByRecursion, Contains}
-use Rattle.std.proofs.lemmas.Bool.{cases_Bool, false≢true, or_cases, or_left, or_right, and_from, ne_eqb, cases_eq}
+use Rattle.std.proofs.Common.{◌≡◌, ℕ, ◌+◌, ◌<◌, ◌≤◌, Bool, true, false, ◌||◌, ◌&&◌, not, cond, ⊎_elim, List, [], ◌∷◌, ◌++◌, filter, map, sym, refl, ap, ◌∙◌, arith, IsTrue, eqb-true, eq-eqb, eqb}
+use Rattle.std.specs.List.{flat_map, AllByRecursion, Contains}
+use Rattle.std.proofs.lemmas.Bool.{cases_Bool, false≢true, or_cases, or_right, and_from, ne_eqb, cases_eq}
 use Rattle.std.proofs.lemmas.List.{map-append}
 use Rattle.std.proofs.lemmas.List.Elements.{filter-append}
 use Rattle.heap_base.specs.declared.task.Task.{Task}
@@ -15,13 +15,13 @@ use Rattle.header_rule.specs.Views.{is_mark, times_marked}
 use Rattle.steal_pool.specs.Jobs.{AllFit}
 use Rattle.scan_job.specs.declared.mode.Mode.{Mode}
 use Rattle.scan_job.specs.declared.mode.Mode.TheVariants.{Owner, TakeUp, Root}
-use Rattle.scan_job.specs.Graphs.{StoppedGraph, IsWhole, owners, all_targets, is_under_owners, is_found_from, is_reached_by_roots}
+use Rattle.scan_job.specs.Graphs.{StoppedGraph, IsWhole, owners, all_targets, is_found_from}
 use Rattle.scan_job.specs.Fit.{IsFit, fit_tasks, no_owners}
 use Rattle.scan_job.specs.Gains.{Gain, is_marked}
 use Rattle.scan_job.specs.Phases.{OwnerGains, TakeUpGains, RootGains}
-use Rattle.scan_job.specs.Scans.{is_held, is_put, mark_of, marks_on, AreAmong, task_at}
+use Rattle.scan_job.specs.Scans.{is_held, marks_on, AreAmong, task_at}
 use Rattle.scan_job.proofs.Fitting.{found-step, fit_tasks-is, among-at, times-at, at-times}
-use Rattle.scan_job.proofs.Reaching.{at-filter, under-owner, under-step, root-reached, root-step, found-under}
+use Rattle.scan_job.proofs.Reaching.{at-filter, under-step, root-reached, root-step, found-under}
 use Rattle.scan_job.proofs.Scanned.{Scanned, task_marks, both_gains, adds-run}
 
 -- ---- lists with a sum

@@ -5,13 +5,14 @@ use Rattle.std.proofs.lemmas.List.{length-map}
 use Rattle.heap_base.specs.declared.task.Task.{Task}
 use Rattle.steal_pool.specs.declared.crew.Crew.{Crew}
 use Rattle.steal_pool.specs.FirstLists.{FirstLists}
-use Rattle.steal_pool.specs.Runs.{workers_of, most_tasks, Run, TurnsLast}
+use Rattle.steal_pool.specs.Runs.{most_tasks, Run, TurnsLast}
 use Rattle.scan_job.specs.declared.mode.Mode.{Mode}
 use Rattle.scan_job.specs.declared.mode.Mode.TheVariants.{Owner, TakeUp}
+use Rattle.scan_job.specs.Shared.{Shared, lent}
 use Rattle.scan_job.specs.declared.shared.ScanShared.{ScanShared}
-use Rattle.scan_job.specs.Gains.{Gained}
-use Rattle.scan_job.specs.Jobs.{shared_graph, scan_meaning}
-use Rattle.scan_job.specs.Phases.{cells_in, CanScan, AreIn, all_held, AreUnderOwners, begun, CanRun, dealt, owner_firsts, held_firsts, OwnerGains, TakeUpGains}
+use Rattle.scan_job.specs.Gains.{Gain, Gained}
+use Rattle.scan_job.specs.Jobs.{graph_in, shared_meaning}
+use Rattle.scan_job.specs.Phases.{cells_in, CanBegin, CanScan, AreIn, all_held, AreUnderOwners, begun, CanRun, HasBegun, dealt, owner_firsts, held_firsts, OwnerGains, TakeUpGains}
 use Rattle.scan_job.specs.Scans.{task_at}
 use Rattle.scan_job.specs.States.{ScanState}
 use Rattle.scan_job.proofs.Gaining.{run-modes, owners-fit, owner-phase, held-fit, take_up-phase}
@@ -23,65 +24,96 @@ pub le-times : (n c : ℕ) → 0 < n → c ≤ n * c
 le-times n c some = let one : 1 ≤ n = omega arith in let m = mul-le-mul_left c one in omega arith
 
 -- Jobs that have begun a phase, and the lists of its first tasks.
-pub record HasBegun (s : ScanShared) (mode : Mode) (crew : Crew ScanState) (js : List ScanState) (ts : List Task) : Type 0 where
-  pub start : IsStart s mode crew (map (begun mode) js) ts
+pub record Begun (s : Shared) (mode : Mode) (js : List ScanState) (ts : List Task) : Type 0 where
+  pub start : IsStart s mode (length js) (map (begun mode) js) ts
   pub jobs : List ScanState
   pub are_begun : jobs ≡ map (begun mode) js
   pub fs : List (List Task)
-  pub lists : fs ≡ dealt (workers_of crew) ts
+  pub lists : fs ≡ dealt (length js) ts
 
-module _ (s : ScanShared) (mode : Mode) (crew : Crew ScanState) (js : List ScanState) (ts : List Task) (p : HasBegun s mode crew js ts) where
-  pub begun-run : CanRun s p.jobs crew p.fs
-  begun-run =
-      subst (λ zs. CanRun s zs crew p.fs) (sym p.are_begun) (can-run s mode crew (map (begun mode) js) ts p.fs p.start p.lists)
+module _ (s : Shared) (mode : Mode) (js : List ScanState) (ts : List Task) (p : Begun s mode js ts) where
+  pub begun-many : length p.jobs ≡ length js
+  begun-many = ap length p.are_begun ∙ length-map js (begun mode)
 
-  pub modes-after : (ks : List ScanState) → Run scan_meaning s p.fs p.jobs ks → AreIn mode ks
+  pub begun-run : (room : ℕ) → 2 * cells_in s < room → CanRun s p.jobs room p.fs
+  begun-run room wide =
+      subst (λ zs. CanRun s zs room p.fs) (sym p.are_begun) (can-run s mode (length js) (map (begun mode) js) ts p.fs p.start p.lists room wide)
+
+  modes-after : (ks : List ScanState) → Run shared_meaning s p.fs p.jobs ks → AreIn mode ks
   modes-after ks run =
-      run-modes s mode p.fs (map (begun mode) js) ks (let a = p.start.jobs in let b = crew.some in omega arith) p.start.modes (subst (λ zs. Run scan_meaning s p.fs zs ks) p.are_begun run)
+      run-modes s mode p.fs (map (begun mode) js) ks (let a = p.start.jobs in let b = p.start.some in omega arith) p.start.modes (subst (λ zs. Run shared_meaning s p.fs zs ks) p.are_begun run)
 
-  pub turns-after : (ks : List ScanState) → TurnsLast scan_meaning (most_tasks scan_meaning p.jobs p.fs) p.jobs ks → TurnsLast scan_meaning (2 ^ 25 + 1) js ks
+  turns-after : (ks : List ScanState) → TurnsLast shared_meaning (most_tasks shared_meaning p.jobs p.fs) p.jobs ks → TurnsLast shared_meaning (2 ^ 25 + 1) js ks
   turns-after ks last =
-      let few = few-tasks s mode crew (map (begun mode) js) ts p.fs p.start p.lists in
-      begun-last mode (most_tasks scan_meaning (map (begun mode) js) p.fs) (2 ^ 25 + 1) js ks (omega arith) (subst (λ zs. TurnsLast scan_meaning (most_tasks scan_meaning zs p.fs) zs ks) p.are_begun last)
+      let few = few-tasks s mode (length js) (map (begun mode) js) ts p.fs p.start p.lists in
+      begun-last mode (most_tasks shared_meaning (map (begun mode) js) p.fs) (2 ^ 25 + 1) js ks (omega arith) (subst (λ zs. TurnsLast shared_meaning (most_tasks shared_meaning zs p.fs) zs ks) p.are_begun last)
 
-module _ (s : ScanShared) (js : List ScanState) (crew : Crew ScanState) (first : FirstLists) (can : CanScan s js crew first) where
-  pub some-jobs : 0 < length js
-  some-jobs = let a = can.jobs in let b = crew.some in omega arith
+  -- what the run gains makes the phase done
+  pub has-begun : (P : Gain → Type 0) → ((ks : List ScanState) → Run shared_meaning s p.fs (map (begun mode) js) ks → Gained (graph_in s) P js ks) → HasBegun s mode P js p.jobs p.fs
+  has-begun P gained = record {
+    many = begun-many;
+    can_run = begun-run;
+    done = λ ks ran. record {
+      gains = gained ks (subst (λ zs. Run shared_meaning s p.fs zs ks) p.are_begun ran.ran);
+      modes = modes-after ks ran.ran;
+      ready = ran.ready;
+      turns = turns-after ks ran.turns;
+    };
+  }
 
+module _ (s : Shared) (js : List ScanState) (first : FirstLists) (can : CanBegin s js first) where
   -- ---- what the jobs are ready for
 
-  pub owner-start : IsStart s Owner crew (map (begun Owner) js) (owner_firsts s.roles.now)
+  pub owner-start : IsStart s Owner (length js) (map (begun Owner) js) (owner_firsts s.roles)
   owner-start = record {
     ready = begun-ready s Owner js can.ready;
     modes = begun-modes s Owner js;
     turns = begun-turns s Owner js (2 ^ 25) can.turns;
-    jobs = length-map js (begun Owner) ∙ can.jobs;
-    room = can.room;
+    jobs = length-map js (begun Owner);
+    some = can.some;
+    few_jobs = can.few;
     few =
-        let a = length-map s.roles.now.owners (λ o. task_at o o) in
-        let b = few-owners s.table.now s.roles.now (first-ready s js some-jobs can.ready).1.roles in
-        let c = le-times (workers_of crew) (cells_in s) crew.some in
+        let a = length-map s.roles.owners (λ o. task_at o o) in
+        let b = few-owners s.table s.roles (first-ready s js can.some can.ready).1.roles in
+        let c = le-times (length js) (cells_in s) can.some in
         omega arith;
-    fit = owners-fit s js some-jobs can.ready;
+    fit = owners-fit s js can.some can.ready;
   }
 
-  pub take_up-start : AreUnderOwners (shared_graph s) (all_held js) → length (all_held js) ≤ length js * cells_in s → IsStart s TakeUp crew (map (begun TakeUp) js) (held_firsts js)
+  pub take_up-start : AreUnderOwners (graph_in s) (all_held js) → length (all_held js) ≤ length js * cells_in s → IsStart s TakeUp (length js) (map (begun TakeUp) js) (held_firsts js)
   take_up-start under few = record {
     ready = begun-ready s TakeUp js can.ready;
     modes = begun-modes s TakeUp js;
     turns = begun-turns s TakeUp js (2 ^ 25) can.turns;
-    jobs = length-map js (begun TakeUp) ∙ can.jobs;
-    room = can.room;
-    few = (let a = length-map (all_held js) (task_at 0) in let b = ap (λ n. n * cells_in s) can.jobs in omega arith);
-    fit = held-fit s js some-jobs can.ready under;
+    jobs = length-map js (begun TakeUp);
+    some = can.some;
+    few_jobs = can.few;
+    few = (let a = length-map (all_held js) (task_at 0) in omega arith);
+    fit = held-fit s js can.some can.ready under;
   }
 
-  -- ---- what the jobs gain
+  -- ---- what whatever run gains
 
-  pub owner-gained : (p : HasBegun s Owner crew js (owner_firsts s.roles.now)) (ks : List ScanState) → Run scan_meaning s p.fs p.jobs ks → Gained (shared_graph s) (OwnerGains (shared_graph s)) js ks
-  owner-gained p ks run =
-      owner-phase s js some-jobs can.ready ks p.fs (workers_of crew) crew.some p.lists (subst (λ zs. Run scan_meaning s p.fs zs ks) p.are_begun run)
+  pub owner-begun : (p : Begun s Owner js (owner_firsts s.roles)) → HasBegun s Owner (OwnerGains (graph_in s)) js p.jobs p.fs
+  owner-begun p =
+      has-begun s Owner js (owner_firsts s.roles) p (OwnerGains (graph_in s)) (λ ks run. owner-phase s js can.some can.ready ks p.fs (length js) can.some p.lists run)
 
-  pub take_up-gained : (p : HasBegun s TakeUp crew js (held_firsts js)) (ks : List ScanState) → Run scan_meaning s p.fs p.jobs ks → Gained (shared_graph s) (TakeUpGains (shared_graph s) (all_held js)) js ks
-  take_up-gained p ks run =
-      take_up-phase s js some-jobs can.ready ks p.fs (workers_of crew) crew.some p.lists (subst (λ zs. Run scan_meaning s p.fs zs ks) p.are_begun run)
+  pub take_up-begun : (p : Begun s TakeUp js (held_firsts js)) → HasBegun s TakeUp (TakeUpGains (graph_in s) (all_held js)) js p.jobs p.fs
+  take_up-begun p =
+      has-begun s TakeUp js (held_firsts js) p (TakeUpGains (graph_in s) (all_held js)) (λ ks run. take_up-phase s js can.some can.ready ks p.fs (length js) can.some p.lists run)
+
+-- ---- where a crew runs the jobs
+
+pub can-begin : (s : ScanShared) (js : List ScanState) (crew : Crew ScanState) (first : FirstLists) → CanScan s js crew first → CanBegin (lent s) js first
+can-begin s js crew first can =
+    let jobs = can.jobs in
+    let some = crew.some in
+    let few = crew.few in
+    record {
+      some = omega arith;
+      few = omega arith;
+      ready = can.ready;
+      turns = can.turns;
+      lists = can.lists ∙ sym can.jobs;
+      list_room = can.list_room;
+    }

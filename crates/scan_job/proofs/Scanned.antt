@@ -1,5 +1,5 @@
 -- What jobs gain by lists of tasks.
-use Rattle.std.proofs.Common.{◌≡◌, ℕ, zero, suc, ◌+◌, ◌<◌, ◌≤◌, List, [], ◌∷◌, ◌++◌, filter, length, map, get_or, sym, refl, ap, ◌∙◌, subst, arith, append_assoc, append-nil, eqb}
+use Rattle.std.proofs.Common.{◌≡◌, ℕ, suc, ◌<◌, List, [], ◌∷◌, ◌++◌, filter, length, map, sym, refl, ap, ◌∙◌, subst, arith, append_assoc, append-nil, eqb}
 use Rattle.std.specs.List.{All, AllByRecursion, Contains, flat_map}
 use Rattle.std.proofs.lemmas.List.{map-append}
 use Rattle.std.proofs.lemmas.List.Elements.{filter-append}
@@ -14,13 +14,13 @@ use Rattle.steal_pool.specs.Lists.{Each}
 use Rattle.steal_pool.specs.Runs.{Work, Run, all_first, all_done, all_put}
 use Rattle.steal_pool.specs.Runs as Runs
 use Rattle.scan_job.specs.declared.mode.Mode.{Mode}
-use Rattle.scan_job.specs.declared.shared.ScanShared.{ScanShared}
+use Rattle.scan_job.specs.Shared.{Shared}
 use Rattle.scan_job.specs.Fit.{fit_tasks}
 use Rattle.scan_job.specs.Gains.{Gain, all_gains, Grows}
 use Rattle.scan_job.specs.Graphs.{StoppedGraph, all_targets}
-use Rattle.scan_job.specs.Jobs.{shared_graph, scan_meaning}
+use Rattle.scan_job.specs.Jobs.{graph_in, shared_meaning}
 use Rattle.scan_job.specs.Phases.{AreIn, begun}
-use Rattle.scan_job.specs.Scans.{Meeting, is_held, is_put, marks_on, all_marks, AreAmong, Meets, Works, task_at, put_tasks, scan_meeting}
+use Rattle.scan_job.specs.Scans.{Meeting, is_held, is_put, marks_on, all_marks, AreAmong, Meets, Works, task_at, scan_meeting}
 use Rattle.scan_job.specs.States.{ScanState}
 
 abbrev pub no_gain : Gain
@@ -171,19 +171,19 @@ module _ (g : StoppedGraph) where
       omega arith
 
 -- What the jobs of a run in one mode gained.
-pub record RanScans (s : ScanShared) (mode : Mode) (fs : List (List Task)) (js ks : List ScanState) : Type 0 where
+pub record RanScans (s : Shared) (mode : Mode) (fs : List (List Task)) (js ks : List ScanState) : Type 0 where
   pub gains : List Gain
-  pub each : Each (Extends (shared_graph s)) js gains ks
+  pub each : Each (Extends (graph_in s)) js gains ks
   pub done : List Task
   pub put : List Task
-  pub scanned : Scanned (shared_graph s) mode done put (all_gains gains)
-  pub are_fit : AllFit (fit_tasks (shared_graph s) mode) done
+  pub scanned : Scanned (graph_in s) mode done put (all_gains gains)
+  pub are_fit : AllFit (fit_tasks (graph_in s) mode) done
   pub as_often : AsOften done (all_first fs ++ put)
 
 -- jobs in one mode have the fit tasks of the mode
-pub fit_tasks-in : (s : ScanShared) (mode : Mode) (js : List ScanState) → 0 < length js → AreIn mode js → Runs.fit_tasks scan_meaning s js ≡ fit_tasks (shared_graph s) mode
+pub fit_tasks-in : (s : Shared) (mode : Mode) (js : List ScanState) → 0 < length js → AreIn mode js → Runs.fit_tasks shared_meaning s js ≡ fit_tasks (graph_in s) mode
 fit_tasks-in s mode [] some are = absurd (omega arith)
-fit_tasks-in s mode (j ∷ js) some are = ap (fit_tasks (shared_graph s)) (are 0 j (omega arith))
+fit_tasks-in s mode (j ∷ js) some are = ap (fit_tasks (graph_in s)) (are 0 j (omega arith))
 
 all-append : {X : Type 0} (P : X → Type 0) (xs ys : List X) → AllByRecursion P xs → AllByRecursion P ys → AllByRecursion P (xs ++ ys)
 all-append P [] ys a b = b
@@ -194,16 +194,16 @@ all-done fit [] all = tt
 all-done fit (w ∷ ws) all =
     all-append (Contains fit) w.done (all_done ws) (all 0 w (omega arith)) (all-done fit ws (λ i x within. all (suc i) x (omega arith)))
 
-pub run-scans : (s : ScanShared) (mode : Mode) (fs : List (List Task)) (js ks : List ScanState) → 0 < length js → AreIn mode js → Run scan_meaning s fs js ks → RanScans s mode fs js ks
+pub run-scans : (s : Shared) (mode : Mode) (fs : List (List Task)) (js ks : List ScanState) → 0 < length js → AreIn mode js → Run shared_meaning s fs js ks → RanScans s mode fs js ks
 run-scans s mode fs js ks some are run =
-    let d = did-all (shared_graph s) mode js run.work ks are run.each in
+    let d = did-all (graph_in s) mode js run.work ks are run.each in
     record {
       gains = d.0;
       each = d.1;
       done = all_done run.work;
       put = all_put run.work;
       scanned = d.2;
-      are_fit = subst (λ fit. AllFit fit (all_done run.work)) (fit_tasks-in s mode js some are) (all-done (Runs.fit_tasks scan_meaning s js) run.work run.are_fit);
+      are_fit = subst (λ fit. AllFit fit (all_done run.work)) (fit_tasks-in s mode js some are) (all-done (Runs.fit_tasks shared_meaning s js) run.work run.are_fit);
       as_often = run.as_often;
     }
 

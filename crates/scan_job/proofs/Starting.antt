@@ -1,21 +1,18 @@
 -- How a phase begins, and what its run asks.
-use Rattle.std.proofs.Common.{◌≡◌, ℕ, zero, suc, ◌+◌, ◌*◌, ◌/◌, ◌^◌, ◌<◌, ◌≤◌, List, [], ◌∷◌, ◌++◌, length, get_or, set, map, sym, refl, ap, ◌∙◌, subst, arith}
-use Rattle.std.specs.List.{All, AllByRecursion, Contains}
+use Rattle.std.proofs.Common.{◌≡◌, ℕ, zero, suc, ◌+◌, ◌*◌, ◌^◌, ◌<◌, ◌≤◌, List, [], ◌∷◌, length, map, sym, refl, ap, ◌∙◌, subst, arith}
+use Rattle.std.specs.List.{All, Contains}
 use Rattle.std.proofs.Math.Nat.{mul-le-mul_left}
-use Rattle.std.proofs.lemmas.List.{length-map}
 use Rattle.heap_base.specs.declared.task.Task.{Task}
-use Rattle.heap_base.specs.Counting.{total, AsOften}
-use Rattle.graph_meaning.specs.Reach.{has_id}
-use Rattle.steal_pool.specs.declared.crew.Crew.{Crew}
+use Rattle.heap_base.specs.declared.limits.TheConstants.{MOST_WORKERS}
+use Rattle.heap_base.specs.Counting.{total}
 use Rattle.steal_pool.specs.Jobs.{AllFit}
-use Rattle.steal_pool.specs.Lists.{Pairs}
-use Rattle.steal_pool.specs.Runs.{workers_of, most_tasks, all_first, AreReady, HaveRoom, TurnsLast}
+use Rattle.steal_pool.specs.Runs.{most_tasks, all_first, AreReady, HaveRoom, TurnsLast}
 use Rattle.steal_pool.specs.Runs as Runs
 use Rattle.scan_job.specs.declared.mode.Mode.{Mode}
-use Rattle.scan_job.specs.declared.shared.ScanShared.{ScanShared}
+use Rattle.scan_job.specs.Shared.{Shared}
 use Rattle.scan_job.specs.Fit.{fit_tasks}
 use Rattle.scan_job.specs.Graphs.{IsWhole}
-use Rattle.scan_job.specs.Jobs.{shared_graph, IsReady, scan_meaning}
+use Rattle.scan_job.specs.Jobs.{graph_in, IsReadyFor, shared_meaning}
 use Rattle.scan_job.specs.Phases.{cells_in, AreIn, begun, CanRun, dealt}
 use Rattle.scan_job.specs.States.{ScanState, room_of, turns_of}
 use Rattle.scan_job.proofs.Dealing.{length-dealt, dealt-all, dealt-length, dealt-short}
@@ -37,26 +34,26 @@ all-tail P x xs all k d within = all (suc k) d (omega arith)
 
 -- ---- what the readiness of one job says
 
-pub first-ready : (s : ScanShared) (js : List ScanState) → 0 < length js → AreReady scan_meaning s js → (j : ScanState) × IsReady j s
+pub first-ready : (s : Shared) (js : List ScanState) → 0 < length js → AreReady shared_meaning s js → (j : ScanState) × IsReadyFor j s
 first-ready s [] some ready = absurd (omega arith)
 first-ready s (j ∷ js) some ready = (j, ready 0 j (omega arith))
 
-pub ready-cells : (s : ScanShared) (js : List ScanState) → AreReady scan_meaning s js → All (λ j. j.cells ≤ cells_in s) js
+pub ready-cells : (s : Shared) (js : List ScanState) → AreReady shared_meaning s js → All (λ j. j.cells ≤ cells_in s) js
 ready-cells s js ready k d within = let e = (ready k d within).cells in omega arith
 
-module _ (s : ScanShared) (js : List ScanState) (some : 0 < length js) (ready : AreReady scan_meaning s js) where
+module _ (s : Shared) (js : List ScanState) (some : 0 < length js) (ready : AreReady shared_meaning s js) where
   pub few-cells : cells_in s ≤ 2 ^ 20
   few-cells = let r = (first-ready s js some ready).1.placed.few in omega arith
 
-  pub graph-whole : IsWhole (shared_graph s)
-  graph-whole = is-whole s.table.now s.roles.now (first-ready s js some ready).1.roles
+  pub graph-whole : IsWhole (graph_in s)
+  graph-whole = is-whole s.table s.roles (first-ready s js some ready).1.roles
 
 -- ---- jobs that began a phase
 
-module _ (s : ScanShared) (mode : Mode) (js : List ScanState) where
-  pub begun-ready : AreReady scan_meaning s js → AreReady scan_meaning s (map (begun mode) js)
+module _ (s : Shared) (mode : Mode) (js : List ScanState) where
+  pub begun-ready : AreReady shared_meaning s js → AreReady shared_meaning s (map (begun mode) js)
   begun-ready ready =
-      all-map (begun mode) (λ j. IsReady j s) (λ j. IsReady j s) (λ j r. record { pass = r.pass; headers = r.headers; cells = r.cells; kinds = r.kinds; roles = r.roles; placed = r.placed; sound = r.sound }) js ready
+      all-map (begun mode) (λ j. IsReadyFor j s) (λ j. IsReadyFor j s) (λ j r. record { pass = r.pass; headers = r.headers; cells = r.cells; kinds = r.kinds; roles = r.roles; placed = r.placed; sound = r.sound }) js ready
 
   pub begun-modes : AreIn mode (map (begun mode) js)
   begun-modes = all-map (begun mode) (λ j. Unit {0}) (λ j. j.mode ≡ mode) (λ j u. refl) js (λ k d within. tt)
@@ -64,24 +61,25 @@ module _ (s : ScanShared) (mode : Mode) (js : List ScanState) where
   pub begun-turns : (n : ℕ) → All (λ j. n < turns_of j) js → All (λ j. n ≤ turns_of j) (map (begun mode) js)
   begun-turns n turns = all-map (begun mode) (λ j. n < turns_of j) (λ j. n ≤ turns_of j) (λ j l. omega arith) js turns
 
-pub begun-last : (mode : Mode) (n m : ℕ) (js ks : List ScanState) → n ≤ m → TurnsLast scan_meaning n (map (begun mode) js) ks → TurnsLast scan_meaning m js ks
+pub begun-last : (mode : Mode) (n m : ℕ) (js ks : List ScanState) → n ≤ m → TurnsLast shared_meaning n (map (begun mode) js) ks → TurnsLast shared_meaning m js ks
 begun-last mode n m [] ks l last = last
 begun-last mode n m (j ∷ js) [] l last = absurd last
 begun-last mode n m (j ∷ js) (k ∷ ks) l last = (let t = last.0 in omega arith, begun-last mode n m js ks l last.1)
 
 -- ---- what a run asks
 
--- Jobs of a phase that are ready for these first tasks.
-pub record IsStart (s : ScanShared) (mode : Mode) (crew : Crew ScanState) (js : List ScanState) (ts : List Task) : Type 0 where
-  pub ready : AreReady scan_meaning s js
+-- So many jobs of a phase that are ready for these first tasks.
+pub record IsStart (s : Shared) (mode : Mode) (n : ℕ) (js : List ScanState) (ts : List Task) : Type 0 where
+  pub ready : AreReady shared_meaning s js
   pub modes : AreIn mode js
   pub turns : All (λ j. 2 ^ 25 ≤ turns_of j) js
-  pub jobs : length js ≡ workers_of crew
-  pub room : 2 * cells_in s < Runs.room_of crew
-  pub few : length ts ≤ workers_of crew * cells_in s
-  pub fit : AllFit (fit_tasks (shared_graph s) mode) ts
+  pub jobs : length js ≡ n
+  pub some : 0 < n
+  pub few_jobs : n ≤ MOST_WORKERS
+  pub few : length ts ≤ n * cells_in s
+  pub fit : AllFit (fit_tasks (graph_in s) mode) ts
 
-rooms : (s : ScanShared) (js : List ScanState) → AreReady scan_meaning s js → total room_of js ≤ length js * cells_in s
+rooms : (s : Shared) (js : List ScanState) → AreReady shared_meaning s js → total room_of js ≤ length js * cells_in s
 rooms s [] ready = omega arith
 rooms s (j ∷ js) ready =
     let r = rooms s js (λ k d within. ready (suc k) d (omega arith)) in
@@ -89,7 +87,7 @@ rooms s (j ∷ js) ready =
     let x : suc (length js) * cells_in s ≡ length js * cells_in s + cells_in s = omega arith in
     omega arith
 
-has-room : (s : ScanShared) (n : ℕ) (js : List ScanState) (fs : List (List Task)) → length fs ≡ length js → AreReady scan_meaning s js → All (λ f. length f ≤ cells_in s) fs → 2 * cells_in s < n → HaveRoom scan_meaning n js fs
+has-room : (s : Shared) (n : ℕ) (js : List ScanState) (fs : List (List Task)) → length fs ≡ length js → AreReady shared_meaning s js → All (λ f. length f ≤ cells_in s) fs → 2 * cells_in s < n → HaveRoom shared_meaning n js fs
 has-room s n [] [] e ready short wide = refl
 has-room s n [] (f ∷ fs) e ready short wide = absurd (omega arith)
 has-room s n (j ∷ js) [] e ready short wide = absurd (omega arith)
@@ -98,36 +96,36 @@ has-room s n (j ∷ js) (f ∷ fs) e ready short wide =
     let l = short 0 f (omega arith) in
     (omega arith, has-room s n js fs (omega arith) (λ k d within. ready (suc k) d (omega arith)) (λ k d within. short (suc k) d (omega arith)) wide)
 
-module _ (s : ScanShared) (mode : Mode) (crew : Crew ScanState) (js : List ScanState) (ts : List Task) (fs : List (List Task)) (start : IsStart s mode crew js ts) (lists : fs ≡ dealt (workers_of crew) ts) where
+module _ (s : Shared) (mode : Mode) (n : ℕ) (js : List ScanState) (ts : List Task) (fs : List (List Task)) (start : IsStart s mode n js ts) (lists : fs ≡ dealt n ts) where
   some : 0 < length js
-  some = let a = start.jobs in let b = crew.some in omega arith
+  some = let a = start.jobs in let b = start.some in omega arith
 
-  most-cells : workers_of crew * cells_in s ≤ 2 ^ 24
+  most-cells : n * cells_in s ≤ 2 ^ 24
   most-cells =
       let a = few-cells s js some start.ready in
-      let b = crew.few in
-      let c = mul-le-mul_left (workers_of crew) a in
+      let b = start.few_jobs in
+      let c = mul-le-mul_left n a in
       omega arith
 
-  pub few-tasks : most_tasks scan_meaning js fs ≤ 2 ^ 25
+  pub few-tasks : most_tasks shared_meaning js fs ≤ 2 ^ 25
   few-tasks =
-      let a = dealt-length (workers_of crew) ts crew.some in
+      let a = dealt-length n ts start.some in
       let b = ap (λ (hs : List (List Task)). total length hs) lists in
       let c = rooms s js start.ready in
-      let d = ap (λ n. n * cells_in s) start.jobs in
+      let d = ap (λ m. m * cells_in s) start.jobs in
       let e = start.few in
       let f = most-cells in
       omega arith
 
-  pub can-run : CanRun s js crew fs
-  can-run =
+  pub can-run : (room : ℕ) → 2 * cells_in s < room → CanRun s js room fs
+  can-run room wide =
       let fit = fit_tasks-in s mode js some start.modes in
+      let many = ap length lists ∙ length-dealt n ts ∙ sym start.jobs in
       record {
-        jobs = start.jobs;
-        lists = ap length lists ∙ length-dealt (workers_of crew) ts;
+        lists = many;
         ready = start.ready;
-        same_fit = λ k d within. ap (fit_tasks (shared_graph s)) (start.modes k d within) ∙ sym fit;
-        fit = subst (λ (hs : List (List Task)). All (AllFit (Runs.fit_tasks scan_meaning s js)) hs) (sym lists) (subst (λ us. All (AllFit us) (dealt (workers_of crew) ts)) (sym fit) (dealt-all (Contains (fit_tasks (shared_graph s) mode)) (workers_of crew) ts start.fit));
-        room = has-room s (Runs.room_of crew) js fs (ap length lists ∙ length-dealt (workers_of crew) ts ∙ sym start.jobs) start.ready (subst (λ (hs : List (List Task)). All (λ f. length f ≤ cells_in s) hs) (sym lists) (dealt-short (workers_of crew) (cells_in s) ts crew.some start.few)) start.room;
+        same_fit = λ k d within. ap (fit_tasks (graph_in s)) (start.modes k d within) ∙ sym fit;
+        fit = subst (λ (hs : List (List Task)). All (AllFit (Runs.fit_tasks shared_meaning s js)) hs) (sym lists) (subst (λ us. All (AllFit us) (dealt n ts)) (sym fit) (dealt-all (Contains (fit_tasks (graph_in s) mode)) n ts start.fit));
+        have_room = has-room s room js fs many start.ready (subst (λ (hs : List (List Task)). All (λ f. length f ≤ cells_in s) hs) (sym lists) (dealt-short n (cells_in s) ts start.some start.few)) wide;
         turns = λ k d within. (let t = start.turns k d within in let m = few-tasks in omega arith);
       }

@@ -1,4 +1,4 @@
--- What a scan job means to a crew.
+-- What a scan job means to whoever runs it.
 use Rattle.std.specs.Prelude.{◌≡◌, length}
 use Rattle.graph_meaning.specs.Roles.{AreRolesOf}
 use Rattle.header_rule.specs.Passes.{IsPassOf}
@@ -9,28 +9,44 @@ use Rattle.scan_job.specs.Cells.{graph_of}
 use Rattle.scan_job.specs.Graphs.{StoppedGraph}
 use Rattle.scan_job.specs.Fit.{fit_tasks}
 use Rattle.scan_job.specs.Scans.{Works}
+use Rattle.scan_job.specs.Shared.{Shared, lent}
 use Rattle.scan_job.specs.States.{ScanState, room_of, turns_of}
 
 -- the graph of what is shared
-abbrev pub shared_graph : ScanShared → StoppedGraph
-shared_graph s = graph_of s.table.now s.roles.now
+abbrev pub graph_in : Shared → StoppedGraph
+graph_in s = graph_of s.table s.roles
 
 -- The job's pass is of the shared headers, which were made for the table's cells; the job was made for the table's cells and
 -- types; and the roles are of the table. The last two are true of every table, as `cells` says.
-pub record IsReady (j : ScanState) (s : ScanShared) : Type 0 where
-  pub pass : IsPassOf s.headers.now j.pass
-  pub headers : s.headers.now.cells ≡ j.cells
-  pub cells : j.cells ≡ length s.table.now.cells
-  pub kinds : length j.tally ≡ length s.table.now.table.kinds
-  pub roles : AreRolesOf s.table.now.cells (length s.table.now.table.kinds) s.roles.now
-  pub placed : IsPlaced s.table.now
-  pub sound : IsSound s.table.now.table
+pub record IsReadyFor (j : ScanState) (s : Shared) : Type 0 where
+  pub pass : IsPassOf s.headers j.pass
+  pub headers : s.headers.cells ≡ j.cells
+  pub cells : j.cells ≡ length s.table.cells
+  pub kinds : length j.tally ≡ length s.table.table.kinds
+  pub roles : AreRolesOf s.table.cells (length s.table.table.kinds) s.roles
+  pub placed : IsPlaced s.table
+  pub sound : IsSound s.table.table
 
-abbrev pub scan_meaning : Meaning ScanState ScanShared
-scan_meaning = record {
-  ready = IsReady;
-  fit = λ j s. fit_tasks (shared_graph s) j.mode;
+-- what a scan job means beside a value of S, which holds what is shared
+abbrev pub meaning_over : {S : Type 0} → (S → Shared) → Meaning ScanState S
+meaning_over held = record {
+  ready = λ j s. IsReadyFor j (held s);
+  fit = λ j s. fit_tasks (graph_in (held s)) j.mode;
   room = room_of;
   turns = turns_of;
-  works = λ s j t k put. Works (shared_graph s) j t k put;
+  works = λ s j t k put. Works (graph_in (held s)) j t k put;
 }
+
+abbrev pub shared_meaning : Meaning ScanState Shared
+shared_meaning = meaning_over (λ s. s)
+
+-- ---- where what is shared is borrowed
+
+abbrev pub shared_graph : ScanShared → StoppedGraph
+shared_graph s = graph_in (lent s)
+
+abbrev pub IsReady : ScanState → ScanShared → Type 0
+IsReady j s = IsReadyFor j (lent s)
+
+abbrev pub scan_meaning : Meaning ScanState ScanShared
+scan_meaning = meaning_over lent

@@ -3,8 +3,8 @@ pub mod Cells
 pub mod States
 pub mod Scans
 pub mod Fit
+pub mod Shared
 pub mod Jobs
 pub mod Gains
 pub mod Phases
 pub mod Laws
-pub mod TestHeaps

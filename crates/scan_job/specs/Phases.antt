@@ -1,38 +1,49 @@
 -- The three phases of a trace: what each asks, and what its jobs gain together.
-use Rattle.std.specs.Prelude.{◌≡◌, ℕ, ◌+◌, ◌*◌, ◌^◌, ◌%◌, ◌<◌, ◌≤◌, List, [], ◌∷◌, ◌++◌, length, filter, map, replicate, slice_index_or, slice_set, Bool, false, not, ◌&&◌, IsTrue}
+use Rattle.std.specs.Prelude.{◌≡◌, ℕ, ◌+◌, ◌*◌, ◌^◌, ◌%◌, ◌<◌, ◌≤◌, List, [], ◌∷◌, ◌++◌, length, filter, map, replicate, slice_index_or, slice_set, false, not, ◌&&◌, IsTrue}
 use Rattle.std.specs.List.{All, flat_map}
 use Rattle.heap_base.specs.declared.task.Task.{Task}
+use Rattle.heap_base.specs.declared.limits.TheConstants.{MOST_WORKERS}
 use Rattle.heap_base.specs.Counting.{AsOften}
 use Rattle.graph_meaning.specs.Reach.{has_id}
 use Rattle.graph_meaning.specs.Roles.{RoleTable}
-use Rattle.header_rule.specs.declared.mark.Mark.{Mark}
 use Rattle.header_rule.specs.declared.mark.Mark.TheVariants.{Found, MetByRoots}
 use Rattle.steal_pool.specs.declared.crew.Crew.{Crew}
 use Rattle.steal_pool.specs.FirstLists.{FirstLists}
-use Rattle.steal_pool.specs.Runs.{workers_of, most_tasks, AreReady, ShareFit, HaveRoom, HaveTurns}
+use Rattle.steal_pool.specs.Runs.{workers_of, most_tasks, AreReady, ShareFit, HaveRoom, HaveTurns, TurnsLast, Run}
 use Rattle.steal_pool.specs.Jobs.{AllFit}
 use Rattle.steal_pool.specs.Runs as Runs
 use Rattle.scan_job.specs.declared.mode.Mode.{Mode}
 use Rattle.scan_job.specs.declared.shared.ScanShared.{ScanShared}
 use Rattle.scan_job.specs.Graphs.{StoppedGraph, is_border, owners, all_targets, is_under_owners, is_found_from, is_reached_by_roots}
 use Rattle.scan_job.specs.Fit.{no_owners}
-use Rattle.scan_job.specs.Gains.{Gain, is_marked}
-use Rattle.scan_job.specs.Jobs.{shared_graph, scan_meaning}
+use Rattle.scan_job.specs.Gains.{Gain, Gained, is_marked}
+use Rattle.scan_job.specs.Jobs.{graph_in, shared_meaning, scan_meaning}
 use Rattle.scan_job.specs.Scans.{AreAmong, task_at}
+use Rattle.scan_job.specs.Shared.{Shared, lent}
 use Rattle.scan_job.specs.States.{ScanState, turns_of}
 
-abbrev pub cells_in : ScanShared → ℕ
-cells_in s = length s.table.now.cells
+abbrev pub cells_in : Shared → ℕ
+cells_in s = length s.table.cells
 
--- What each phase asks of the jobs, the crew and the first tasks: every job is ready and has turns for as many tasks as a
--- phase may have; there is a job and a list of first tasks for each worker; and lists and crew have room.
+-- What each phase asks of the jobs and the first tasks, whoever runs them: there are 1 to 16 jobs; every job is ready and has
+-- turns for as many tasks as a phase may have; and there is a list of first tasks for each job, with room.
+pub record CanBegin (s : Shared) (js : List ScanState) (first : FirstLists) : Type 0 where
+  pub some : 0 < length js
+  pub few : length js ≤ MOST_WORKERS
+  pub ready : AreReady shared_meaning s js
+  pub turns : All (λ j. 2 ^ 25 < turns_of j) js
+  pub lists : length first.lists ≡ length js
+  pub list_room : cells_in s ≤ first.room
+
+-- What each phase asks where a crew runs the jobs: every job is ready and has turns for as many tasks as a phase may have;
+-- there is a job and a list of first tasks for each worker; and lists and crew have room.
 pub record CanScan (s : ScanShared) (js : List ScanState) (crew : Crew ScanState) (first : FirstLists) : Type 0 where
   pub ready : AreReady scan_meaning s js
   pub turns : All (λ j. 2 ^ 25 < turns_of j) js
   pub jobs : length js ≡ workers_of crew
   pub lists : length first.lists ≡ workers_of crew
-  pub list_room : cells_in s ≤ first.room
-  pub room : 2 * cells_in s < Runs.room_of crew
+  pub list_room : cells_in (lent s) ≤ first.room
+  pub room : 2 * cells_in (lent s) < Runs.room_of crew
 
 -- what all jobs hold, in the order of the jobs
 abbrev pub all_held : List ScanState → List ℕ
@@ -49,16 +60,21 @@ AreUnderOwners g xs = (x : ℕ) → IsTrue (has_id xs x) → IsTrue (not (g.is_o
 abbrev pub begun : Mode → ScanState → ScanState
 begun mode j = record j { mode = mode; held = [] }
 
--- What the crew's run asks: there is a job and a list of first tasks for each worker; the jobs are ready and have the same fit
--- tasks; the first tasks are fit; and there are room and turns for all that may be put.
-pub record CanRun (s : ScanShared) (js : List ScanState) (crew : Crew ScanState) (fs : List (List Task)) : Type 0 where
-  pub jobs : length js ≡ workers_of crew
-  pub lists : length fs ≡ workers_of crew
-  pub ready : AreReady scan_meaning s js
-  pub same_fit : ShareFit scan_meaning s (Runs.fit_tasks scan_meaning s js) js
-  pub fit : All (AllFit (Runs.fit_tasks scan_meaning s js)) fs
-  pub room : HaveRoom scan_meaning (Runs.room_of crew) js fs
-  pub turns : HaveTurns scan_meaning (most_tasks scan_meaning js fs) js
+-- What a run asks, where each worker has room for so many tasks: there is a list of first tasks for each job; the jobs are
+-- ready and have the same fit tasks; the first tasks are fit; and there are room and turns for all that may be put.
+pub record CanRun (s : Shared) (js : List ScanState) (room : ℕ) (fs : List (List Task)) : Type 0 where
+  pub lists : length fs ≡ length js
+  pub ready : AreReady shared_meaning s js
+  pub same_fit : ShareFit shared_meaning s (Runs.fit_tasks shared_meaning s js) js
+  pub fit : All (AllFit (Runs.fit_tasks shared_meaning s js)) fs
+  pub have_room : HaveRoom shared_meaning room js fs
+  pub turns : HaveTurns shared_meaning (most_tasks shared_meaning js fs) js
+
+-- What a run leaves, whoever ran the jobs js from these first tasks.
+pub record HasRun (s : Shared) (fs : List (List Task)) (js ks : List ScanState) : Type 0 where
+  pub ran : Run shared_meaning s fs js ks
+  pub ready : AreReady shared_meaning s ks
+  pub turns : TurnsLast shared_meaning (most_tasks shared_meaning js fs) js ks
 
 -- ---- first tasks
 
@@ -129,3 +145,19 @@ pub record RootGains (g : StoppedGraph) (a : Gain) : Type 0 where
   pub wins : (x : ℕ) → IsTrue (has_id a.wins x) → IsTrue (is_reached_by_roots g x)
   pub none_held : a.held ≡ []
   pub marks : AsOften a.marks (map (λ e. (e, MetByRoots)) (filter g.is_ownee a.adds))
+
+-- ---- a phase, whoever runs it
+
+-- The jobs js went through a phase of this mode and became ks.
+pub record IsDone (s : Shared) (mode : Mode) (P : Gain → Type 0) (js ks : List ScanState) : Type 0 where
+  pub gains : Gained (graph_in s) P js ks
+  pub modes : AreIn mode ks
+  pub ready : AreReady shared_meaning s ks
+  pub turns : TurnsLast shared_meaning (2 ^ 25 + 1) js ks
+
+-- The jobs js have begun a phase, as the jobs bs and with these first tasks: they can be run, and whatever run does them, the
+-- phase is done.
+pub record HasBegun (s : Shared) (mode : Mode) (P : Gain → Type 0) (js bs : List ScanState) (fs : List (List Task)) : Type 0 where
+  pub many : length bs ≡ length js
+  pub can_run : (room : ℕ) → 2 * cells_in s < room → CanRun s bs room fs
+  pub done : (ks : List ScanState) → HasRun s fs bs ks → IsDone s mode P js ks

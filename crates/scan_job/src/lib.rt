@@ -9,8 +9,6 @@ mod mode;
 mod phase;
 mod scanning;
 mod shared;
-#[cfg(test)]
-mod tests;
 
 pub use job::ScanJob;
 pub use laws::{

@@ -1,10 +1,10 @@
-//! How each phase of a trace begins, and its run.
+//! How each phase of a trace begins, and its run by a crew.
 ghost use Rattle.std.specs.Prelude.{◌≡◌, [], length, map};
 ghost use Rattle.std.specs.Bool.{OnTrue};
 ghost use Rattle.std.specs.List.{All};
-ghost use Rattle.steal_pool.specs.Runs.{workers_of, room_of, most_tasks, AreReady, TurnsLast, Run};
-ghost use Rattle.scan_job.specs.Jobs.{scan_meaning};
-ghost use Rattle.scan_job.specs.Phases.{CanRun, begun};
+ghost use Rattle.steal_pool.specs.Runs.{workers_of, room_of};
+ghost use Rattle.scan_job.specs.Phases.{CanRun, HasRun, begun};
+ghost use Rattle.scan_job.specs.Shared.{lent};
 
 use crate::job::ScanJob;
 use crate::mode::Mode;
@@ -45,10 +45,9 @@ pub fn run_scans<R: Threads + Sync, G: Gate>(
     first: &FirstTasks,
     gate: &G,
 )
-    requires { CanRun shared.now jobs.old.items crew.old first.now.lists }
-    ensures ran { Run scan_meaning shared.now first.now.lists jobs.old.items jobs.new.items }
-    ensures ready { AreReady scan_meaning shared.now jobs.new.items }
-    ensures turns { TurnsLast scan_meaning (most_tasks scan_meaning jobs.old.items first.now.lists) jobs.old.items jobs.new.items }
+    requires can { CanRun (lent shared.now) jobs.old.items (room_of crew.old) first.now.lists }
+    requires jobs { length jobs.old.items ≡ workers_of crew.old }
+    ensures ran { HasRun (lent shared.now) first.now.lists jobs.old.items jobs.new.items }
     ensures room { room_of crew.new ≡ room_of crew.old }
     ensures workers { workers_of crew.new ≡ workers_of crew.old }
 {

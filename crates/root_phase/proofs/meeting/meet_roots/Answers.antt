@@ -1,5 +1,6 @@
 use Rattle.std.proofs.Common.{◌≡◌, ◌<◌, length, refl, sym, ap, ◌∙◌, arith}
 use Rattle.std.proofs.lemmas.List.{length-replicate}
+use Rattle.scan_job.specs.Shared.{lent}
 use Rattle.scan_job.proofs.Placing.{is-whole, root-there, held-from_node}
 use Rattle.root_phase.specs.Roots.{JobAndLists}
 use Rattle.root_phase.proofs.RootMeetings.{NextRoot, meets-no_roots, turns-left, passed-by, below, has-room, goes-on}
@@ -8,7 +9,7 @@ use Rattle.root_phase.proofs.meeting.meet_roots.Goals.{then-meet_one, else-meet_
 
 pub loop-root-init : goal.loop-root-init
 loop-root-init c =
-    let first = meets-no_roots c.args.shared.now c.args.workers c.args.job.now c.args.first.now.lists c.requires.lists in
+    let first = meets-no_roots (lent c.args.shared.now) c.args.workers c.args.job.now c.args.first.now.lists c.requires.lists in
     record { met = first.0; number = first.1; ready = c.requires.ready; room = refl }
 
 pub meet_one-requires-clause-turns : goal.meet_one-requires-clause-turns
@@ -16,7 +17,7 @@ meet_one-requires-clause-turns c =
     let roots = c.requires.ready.sound.limits.roots in
     let count = c.roots-root-end.ensures.count in
     let within = c.loop-root-test.true in
-    let t = turns-left c.args.shared.now c.loop-root.root (record { job = c.args.job.now; lists = c.args.first.now.lists }) (record { job = c.loop-root.job; lists = c.loop-root.first.lists }) c.loop-root.invariant.met (omega arith) in
+    let t = turns-left (lent c.args.shared.now) c.loop-root.root (record { job = c.args.job.now; lists = c.args.first.now.lists }) (record { job = c.loop-root.job; lists = c.loop-root.first.lists }) c.loop-root.invariant.met (omega arith) in
     omega arith
 
 pub meet_one-requires-clause-cell : goal.meet_one-requires-clause-cell
@@ -29,7 +30,7 @@ meet_one-requires-clause-cell c =
 
 pub add-requires-clause-worker : goal.add-requires-clause-worker
 add-requires-clause-worker c =
-    let s = c.args.shared.now in
+    let s = lent c.args.shared.now in
     let next : NextRoot s c.loop-root.root c.root_cell-cell.result c.meet_one.result c.loop-root.job c.meet_one.new.job = record {
       within = (let e = c.roots-root-end.ensures.count in let l = c.loop-root-test.true in omega arith);
       names = c.root_cell-cell.ensures.cell;
@@ -44,7 +45,7 @@ add-requires-clause-worker c =
 
 pub add-requires-clause-room : goal.add-requires-clause-room
 add-requires-clause-room c =
-    let s = c.args.shared.now in
+    let s = lent c.args.shared.now in
     let next : NextRoot s c.loop-root.root c.root_cell-cell.result c.meet_one.result c.loop-root.job c.meet_one.new.job = record {
       within = (let e = c.roots-root-end.ensures.count in let l = c.loop-root-test.true in omega arith);
       names = c.root_cell-cell.ensures.cell;
@@ -61,7 +62,7 @@ add-requires-clause-room c =
 
 pub overflow_add-number : goal.overflow_add-number
 overflow_add-number c =
-    let s = c.args.shared.now in
+    let s = lent c.args.shared.now in
     let next : NextRoot s c.loop-root.root c.root_cell-cell.result c.meet_one.result c.loop-root.job c.meet_one.new.job = record {
       within = (let e = c.roots-root-end.ensures.count in let l = c.loop-root-test.true in omega arith);
       names = c.root_cell-cell.ensures.cell;
@@ -78,7 +79,7 @@ overflow_add-number c =
 
 pub loop-root-preserved : goal.loop-root-preserved
 loop-root-preserved c =
-    let s = c.args.shared.now in
+    let s = lent c.args.shared.now in
     let next : NextRoot s c.loop-root.root c.root_cell-cell.result c.meet_one.result c.loop-root.job c.meet_one.new.job = record {
       within = (let e = c.roots-root-end.ensures.count in let l = c.loop-root-test.true in omega arith);
       names = c.root_cell-cell.ensures.cell;
