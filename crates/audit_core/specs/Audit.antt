@@ -1,17 +1,12 @@
 -- What an auditor stands for: a heap, the rules of its collections, and totals over the collections so far.
-use Rattle.std.specs.Prelude.{◌≡◌, ℕ, ◌+◌, List, [], length, Bool, true, false, Option, Result, Ok, OnOk, OnErr}
-use Rattle.std.specs.Result.{result_err}
+use Rattle.std.specs.Prelude.{ℕ, ◌+◌, List, [], length, Bool, Option}
 use Rattle.graph_meaning.specs.declared.collection.Collection.{Collection}
-use Rattle.graph_meaning.specs.declared.event.Event.{Event}
-use Rattle.graph_meaning.specs.declared.event.Event.TheVariants.{Alloc, Store, Root, AssertDead, StartRegion, AssertAllDead, AssertInstances, AssertUnshared, AssertOwnedBy, SetWeak, Collect}
-use Rattle.graph_meaning.specs.declared.refusal.Stop.{Stop}
-use Rattle.graph_meaning.specs.Answers.{RefusesBy}
 use Rattle.graph_meaning.specs.Heap.{Heap, empty_heap}
 use Rattle.graph_meaning.specs.Roles.{RoleTable, AreRolesOf}
-use Rattle.graph_meaning.specs.Step.{step}
 use Rattle.graph_meaning.specs.Collecting.{Rules, after_collection, collection_counted, collection_of}
 use Rattle.object_table.specs.Placed.{Placed}
 use Rattle.assert_registry.specs.Laws.{StandFor}
+use Rattle.heap_parts.specs.Parts.{PlacedHeap}
 use Rattle.heap_trace.specs.Results.{TraceResult}
 use Rattle.verdicts.specs.Verdicts.{counted_in}
 
@@ -28,6 +23,10 @@ pub record Audit : Type 0 where
 abbrev pub placed_of : Audit → Placed
 placed_of a = record { table = a.heap.table; cells = a.cells }
 
+-- the auditor's heap, and the cells of its objects
+abbrev pub heap_in : Audit → PlacedHeap
+heap_in a = record { heap = a.heap; cells = a.cells }
+
 -- so many paths are shown, and what is asserted dead is cut off or not
 abbrev pub rules_of : ℕ → Bool → Rules
 rules_of paths force = record { paths = paths; force = force }
@@ -35,28 +34,6 @@ rules_of paths force = record { paths = paths; force = force }
 -- an auditor at the beginning of a trace
 abbrev pub first_audit : Rules → Audit
 first_audit rules = record { heap = empty_heap; cells = []; rules = rules; collections = 0; violations = 0 }
-
--- any operation but a collection
-abbrev pub is_operation : Event → Bool
-is_operation (Alloc id kind slots thread) = true
-is_operation (Store at slot to) = true
-is_operation (SetWeak at slot weak) = true
-is_operation (Root name to) = true
-is_operation (AssertDead id) = true
-is_operation (StartRegion thread) = true
-is_operation (AssertAllDead thread) = true
-is_operation (AssertInstances kind limit) = true
-is_operation (AssertUnshared id) = true
-is_operation (AssertOwnedBy owner ownee) = true
-is_operation Collect = false
-
--- One operation: what `step` refuses is refused, else the heap is what `step` leaves, and after an error nothing has
--- changed. Rules and totals stay.
-pub record Follows {T : Type 0} (before : Audit) (event : Event) (result : Result T Stop) (after : Audit) : Type 0 where
-  pub refused : RefusesBy result (result_err (step before.heap event))
-  pub applied : OnOk result (step before.heap event ≡ Ok after.heap)
-  pub rest : after ≡ record before { heap = after.heap; cells = after.cells }
-  pub err : OnErr result (after ≡ before)
 
 -- ---- collections
 

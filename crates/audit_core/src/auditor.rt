@@ -4,11 +4,12 @@ ghost use Rattle.std.specs.Result.{result_err};
 ghost use Rattle.heap_base.specs.declared.limits.TheConstants.{MOST_WORKERS};
 ghost use Rattle.graph_meaning.specs.Answers.{RefusesBy};
 ghost use Rattle.graph_meaning.specs.Step.{step};
-ghost use Rattle.audit_core.specs.Audit.{first_audit, rules_of, is_operation, placed_of};
+ghost use Rattle.heap_parts.specs.Parts.{is_operation};
+ghost use Rattle.audit_core.specs.Audit.{first_audit, rules_of, placed_of};
 
-use crate::parts::HeapParts;
 use graph_meaning::{Event, Stop};
 use heap_base::OutOfMemory;
+use heap_parts::HeapParts;
 use object_table::ObjectTable;
 use std::alloc::Global;
 use std::marker::Model;
@@ -96,6 +97,6 @@ impl Auditor {
     pub fn table(&self) -> &ObjectTable
         ensures table { result.now ≡ placed_of self.now }
     {
-        &self.parts.table
+        self.parts.table()
     }
 }

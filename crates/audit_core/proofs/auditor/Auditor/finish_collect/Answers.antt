@@ -1,48 +1,58 @@
-use Rattle.std.proofs.Common.{◌≡◌, ◌+◌, ◌-◌, length, sym, ap, subst, ◌∙◌}
+use Rattle.std.proofs.Common.{◌≡◌, ◌+◌, false, length, sym, ap, subst, ◌∙◌}
+use Rattle.std.specs.Prelude.{slice_index_or}
 use Rattle.std.specs.Option.{is_some}
-use Rattle.graph_meaning.specs.Assertions.{traced_ids}
-use Rattle.graph_meaning.specs.Collecting.{Rules, after_collection, after_sweep, all_verdicts, first_with_paths, holders_of, ids_to_clear}
-use Rattle.graph_meaning.specs.Reach.{has_id}
+use Rattle.graph_meaning.specs.Collecting.{Rules, collection_counted}
+use Rattle.object_table.specs.Placed.{Placed}
+use Rattle.assert_registry.specs.Laws.{StandFor}
 use Rattle.heap_trace.specs.Traces.{IsTraceOf}
 use Rattle.verdicts.specs.Verdicts.{counted_in}
+use Rattle.heap_parts.specs.Parts.{PlacedHeap, placed_in}
 use Rattle.audit_core.specs.Audit.{Audit, AreItsRoles, placed_of, rules_of, next_counted, after_next}
-use Rattle.audit_core.specs.Parts.{PlacedHeap, placed_heap}
 use Rattle.audit_core.proofs.Collected.{found_by, left_by}
 use Rattle.audit_core.proofs.auditor.Auditor.finish_collect.Goals as goal
 
+pub finish-swept-requires-clause-kept : goal.finish-swept-requires-clause-kept
+finish-swept-requires-clause-kept c =
+    let q : PlacedHeap = c.self.inside.parts in
+    let t = c.args.traced.now in
+    let trace : IsTraceOf (placed_in q) q.heap t = subst (λ (a : Audit). IsTraceOf (placed_of a) a.heap t) (sym c.self.view_is) c.requires.trace in
+    record {
+      each = ap length c.kept.ensures ∙ trace.each;
+      tell = λ cell id held. ap (λ flags. slice_index_or flags cell false) c.kept.ensures ∙ trace.kept cell id held;
+    }
+
 pub returns-clause-found : goal.returns-clause-found
 returns-clause-found c =
-    let q : PlacedHeap = placed_heap (record { placed = c.self-inside.inside.0.0.table; assertions = c.self-inside.inside.0.0.registry; regions = c.self-inside.inside.0.0.regions }) in
+    let q : PlacedHeap = c.self.inside.parts in
+    let p : Placed = c.table-table.result.now in
     let t = c.args.traced.now in
     let rules : Rules = rules_of c.self.inside.paths c.self.inside.force in
-    let before : PlacedHeap → Audit = λ h. record { heap = h.heap; cells = h.cells; rules = rules; collections = c.self.inside.collections; violations = c.self.inside.violations } in
-    let opened : q ≡ c.self.inside.parts = ap (λ i. i.parts) c.self-inside.view_is in
-    let whole : before q ≡ c.args.self.now = ap before opened ∙ c.self.view_is in
-    let roles : AreItsRoles (before q) c.args.roles.now = subst (λ (a : Audit). AreItsRoles a c.args.roles.now) (sym whole) c.requires.roles in
-    let trace : IsTraceOf (placed_of (before q)) q.heap t = subst (λ (a : Audit). IsTraceOf (placed_of a) a.heap t) (sym whole) c.requires.trace in
-    let count = counted_in (placed_of (before q)) t in
-    let verdicts = c.in_ok-verdicts.ensures.verdicts q.heap roles.of_heap trace ∙ ap (λ n. first_with_paths n (all_verdicts count q.heap)) (ap (λ i. i.paths) c.self-inside.view_is) in
-    let asked : rules.force ≡ is_some c.in_ok-to_clear.to_clear = ap (λ (a : Audit). a.rules.force) c.self.view_is ∙ sym c.in_ok-to_clear.ensures.force in
+    let before : Audit = record { heap = q.heap; cells = q.cells; rules = rules; collections = c.self.inside.collections; violations = c.self.inside.violations } in
+    let whole : before ≡ c.args.self.now = c.self.view_is in
+    let is : p ≡ placed_in q = c.table-table.ensures in
+    let roles : AreItsRoles before c.args.roles.now = subst (λ (a : Audit). AreItsRoles a c.args.roles.now) (sym whole) c.requires.roles in
+    let trace : IsTraceOf (placed_in q) q.heap t = subst (λ (a : Audit). IsTraceOf (placed_of a) a.heap t) (sym whole) c.requires.trace in
+    let verdicts = c.in_ok-verdicts.ensures.verdicts q.heap (subst (λ (x : Placed). StandFor x c.args.roles.now q.heap) (sym is) roles.of_heap) (subst (λ (x : Placed). IsTraceOf x q.heap t) (sym is) trace) in
+    let asked : rules.force ≡ is_some c.in_ok-to_clear.to_clear = ap (λ (a : Audit). a.rules.force) whole ∙ sym c.in_ok-to_clear.ensures.force in
     let force : rules.force ≡ is_some c.as_ref.result = asked ∙ sym c.as_ref.ensures.variant in
-    let cleared = c.finish-swept.ensures.cleared rules force ∙ ap (λ (h : PlacedHeap). holders_of (has_id (ids_to_clear rules h.heap)) (after_sweep h.heap).table) (sym opened) in
-    found_by count q.heap rules (c.self.inside.collections + 1) c.live-live.result c.traced.result c.finish-swept.result.freed c.finish-swept.result.cleared c.in_ok-verdicts.verdicts c.live-live.ensures.count (c.traced.ensures ∙ trace.traced)
-    (c.finish-swept.ensures.freed ∙ ap (λ (h : PlacedHeap). length h.heap.table.objects - length (traced_ids h.heap)) (sym opened)) cleared verdicts
+    found_by (counted_in p t) q.heap rules (c.self.inside.collections + 1) c.live-live.result c.traced.result c.finish-swept.result.freed c.finish-swept.result.cleared c.in_ok-verdicts.verdicts (c.live-live.ensures.count ∙ ap (λ (x : Placed). length x.table.objects) is) (c.traced.ensures ∙ trace.traced)
+    c.finish-swept.ensures.freed (c.finish-swept.ensures.cleared rules force) verdicts
+    ∙ ap (λ (x : Placed). collection_counted (counted_in x t) rules (c.self.inside.collections + 1) q.heap) is
     ∙ ap (next_counted t) whole
 
 pub returns-clause-after : goal.returns-clause-after
 returns-clause-after c =
-    let q : PlacedHeap = placed_heap (record { placed = c.self-inside.inside.0.0.table; assertions = c.self-inside.inside.0.0.registry; regions = c.self-inside.inside.0.0.regions }) in
+    let q : PlacedHeap = c.self.inside.parts in
+    let p : Placed = c.table-table.result.now in
     let t = c.args.traced.now in
     let rules : Rules = rules_of c.self.inside.paths c.self.inside.force in
-    let before : PlacedHeap → Audit = λ h. record { heap = h.heap; cells = h.cells; rules = rules; collections = c.self.inside.collections; violations = c.self.inside.violations } in
-    let opened : q ≡ c.self.inside.parts = ap (λ i. i.parts) c.self-inside.view_is in
-    let whole : before q ≡ c.args.self.now = ap before opened ∙ c.self.view_is in
-    let roles : AreItsRoles (before q) c.args.roles.now = subst (λ (a : Audit). AreItsRoles a c.args.roles.now) (sym whole) c.requires.roles in
-    let trace : IsTraceOf (placed_of (before q)) q.heap t = subst (λ (a : Audit). IsTraceOf (placed_of a) a.heap t) (sym whole) c.requires.trace in
-    let count = counted_in (placed_of (before q)) t in
-    let verdicts = c.in_ok-verdicts.ensures.verdicts q.heap roles.of_heap trace ∙ ap (λ n. first_with_paths n (all_verdicts count q.heap)) (ap (λ i. i.paths) c.self-inside.view_is) in
-    let asked : rules.force ≡ is_some c.in_ok-to_clear.to_clear = ap (λ (a : Audit). a.rules.force) c.self.view_is ∙ sym c.in_ok-to_clear.ensures.force in
+    let before : Audit = record { heap = q.heap; cells = q.cells; rules = rules; collections = c.self.inside.collections; violations = c.self.inside.violations } in
+    let whole : before ≡ c.args.self.now = c.self.view_is in
+    let is : p ≡ placed_in q = c.table-table.ensures in
+    let roles : AreItsRoles before c.args.roles.now = subst (λ (a : Audit). AreItsRoles a c.args.roles.now) (sym whole) c.requires.roles in
+    let trace : IsTraceOf (placed_in q) q.heap t = subst (λ (a : Audit). IsTraceOf (placed_of a) a.heap t) (sym whole) c.requires.trace in
+    let verdicts = c.in_ok-verdicts.ensures.verdicts q.heap (subst (λ (x : Placed). StandFor x c.args.roles.now q.heap) (sym is) roles.of_heap) (subst (λ (x : Placed). IsTraceOf x q.heap t) (sym is) trace) in
+    let asked : rules.force ≡ is_some c.in_ok-to_clear.to_clear = ap (λ (a : Audit). a.rules.force) whole ∙ sym c.in_ok-to_clear.ensures.force in
     let force : rules.force ≡ is_some c.as_ref.result = asked ∙ sym c.as_ref.ensures.variant in
-    let left = c.finish-swept.ensures.left rules force ∙ ap (λ (h : PlacedHeap). after_collection rules h.heap) (sym opened) in
-    left_by count (before q) c.finish-swept.new.self.cells c.finish-swept.new.self.heap c.len.result c.in_ok-verdicts.verdicts left c.len.ensures verdicts
+    left_by (counted_in p t) before c.finish-swept.new.self.cells c.finish-swept.new.self.heap c.len.result c.in_ok-verdicts.verdicts (c.finish-swept.ensures.left rules force) c.len.ensures verdicts
     ∙ ap (λ (a : Audit). record (after_next a) { cells = c.finish-swept.new.self.cells }) whole

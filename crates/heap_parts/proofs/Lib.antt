@@ -1,0 +1,5 @@
+pub mod AfterSweep
+pub mod Cleared
+pub mod Limits
+pub mod Operations
+pub mod Stepping
