@@ -1,7 +1,2 @@
-pub mod ByIds
-pub mod Counting
-pub mod GoingOn
 pub mod OwnedPairs
-pub mod OverLimits
-pub mod Showing
 pub mod WholeLists

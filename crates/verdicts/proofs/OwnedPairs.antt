@@ -20,7 +20,7 @@ use Rattle.assert_registry.specs.Laws.{StandFor}
 use Rattle.assert_registry.proofs.Owners.{is_at-itself, is_at-other}
 use Rattle.assert_registry.proofs.Rising.{Rise, Rise-sorted, Rise-head, Rise-tail}
 use Rattle.ownership_check.specs.Ownership.{OwnershipTable, AreViolating}
-use Rattle.verdicts.specs.Listed.{owned_pair}
+use Rattle.verdict_list.specs.Listed.{owned_pair}
 
 -- ---- pairs of an ownee and its owner
 

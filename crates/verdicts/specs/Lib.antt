@@ -1,4 +1,1 @@
-pub mod Kinds
-pub mod Listed
 pub mod Verdicts
-pub mod Violating

@@ -1,14 +1,8 @@
-//! The verdicts of a collection.
+//! The verdicts of a collection, by the trace of a crew.
 #![tactic(auto)]
 
-mod dead;
-mod instances;
+mod counted;
 mod listing;
-mod over_limit;
 mod ownees;
-mod past_limit;
-mod shown;
-mod unshared;
-mod violating;
 
 pub use listing::verdicts;

@@ -1,100 +1,21 @@
 //! The list of the verdicts, in order.
-ghost use Rattle.std.specs.Prelude.{◌≡◌, ◌<◌, ◌≤◌, ℕ, true, take, length, map, min, All, Some, None, IsSome, IfSome, IfOk, slice_index_or};
+ghost use Rattle.std.specs.Prelude.{◌≡◌, ◌≤◌, length, IfOk};
 ghost use Rattle.graph_meaning.specs.Collecting.{first_with_paths, all_verdicts};
 ghost use Rattle.graph_meaning.specs.Heap.{Heap};
 ghost use Rattle.graph_meaning.specs.Roles.{AreRolesOf};
-ghost use Rattle.heap_base.specs.Counting.{IsOnce};
-ghost use Rattle.object_table.specs.Placed.{id_in};
 ghost use Rattle.assert_registry.specs.Laws.{StandFor};
 ghost use Rattle.heap_trace.specs.Traces.{IsTraceOf};
-ghost use Rattle.object_paths.specs.PlainPaths.{ArePlainLevels};
-ghost use Rattle.verdicts.specs.Kinds.{ArePastLimits};
-ghost use Rattle.verdicts.specs.Listed.{AreFirstOf};
 ghost use Rattle.verdicts.specs.Verdicts.{counted_in, most_verdicts};
 
-use crate::dead::push_dead;
-use crate::instances::{kind_counts, push_instances};
-use crate::over_limit::over_limit;
+use crate::counted::CountedTrace;
 use crate::ownees::push_ownees;
-use crate::past_limit::first_past_limits;
-use crate::unshared::push_unshared;
-use crate::violating::{Assertion, violating};
 use graph_meaning::{Roles, VerdictList};
 use heap_base::OutOfMemory;
 use heap_trace::Traced;
-use object_paths::PlainLevels;
 use object_table::ObjectTable;
 use ownership_check::check_owners;
-use reference_search::{FirstReferences, first_references};
 use std::alloc::Global;
-
-// Whether one of so many verdicts shows its path, where so many may.
-fn shows_some(most: usize, verdicts: usize) -> bool
-    ensures { 0 < most → 0 < verdicts → result ≡ true }
-{
-    most > 0 && verdicts > 0
-}
-
-// The levels of plain paths, where they are wanted.
-fn plain_levels(
-    alloc: Global,
-    table: &ObjectTable,
-    roles: &Roles,
-    is_wanted: bool,
-) -> Result<Option<PlainLevels>, OutOfMemory>
-    requires roles { AreRolesOf table.now.cells (length table.now.table.kinds) roles.now }
-    ensures levels { IfOk result (λ levels. IfSome levels (ArePlainLevels table.now roles.now)) }
-    ensures there { IfOk result (λ levels. is_wanted ≡ true → IsSome levels) }
-{
-    if is_wanted {
-        Ok(Some(PlainLevels::make(alloc, table, roles)?))
-    } else {
-        Ok(None)
-    }
-}
-
-// For each type the cell of its first traced object past its limit, where they are wanted.
-fn past_limits(
-    alloc: Global,
-    table: &ObjectTable,
-    roles: &Roles,
-    traced: &Traced,
-    is_wanted: bool,
-) -> Result<Vec<Option<u32>>, OutOfMemory>
-    requires roles { AreRolesOf table.now.cells (length table.now.table.kinds) roles.now }
-    requires trace { (h : Heap) × StandFor table.now roles.now h × IsTraceOf table.now h traced.now }
-    ensures held { IfOk result (λ places. (kind : ℕ) → IfSome (slice_index_or places.items kind None) (λ cell. IsSome (id_in table.now cell))) }
-    ensures past { IfOk result (λ places. is_wanted ≡ true → (h : Heap) → StandFor table.now roles.now h → IsTraceOf table.now h traced.now → ArePastLimits table.now roles.now h places.items) }
-{
-    if is_wanted {
-        first_past_limits(alloc, table, roles, traced)
-    } else {
-        Ok(Vec::new(alloc))
-    }
-}
-
-// The first references to the objects in so many of these cells.
-fn references_of(
-    alloc: Global,
-    table: &ObjectTable,
-    roles: &Roles,
-    traced: &Traced,
-    cells: &[u32],
-    most: usize,
-) -> Result<Vec<FirstReferences>, OutOfMemory>
-    requires roles { AreRolesOf table.now.cells (length table.now.table.kinds) roles.now }
-    requires trace { (h : Heap) × StandFor table.now roles.now h × IsTraceOf table.now h traced.now }
-    requires cells { All (λ cell. IsSome (id_in table.now cell)) cells.now }
-    requires once { IsOnce cells.now }
-    ensures each { IfOk result (λ found. length found.items ≡ min (length cells.now) most) }
-    ensures first { IfOk result (λ found. (h : Heap) → StandFor table.now roles.now h → IsTraceOf table.now h traced.now → AreFirstOf table.now h cells.now found.items) }
-{
-    let shown = cells.len().min(most);
-    if shown == 0 {
-        return Ok(Vec::new(alloc));
-    }
-    first_references(alloc, table, roles, traced.kept(), &cells[..shown])
-}
+use verdict_list::first_verdicts;
 
 /// The violated assertions of a heap that was traced, in order: what is asserted dead, by id; the types over their limit, by name; what
 /// is asserted unshared, by id; and the ownees, by id. So many of the first carry their paths. The counts are those of the trace.
@@ -113,31 +34,9 @@ pub fn verdicts(
     // what is true of every table
     let cells = table.cells();
     prove!(cells < u32::MAX);
-    let dead = violating(alloc, table, roles, traced, Assertion::Dead)?;
-    let kinds = over_limit(alloc, table, roles, traced)?;
-    let unshared = violating(alloc, table, roles, traced, Assertion::Unshared)?;
     let check = check_owners(alloc, table, roles, traced)?;
-    let shown = paths as usize;
-    let before = dead.len() + kinds.len();
-    let shows_plain = shows_some(shown, before + unshared.len());
-    let levels = plain_levels(alloc, table, roles, shows_plain)?;
-    let shows_kinds = shows_some(shown.saturating_sub(dead.len()), kinds.len());
-    let places = past_limits(alloc, table, roles, traced, shows_kinds)?;
-    let counts = kind_counts(alloc, table, roles, traced, &kinds, &places)?;
-    let most = shown.saturating_sub(before);
-    let references = references_of(alloc, table, roles, traced, &unshared, most)?;
-    let mut list = VerdictList::empty(alloc);
-    push_dead(&mut list, table, &levels, &dead, paths)?;
-    push_instances(&mut list, table, &levels, &counts, paths)?;
-    push_unshared(
-        &mut list,
-        table,
-        traced,
-        &levels,
-        &unshared,
-        &references,
-        paths,
-    )?;
+    let counts = CountedTrace { traced };
+    let mut list = first_verdicts(alloc, table, roles, &counts, paths)?;
     push_ownees(&mut list, table, roles, &check, paths)?;
     Ok(list)
 }

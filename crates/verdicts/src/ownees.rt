@@ -1,7 +1,7 @@
 //! The verdicts on ownees.
 ghost use Rattle.std.specs.Prelude.{◌≡◌, ◌≢◌, ◌<◌, ◌+◌, ◌^◌, ℕ, Some, length, map, IsTrue, IfOk, OnOk};
 ghost use Rattle.graph_meaning.specs.declared.roles.OwnerRole.TheVariants.{NotOwned};
-ghost use Rattle.graph_meaning.specs.Collecting.{is_gone, ownedby_verdict, violating_ownees};
+ghost use Rattle.graph_meaning.specs.Collecting.{is_gone, ownedby_verdict};
 ghost use Rattle.graph_meaning.specs.Heap.{Heap};
 ghost use Rattle.graph_meaning.specs.Paths.{shown_path, unowned_way};
 ghost use Rattle.graph_meaning.specs.Reach.{has_id};
@@ -9,14 +9,14 @@ ghost use Rattle.graph_meaning.specs.Roles.{AreRolesOf, owner_in, id_at};
 ghost use Rattle.assert_registry.specs.ByCell.{owner_at};
 ghost use Rattle.assert_registry.specs.Laws.{StandFor};
 ghost use Rattle.ownership_check.specs.Ownership.{AreViolating};
-ghost use Rattle.verdicts.specs.Listed.{path_if, verdict_if, owned_pair, GoesOn};
+ghost use Rattle.verdict_list.specs.Listed.{path_if, verdict_if, owned_pair, GoesOn};
 
-use crate::shown::shown;
 use graph_meaning::{OwnerRole, Roles, Shown, Verdict, VerdictList};
 use heap_base::OutOfMemory;
 use object_table::ObjectTable;
 use ownership_check::OwnershipCheck;
 use path_cert::{object_id, object_kind};
+use verdict_list::shown;
 
 // The owner of an ownee: its id, and whether it was freed.
 #[derive(Clone, Copy)]

@@ -4,9 +4,9 @@ use Rattle.graph_meaning.specs.Collecting.{ownedby_verdict}
 use Rattle.graph_meaning.specs.Heap.{Table, kind_at}
 use Rattle.graph_meaning.specs.Paths.{shown_path, unowned_way}
 use Rattle.path_cert.proofs.HeldObjects.{id-held}
-use Rattle.verdicts.specs.Listed.{path_if, verdict_if}
+use Rattle.verdict_list.specs.Listed.{path_if, verdict_if}
 use Rattle.verdicts.proofs.OwnedPairs.{ownee_at, owner-is, is_owned, pair-is}
-use Rattle.verdicts.proofs.Showing.{ownedby-is}
+use Rattle.verdicts.proofs.WholeLists.{ownedby-is}
 use Rattle.verdicts.proofs.ownees.ownee_verdict.Goals as goal
 
 pub object_kind-requires : goal.object_kind-requires

@@ -1,8 +1,8 @@
 use Rattle.std.proofs.Common.{◌∷◌, [], nat_lt, length, map, get_or, ap, subst, ◌∙◌, arith}
 use Rattle.std.proofs.lemmas.List.{length-append}
 use Rattle.graph_meaning.specs.Collecting.{ownedby_verdict}
-use Rattle.verdicts.specs.Listed.{verdict_if, owned_pair, GoesOn}
-use Rattle.verdicts.proofs.GoingOn.{begins, goes_by_nth, ends_at}
+use Rattle.verdict_list.specs.Listed.{verdict_if, owned_pair, GoesOn}
+use Rattle.verdict_list.proofs.GoingOn.{begins, goes_by_nth, ends_at}
 use Rattle.verdicts.proofs.ownees.push_ownees.Goals as goal
 
 pub loop-cell-init : goal.loop-cell-init

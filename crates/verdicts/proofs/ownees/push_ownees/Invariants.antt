@@ -3,8 +3,8 @@ use Rattle.graph_meaning.specs.Collecting.{ownedby_verdict}
 use Rattle.graph_meaning.specs.Heap.{Heap}
 use Rattle.assert_registry.specs.Laws.{StandFor}
 use Rattle.ownership_check.specs.Ownership.{AreViolating}
-use Rattle.verdicts.specs.Listed.{owned_pair}
-use Rattle.verdicts.proofs.GoingOn.{HasGoneOn}
+use Rattle.verdict_list.specs.Listed.{owned_pair}
+use Rattle.verdict_list.proofs.GoingOn.{HasGoneOn}
 use Rattle.verdicts.proofs.ownees.push_ownees.Given as goal
 
 abbrev pub invariant-loop-cell : goal.invariant-loop-cell

@@ -1,0 +1,6 @@
+pub mod ByIds
+pub mod Counting
+pub mod GoingOn
+pub mod OverLimits
+pub mod Showing
+pub mod WholeLists

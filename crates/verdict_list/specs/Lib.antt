@@ -1,0 +1,4 @@
+pub mod Counts
+pub mod Kinds
+pub mod Listed
+pub mod Violating

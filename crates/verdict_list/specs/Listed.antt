@@ -1,0 +1,48 @@
+-- How a list of verdicts goes on, and by what its paths are shown.
+use Rattle.std.specs.Prelude.{◌≡◌, ℕ, List, ◌++◌, map, Bool, true, false, Option, Some, IfSome, unwrap_or, slice_get}
+use Rattle.graph_meaning.specs.declared.collection.Verdict.{Verdict}
+use Rattle.graph_meaning.specs.declared.paths.Shown.{Shown}
+use Rattle.graph_meaning.specs.declared.paths.Shown.TheVariants.{LeftOut}
+use Rattle.graph_meaning.specs.Collecting.{without_paths, first_with_paths, violating_dead, violating_kinds, violating_unshared, dead_verdict, instances_verdict, unshared_verdict}
+use Rattle.graph_meaning.specs.Heap.{Heap}
+use Rattle.graph_meaning.specs.Roles.{RoleTable, id_at}
+use Rattle.object_table.specs.Placed.{Placed}
+use Rattle.assert_registry.specs.Assertions.{owner_of}
+use Rattle.assert_registry.specs.Laws.{StandFor}
+use Rattle.object_paths.specs.PlainPaths.{PlainTable, ArePlainLevels}
+use Rattle.reference_search.specs.declared.cell_reference.FirstReferences.{FirstReferences}
+use Rattle.reference_search.specs.References.{AreFirst}
+
+-- the path, or none
+abbrev pub path_if : Bool → Shown → Shown
+path_if true path = path
+path_if false path = LeftOut
+
+-- the verdict with its paths, or without
+abbrev pub verdict_if : Bool → Verdict → Verdict
+verdict_if true v = v
+verdict_if false v = without_paths v
+
+-- The list goes on with these verdicts: of all that it has then, so many of the first carry their paths.
+abbrev pub GoesOn : ℕ → List Verdict → List Verdict → List Verdict → Type 0
+GoesOn paths old verdicts new = (before : List Verdict) → old ≡ first_with_paths paths before → new ≡ first_with_paths paths (before ++ verdicts)
+
+-- the verdicts on what is asserted dead, on types and on what is asserted unshared, with these counts of references
+abbrev pub first_verdicts : (ℕ → ℕ) → Heap → List Verdict
+first_verdicts count h =
+    (map (dead_verdict h) (violating_dead h) ++ map (instances_verdict h) (violating_kinds h)) ++ map (unshared_verdict count h) (violating_unshared h)
+
+-- The heap is that of the table and of roles by which these levels were made, if they were made.
+pub record ShowsPaths (p : Placed) (h : Heap) (levels : Option PlainTable) : Type 0 where
+  pub roles : RoleTable
+  pub stand : StandFor p roles h
+  pub made : IfSome levels (ArePlainLevels p roles)
+
+-- the object in a cell and its owner, as a heap has them
+abbrev pub owned_pair : Placed → Heap → ℕ → ℕ × ℕ
+owned_pair p h cell = (id_at p.cells cell, unwrap_or (owner_of h.owners (id_at p.cells cell)) 0)
+
+-- These are the first references to the first of the objects in these cells.
+abbrev pub AreFirstOf : Placed → Heap → List ℕ → List FirstReferences → Type 0
+AreFirstOf p h cells references =
+    (n cell : ℕ) (f : FirstReferences) → slice_get cells n ≡ Some cell → slice_get references n ≡ Some f → AreFirst p h (id_at p.cells cell) f

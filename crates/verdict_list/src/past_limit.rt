@@ -1,0 +1,87 @@
+//! The objects by which types are over their limit.
+ghost use Rattle.std.specs.Prelude.{◌≡◌, ◌<◌, ◌+◌, ◌-◌, ◌^◌, ℕ, replicate, slice_index, slice_set, length, IfOk, IfSome, IsSome, None, slice_index_or};
+ghost use Rattle.graph_meaning.specs.Heap.{Heap};
+ghost use Rattle.graph_meaning.specs.Roles.{AreRolesOf};
+ghost use Rattle.object_table.specs.Placed.{id_in};
+ghost use Rattle.assert_registry.specs.Laws.{StandFor};
+ghost use Rattle.reference_search.specs.References.{KeepsTraced};
+ghost use Rattle.verdict_list.specs.Kinds.{ArePastLimits, first_after};
+
+use graph_meaning::Roles;
+use heap_base::OutOfMemory;
+use object_table::ObjectTable;
+use std::alloc::Global;
+
+// The first object past the limit: that in this cell where so many came before it as the limit allows.
+fn first_after(limit: Option<u32>, count: u32, first: Option<u32>, cell: u32) -> Option<u32>
+    ensures { result ≡ first_after limit count first cell }
+{
+    match limit {
+        Some(limit) if limit == count => Some(cell),
+        _ => first,
+    }
+}
+
+// A count of 0 for each of so many types.
+fn no_counts(alloc: Global, kinds: usize) -> Result<Vec<u32>, OutOfMemory>
+    ensures { IfOk result (λ v. v.items ≡ replicate kinds 0) }
+{
+    let counts = vec![in alloc; 0; kinds]?;
+    Ok(counts)
+}
+
+// No place for each of so many types.
+fn no_places(alloc: Global, kinds: usize) -> Result<Vec<Option<u32>>, OutOfMemory>
+    ensures { IfOk result (λ v. v.items ≡ replicate kinds None) }
+{
+    let places = vec![in alloc; None; kinds]?;
+    Ok(places)
+}
+
+// Counts an object of a type, and notes its cell where it is the first past the limit.
+fn count_one(
+    counts: &mut Vec<u32>,
+    places: &mut Vec<Option<u32>>,
+    limit: Option<u32>,
+    kind: u32,
+    cell: u32,
+)
+    requires counts { kind < length counts.old.items }
+    requires places { kind < length places.old.items }
+    requires small { slice_index counts.old.items kind < 2 ^ 32 - 1 }
+    ensures counts { counts.new.items ≡ slice_set counts.old.items kind (slice_index counts.old.items kind + 1) }
+    ensures places { places.new.items ≡ slice_set places.old.items kind (first_after limit (slice_index counts.old.items kind) (slice_index_or places.old.items kind None) cell) }
+{
+    let count = counts[kind as usize];
+    places[kind as usize] = first_after(limit, count, places[kind as usize], cell);
+    counts[kind as usize] = count + 1;
+}
+
+/// For each type with a limit the cell of its first traced object past the limit, by id. It goes once over the objects.
+pub(crate) fn first_past_limits(
+    alloc: Global,
+    table: &ObjectTable,
+    roles: &Roles,
+    kept: &[bool],
+) -> Result<Vec<Option<u32>>, OutOfMemory>
+    requires roles { AreRolesOf table.now.cells (length table.now.table.kinds) roles.now }
+    requires kept { length kept.now ≡ length table.now.cells }
+    ensures each { IfOk result (λ places. length places.items ≡ length table.now.table.kinds) }
+    ensures held { IfOk result (λ places. (kind : ℕ) → IfSome (slice_index_or places.items kind None) (λ cell. IsSome (id_in table.now cell))) }
+    ensures past { IfOk result (λ places. (h : Heap) → StandFor table.now roles.now h → KeepsTraced table.now h kept.now → ArePastLimits table.now roles.now h places.items) }
+{
+    // what is true of every table
+    let all = table.cells();
+    prove!(all < u32::MAX);
+    let kinds = table.kinds() as usize;
+    let mut counts = no_counts(alloc, kinds)?;
+    let mut places = no_places(alloc, kinds)?;
+    for number in 0..table.live() {
+        let cell = table.nth_cell(number);
+        if kept[cell as usize] {
+            let kind = table.kind_at(cell);
+            count_one(&mut counts, &mut places, roles.limit(kind), kind, cell);
+        }
+    }
+    Ok(places)
+}

@@ -1,0 +1,66 @@
+//! The objects that violate what was asserted of each by itself.
+ghost use Rattle.std.specs.Prelude.{◌≡◌, ◌<◌, ◌≤◌, length, map, All, Some, IfOk, IsSome};
+ghost use Rattle.heap_base.specs.Counting.{IsOnce};
+ghost use Rattle.heap_base.specs.declared.limits.TheConstants.{MOST_OBJECTS};
+ghost use Rattle.graph_meaning.specs.Heap.{Heap};
+ghost use Rattle.graph_meaning.specs.Roles.{AreRolesOf, cells_of};
+ghost use Rattle.object_table.specs.Placed.{id_in};
+ghost use Rattle.assert_registry.specs.Laws.{StandFor};
+ghost use Rattle.verdict_list.specs.Counts.{AreCountsOf};
+ghost use Rattle.verdict_list.specs.Violating.{is_violated_in, violating};
+
+use crate::counts::HeapCounts;
+use graph_meaning::Roles;
+use heap_base::OutOfMemory;
+use object_table::ObjectTable;
+use std::alloc::Global;
+
+/// What is asserted of one object by itself.
+#[derive(Clone, Copy, Debug, PartialEq, Eq)]
+pub enum Assertion {
+    /// It is dead; violated where it is traced.
+    Dead,
+    /// It is unshared; violated where there are two references to it, or more.
+    Unshared,
+}
+
+// Whether the assertion was made of the object in a cell and is violated.
+fn is_violated<T: HeapCounts>(assertion: Assertion, roles: &Roles, traced: &T, cell: u32) -> bool
+    requires roles { cell < cells_of roles.now }
+    requires kept { cell < length (T.counts traced.now).kept }
+    requires words { cell < (T.counts traced.now).cells }
+    ensures { result ≡ is_violated_in assertion roles.now (T.counts traced.now) cell }
+{
+    match assertion {
+        Assertion::Dead => roles.dead(cell) && traced.kept()[cell as usize],
+        Assertion::Unshared => roles.unshared(cell) && traced.references(cell) >= 2,
+    }
+}
+
+/// The cells of the objects that violate the assertion, by id.
+pub(crate) fn violating<T: HeapCounts>(
+    alloc: Global,
+    table: &ObjectTable,
+    roles: &Roles,
+    traced: &T,
+    assertion: Assertion,
+) -> Result<Vec<u32>, OutOfMemory>
+    requires roles { AreRolesOf table.now.cells (length table.now.table.kinds) roles.now }
+    requires counts { (h : Heap) × StandFor table.now roles.now h × AreCountsOf table.now h (T.counts traced.now) }
+    ensures violating { IfOk result (λ cells. (h : Heap) → StandFor table.now roles.now h → AreCountsOf table.now h (T.counts traced.now) → map (id_in table.now) cells.items ≡ map Some (violating assertion h)) }
+    ensures taken { IfOk result (λ cells. All (λ cell. IsSome (id_in table.now cell)) cells.items) }
+    ensures once { IfOk result (λ cells. IsOnce cells.items) }
+    ensures few { IfOk result (λ cells. length cells.items ≤ MOST_OBJECTS) }
+{
+    // what is true of every table
+    let all = table.cells();
+    prove!(all < u32::MAX);
+    let mut cells = Vec::new(alloc);
+    for number in 0..table.live() {
+        let cell = table.nth_cell(number);
+        if is_violated(assertion, roles, traced, cell) {
+            cells.push(cell)?;
+        }
+    }
+    Ok(cells)
+}
