@@ -6,7 +6,8 @@ use Rattle.heap_base.specs.Causes.{Rose}
 use Rattle.heap_base.specs.Sinks.{AppendsPart}
 use Rattle.heap_base.specs.declared.status.Status.{Status}
 use Rattle.heap_base.specs.declared.status.Status.TheVariants.{Clean, Violated, TraceFault, ReadFault, WriteFault, NoMemory, Usage}
-use Rattle.report.specs.Report.{RunRules, is_halted, report_of, status_of, ending_of}
+use Rattle.run_meaning.specs.Run.{RunRules, is_halted, status_of, ending_of}
+use Rattle.report.specs.Report.{report_of}
 use Rattle.report.specs.Traces.{trace_items}
 use Rattle.audit_run.specs.Outcome.{Outside, ReportsTrace, AppendsPartOfReport}
 use Rattle.audit_run.specs.Facts.{IsWhole, HasFacts, FactsFollow, NoReadFails}

@@ -18,13 +18,15 @@ use Rattle.trace_reader.specs.declared.error.CutError.TheVariants as cut_error
 use Rattle.trace_reader.specs.Meaning.{Item, item_of_line, refused}
 use Rattle.trace_reader.specs.Items.{pieces, items_from}
 use Rattle.trace_reader.specs.Cutter.{CutterState, StepsOn, Cuts, GivesLine}
-use Rattle.report.specs.Report.{RunRules, Totals, Ran, first_state, end_of_trace, refused_line, is_halted, empty_run, run, collections_text, report_of, status_of, part_of, ending_of}
+use Rattle.run_meaning.specs.Run.{RunRules, Totals, Ran, first_state, end_of_trace, refused_line, is_halted, empty_run, run, status_of, ending_of}
+use Rattle.report.specs.Report.{collections_text, report_of, part_of}
 use Rattle.report.specs.Traces.{trace_items, whole_lines}
 use Rattle.audit_core.specs.Audit.{Audit}
 use Rattle.audit_run.specs.Outcome.{Outside, IsTrace, ReportsTrace, Ended, AppendsPartOfReport}
 use Rattle.audit_run.specs.Turn.{Due, due, due_at, EndsRun, totals_of, state_at}
 use Rattle.trace_reader.proofs.Pieces.{items_from-append, items_from-given, items_from-line_too_long, items_from-trace_too_long}
-use Rattle.report.proofs.Runs.{LeadsTo, report_text-leads_to, run_status-leads_to, run-nil, run-refused, ending_of-leads_to, part_of-leads_to}
+use Rattle.run_meaning.proofs.Runs.{LeadsTo, run_status-leads_to, run-nil, run-refused, ending_of-leads_to}
+use Rattle.report.proofs.Runs.{report_text-leads_to, part_of-leads_to}
 use Rattle.report.proofs.WholeLines.{IsWholeLine, pieces-whole_lines, whole_lines-cut}
 use Rattle.audit_run.proofs.Progress.{Progress, InProgress, items_so_far, end_now, cuts_of, still_at_end}
 use Rattle.audit_run.proofs.Turns.{EndsRun-at, due-empty_run, AppendsPart-behind, Rose-earlier}

@@ -13,11 +13,13 @@ use Rattle.trace_reader.specs.declared.error.CutError.{CutError}
 use Rattle.trace_reader.specs.Meaning.{Item, item_of_line}
 use Rattle.trace_reader.specs.Items.{pieces, items_from, item_of}
 use Rattle.trace_reader.specs.Cutter.{CutterState, fresh_cutter, IsNextPiece, GivesLine, StepsOn, Cuts}
-use Rattle.report.specs.Report.{RunRules, collection_rules, Totals, first_state, collections_text}
+use Rattle.run_meaning.specs.Run.{RunRules, collection_rules, Totals, first_state}
+use Rattle.report.specs.Report.{collections_text}
 use Rattle.audit_core.specs.Audit.{Audit, first_audit}
 use Rattle.audit_run.specs.Outcome.{Outside}
 use Rattle.audit_run.specs.Turn.{state_at, line_of, IsTaken}
-use Rattle.report.proofs.Runs.{LeadsTo, LeadsTo-nil, LeadsTo-push, collections_text-append}
+use Rattle.run_meaning.proofs.Runs.{LeadsTo, LeadsTo-nil, LeadsTo-push}
+use Rattle.report.proofs.Runs.{collections_text-append}
 use Rattle.report.proofs.WholeLines.{IsWholeLine}
 use Rattle.trace_reader.proofs.Pieces.{item_of-given, pieces-given, items_from-append, items_from-cons}
 

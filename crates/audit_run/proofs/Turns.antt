@@ -21,9 +21,12 @@ use Rattle.graph_meaning.specs.Collecting.{Rules, collection_counted, collection
 use Rattle.graph_meaning.specs.Step.{step}
 use Rattle.trace_reader.specs.Meaning.{Item, blank, event, refused}
 use Rattle.report.specs.Text.{collection_text}
-use Rattle.report.specs.Report.{RunRules, collection_rules, Totals, Turn, Ending, turn_to, turn_of_item, violations_of, with_collections, halted, halts, with_earlier, run, refused_line, empty_run, report_text}
-use Rattle.report.proofs.Runs.{with_collections-nil, with_collections-one, collections_text-one, report_text-one, run_status-with_earlier, report_text-empty_run, run_status-empty_run, run-ends, run-turns, run-halts, halts-nothing, turn-applied, turn-refused, turn-collect, turn_of_item-blank}
-use Rattle.audit_core.specs.Audit.{Audit, is_operation, next_collection, after_next}
+use Rattle.run_meaning.specs.Run.{RunRules, collection_rules, Totals, Turn, Ending, turn_to, turn_of_item, violations_of, with_collections, halted, halts, with_earlier, run, refused_line, empty_run}
+use Rattle.report.specs.Report.{report_text}
+use Rattle.run_meaning.proofs.Runs.{with_collections-nil, with_collections-one, run_status-with_earlier, run_status-empty_run, run-ends, run-turns, run-halts, halts-nothing, turn-applied, turn-refused, turn-collect, turn_of_item-blank}
+use Rattle.report.proofs.Runs.{collections_text-one, report_text-one, report_text-empty_run}
+use Rattle.audit_core.specs.Audit.{Audit, next_collection, after_next}
+use Rattle.heap_parts.specs.Parts.{is_operation}
 use Rattle.audit_run.specs.declared.turn.Flow.{Flow}
 use Rattle.audit_run.specs.declared.turn.Flow.TheVariants.{GoesOn, Ends}
 use Rattle.audit_run.specs.Turn.{Due, due, due_at, EndsRun, totals_of, state_at, line_of, IsTaken, TakesLine, Decides}

@@ -8,7 +8,8 @@ use Rattle.heap_base.specs.declared.limits.TheConstants.{LONGEST_LINE, LONGEST_T
 use Rattle.heap_base.specs.declared.status.Status.{Status}
 use Rattle.heap_base.specs.declared.status.Status.TheVariants.{Clean, Violated, TraceFault, ReadFault, WriteFault, NoMemory, Usage}
 use Rattle.graph_meaning.specs.declared.reaction.React.{React}
-use Rattle.report.specs.Report.{RunRules, end_of_trace, is_halted, report_of, status_of, part_of, ending_of}
+use Rattle.run_meaning.specs.Run.{RunRules, end_of_trace, is_halted, status_of, ending_of}
+use Rattle.report.specs.Report.{report_of, part_of}
 use Rattle.report.specs.Traces.{trace_items, whole_lines}
 use Rattle.settings.specs.declared.settings.Settings.{Settings}
 

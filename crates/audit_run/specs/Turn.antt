@@ -9,7 +9,8 @@ use Rattle.heap_base.specs.declared.status.Status.TheVariants.{Clean, Violated, 
 use Rattle.graph_meaning.specs.declared.collection.Collection.{Collection}
 use Rattle.graph_meaning.specs.declared.reaction.React.{React}
 use Rattle.trace_reader.specs.Meaning.{Item}
-use Rattle.report.specs.Report.{RunRules, collection_rules, Totals, RunState, Ending, halted, is_halted, halts, Ran, turn_of_item, run, collections_text, last_line, last_status, report_text, run_status}
+use Rattle.run_meaning.specs.Run.{RunRules, collection_rules, Totals, RunState, Ending, halted, is_halted, halts, Ran, turn_of_item, run, last_status, run_status}
+use Rattle.report.specs.Report.{collections_text, last_line, report_text}
 use Rattle.audit_core.specs.Audit.{Audit}
 use Rattle.audit_run.specs.declared.turn.Flow.{Flow}
 use Rattle.audit_run.specs.declared.turn.Flow.TheVariants.{GoesOn, Ends}

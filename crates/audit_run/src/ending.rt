@@ -1,6 +1,6 @@
 ghost use Rattle.std.specs.Prelude.{◌≤◌, ℕ, true, false};
 ghost use Rattle.heap_base.specs.Streams.{stream_of};
-ghost use Rattle.report.specs.Report.{Totals, end_of_trace, halted, refused_line};
+ghost use Rattle.run_meaning.specs.Run.{Totals, end_of_trace, halted, refused_line};
 ghost use Rattle.audit_run.specs.Turn.{EndsRun, due_at, totals_of};
 
 use audit_core::Auditor;

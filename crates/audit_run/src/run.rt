@@ -1,7 +1,7 @@
 ghost use Rattle.std.specs.Prelude.{◌≡◌, ℕ, ◌<◌, ◌≤◌};
 ghost use Rattle.heap_base.specs.Streams.{stream_of};
 ghost use Rattle.heap_base.specs.declared.limits.TheConstants.{MOST_WORKERS};
-ghost use Rattle.report.specs.Report.{is_force};
+ghost use Rattle.run_meaning.specs.Run.{is_force};
 ghost use Rattle.audit_run.specs.Outcome.{Ended, rules_by, seen};
 
 use crate::ending::{finish, refuse};

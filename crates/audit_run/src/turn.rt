@@ -2,7 +2,7 @@ ghost use Rattle.std.specs.Prelude.{◌≡◌, ◌≢◌, ◌<◌, ◌≤◌, �
 ghost use Rattle.heap_base.specs.Streams.{stream_of};
 ghost use Rattle.graph_meaning.specs.declared.event.Event.TheVariants.{Collect};
 ghost use Rattle.trace_reader.specs.Meaning.{item_of_line, event as event_item};
-ghost use Rattle.report.specs.Report.{RunRules, collection_rules};
+ghost use Rattle.run_meaning.specs.Run.{RunRules, collection_rules};
 ghost use Rattle.audit_run.specs.Outcome.{rules_by};
 ghost use Rattle.audit_run.specs.Turn.{Decides, TakesLine, line_of};
 

@@ -8,21 +8,22 @@ use std::env::{self, Args};
 use std::io::ErrorKind;
 use std::process::ExitCode;
 
-/// The exit status where the words of the command line can't be had, for another cause than want of memory. No run
+/// The exit status where the words of the command line can't be had, for another cause than that memory is out. No run
 /// ends with it, and nothing is written.
 const NO_WORDS: u8 = 7;
 
 fn main(rt: HostRuntime) -> ExitCode {
+    // Without its words the program writes nothing, on either stream.
     let args = match env::args(&rt) {
         Ok(args) => args,
-        Err(error) if error.kind() == ErrorKind::OutOfMemory => return end(&rt, Status::NoMemory),
+        Err(error) if error.kind() == ErrorKind::OutOfMemory => return number(Status::NoMemory),
         Err(_) => return ExitCode::from(NO_WORDS),
     };
     let Ok(owned) = owned_words(rt.alloc(), args) else {
-        return end(&rt, Status::NoMemory);
+        return number(Status::NoMemory);
     };
     let Ok(words) = borrowed_words(rt.alloc(), &owned) else {
-        return end(&rt, Status::NoMemory);
+        return number(Status::NoMemory);
     };
     let mut source = StdSource::over(rt.stdin());
     let mut sink = StdSink::over(rt.stdout());
@@ -52,6 +53,10 @@ fn end(rt: &HostRuntime, status: Status) -> ExitCode {
         // Where standard error can't be written, the status still tells.
         let _ = eprintln!(rt; "gcaudit: {sentence}");
     }
+    number(status)
+}
+
+fn number(status: Status) -> ExitCode {
     ExitCode::from(status as u8)
 }
 
@@ -62,7 +67,7 @@ fn sentence(status: Status) -> Option<&'static str> {
             "standard input could not be read; the report ends where the reading ended",
         ),
         Status::WriteFault => Some("standard output could not be written; the report is cut short"),
-        Status::NoMemory => Some("memory is wanting; the report is cut short"),
+        Status::NoMemory => Some("out of memory; the report is cut short"),
         Status::Usage => Some(
             "these words are not taken; the trace comes on standard input: gcaudit < TRACE; --gen and --size generate one",
         ),

@@ -1,49 +1,13 @@
--- What the items of a trace do to a run, one after another, and to its report.
-use Rattle.std.proofs.Common.{◌≡◌, ℕ, ◌+◌, ◌≤◌, List, [], ◌∷◌, ◌++◌, length, true, false, cond, Result, Ok, Err, refl, sym, ◌∙◌, ap, subst, arith}
-use Rattle.std.proofs.lemmas.List.{append_assoc, append-nil, length-append}
+-- The report on a run whose items come one after another.
+use Rattle.std.proofs.Common.{◌≡◌, List, [], ◌∷◌, ◌++◌, sym, ◌∙◌, ap}
+use Rattle.std.proofs.lemmas.List.{append_assoc, append-nil}
 use Rattle.std.proofs.lemmas.Grind.{flat_map-append}
-use Rattle.heap_base.proofs.Counting.{total-append}
 use Rattle.graph_meaning.specs.declared.collection.Collection.{Collection}
-use Rattle.graph_meaning.specs.declared.event.Event.{Event}
-use Rattle.graph_meaning.specs.declared.event.Event.TheVariants.{Alloc, Store, SetWeak, Root, AssertDead, StartRegion, AssertAllDead, AssertInstances, AssertUnshared, AssertOwnedBy, Collect}
-use Rattle.graph_meaning.specs.declared.reaction.React.{React}
-use Rattle.graph_meaning.specs.declared.reaction.React.TheVariants.{Report, Halt, Force}
-use Rattle.graph_meaning.specs.declared.refusal.Refusal.{Refusal}
-use Rattle.graph_meaning.specs.Heap.{Heap}
-use Rattle.graph_meaning.specs.Step.{step}
-use Rattle.graph_meaning.specs.Collecting.{Rules, collection_of, after_collection}
-use Rattle.trace_reader.specs.Meaning.{Item, blank, event, refused}
+use Rattle.trace_reader.specs.Meaning.{Item}
+use Rattle.run_meaning.specs.Run.{RunRules, Totals, RunState, Ran, Ending, first_state, with_collections, empty_run, with_earlier, run}
 use Rattle.report.specs.Text.{collection_text}
-use Rattle.report.specs.Report.{RunRules, collection_rules, Totals, RunState, Turn, Ran, Ending, first_state, violations_of, with_collections, turn_to, turn_by_step, turn, turn_of_item, end_of_trace, refused_line, halted, empty_run, with_earlier, halts, after_turn, by_turn, run, collections_text, last_line, last_status, report_text, run_status, ending_of, part_of}
-
--- ---- totals
-
-pub violations_of-append : (xs ys : List Collection) → violations_of (xs ++ ys) ≡ violations_of xs + violations_of ys
-violations_of-append xs ys = total-append (λ (c : Collection). length c.verdicts) xs ys
-
-Totals-equal : (s t : Totals) → s.collections ≡ t.collections → s.violations ≡ t.violations → s ≡ t
-Totals-equal s t p q =
-    let totals : ℕ → ℕ → Totals = λ c v. record { collections = c; violations = v } in
-    ap (λ c. totals c s.violations) p ∙ ap (totals t.collections) q
-
-pub with_collections-nil : (t : Totals) → with_collections t [] ≡ t
-with_collections-nil t = Totals-equal (with_collections t []) t (omega arith) (omega arith)
-
-pub with_collections-one : (t : Totals) (c : Collection) → with_collections t (c ∷ []) ≡ record { collections = t.collections + 1; violations = t.violations + length c.verdicts }
-with_collections-one t c = Totals-equal (with_collections t (c ∷ [])) _ (omega arith) (omega arith)
-
-pub with_collections-append : (t : Totals) (xs ys : List Collection) → with_collections t (xs ++ ys) ≡ with_collections (with_collections t xs) ys
-with_collections-append t xs ys =
-    Totals-equal (with_collections t (xs ++ ys)) (with_collections (with_collections t xs) ys) (omega (arith, length-append xs ys)) (omega (arith, violations_of-append xs ys))
-
--- ---- collections before a run
-
-pub with_earlier-nil : (r : Ran) → with_earlier [] r ≡ r
-with_earlier-nil r = refl
-
-pub with_earlier-twice : (xs ys : List Collection) (r : Ran) → with_earlier xs (with_earlier ys r) ≡ with_earlier (xs ++ ys) r
-with_earlier-twice xs ys r =
-    ap (λ (cs : List Collection). let ran : Ran = record { collections = cs; ending = r.ending } in ran) (sym (append_assoc xs ys r.collections))
+use Rattle.report.specs.Report.{collections_text, last_line, report_text, part_of}
+use Rattle.run_meaning.proofs.Runs.{with_collections-nil, with_collections-append, LeadsTo, run-leads_to}
 
 pub collections_text-append : (xs ys : List Collection) → collections_text (xs ++ ys) ≡ collections_text xs ++ collections_text ys
 collections_text-append xs ys = flat_map-append collection_text xs ys
@@ -58,11 +22,6 @@ report_text-with_earlier before made r =
     ∙ ap (λ (t : Totals). (collections_text made ++ collections_text r.collections) ++ last_line t r.ending) (with_collections-append before made r.collections)
     ∙ append_assoc (collections_text made) (collections_text r.collections) (last_line (with_collections (with_collections before made) r.collections) r.ending)
 
-pub run_status-with_earlier : (before : Totals) (made : List Collection) (r : Ran) → run_status before (with_earlier made r) ≡ run_status (with_collections before made) r
-unfolding run_status
-run_status-with_earlier before made r =
-    ap (λ (t : Totals). last_status t r.ending) (with_collections-append before made r.collections)
-
 -- one collection before a run, with its text
 pub report_text-one : (before : Totals) (c : Collection) (r : Ran) → report_text before (with_earlier (c ∷ []) r) ≡ collection_text c ++ report_text (with_collections before (c ∷ [])) r
 report_text-one before c r =
@@ -72,151 +31,6 @@ report_text-one before c r =
 pub report_text-empty_run : (before : Totals) (ending : Ending) → report_text before (empty_run ending) ≡ last_line before ending
 unfolding report_text
 report_text-empty_run before ending = ap (λ (t : Totals). last_line t ending) (with_collections-nil before)
-
-pub run_status-empty_run : (before : Totals) (ending : Ending) → run_status before (empty_run ending) ≡ last_status before ending
-unfolding run_status
-run_status-empty_run before ending = ap (λ (t : Totals). last_status t ending) (with_collections-nil before)
-
--- ---- one operation
-
--- an operation that is no collection is a step
-pub turn-step : (rules : Rules) (s : RunState) (e : Event) → (e ≡ Collect → ⊥) → turn rules s e ≡ turn_by_step s (step s.heap e)
-unfolding turn
-turn-step rules s (Alloc id kind slots thread) other = refl
-turn-step rules s (Store at slot to) other = refl
-turn-step rules s (SetWeak at slot weak) other = refl
-turn-step rules s (Root name to) other = refl
-turn-step rules s (AssertDead id) other = refl
-turn-step rules s (StartRegion thread) other = refl
-turn-step rules s (AssertAllDead thread) other = refl
-turn-step rules s (AssertInstances kind limit) other = refl
-turn-step rules s (AssertUnshared id) other = refl
-turn-step rules s (AssertOwnedBy owner ownee) other = refl
-turn-step rules s Collect other = absurd (other refl)
-
-pub turn-applied : (rules : Rules) (s : RunState) (e : Event) (h : Heap) → (e ≡ Collect → ⊥) → step s.heap e ≡ Ok h → turn rules s e ≡ Ok (turn_to s [] h)
-turn-applied rules s e h other is = turn-step rules s e other ∙ ap (turn_by_step s) is
-
-pub turn-refused : (rules : Rules) (s : RunState) (e : Event) (r : Refusal) → (e ≡ Collect → ⊥) → step s.heap e ≡ Err r → turn rules s e ≡ Err r
-turn-refused rules s e r other is = turn-step rules s e other ∙ ap (turn_by_step s) is
-
-pub turn-collect : (rules : Rules) (s : RunState) → turn rules s Collect ≡ Ok (turn_to s (collection_of rules (s.totals.collections + 1) s.heap ∷ []) (after_collection rules s.heap))
-unfolding turn
-turn-collect rules s = refl
-
--- What each turn keeps: the totals are those of all collections so far, one line more was read, and at most one
--- collection was made.
-pub record IsTurn (s : RunState) (t : Turn) : Type 0 where
-  pub totals : t.state.totals ≡ with_collections s.totals t.collections
-  pub lines : t.state.lines ≡ s.lines + 1
-  pub at_most_one : length t.collections ≤ 1
-
-IsTurn-turn_to : (s : RunState) (made : List Collection) (h : Heap) → length made ≤ 1 → IsTurn s (turn_to s made h)
-IsTurn-turn_to s made h few = record { totals = refl; lines = refl; at_most_one = few }
-
-IsTurn-by_step : (s : RunState) (t : Turn) (result : Result Heap Refusal) → turn_by_step s result ≡ Ok t → IsTurn s t
-IsTurn-by_step s t (Ok h) is = subst (IsTurn s) (cc) (IsTurn-turn_to s [] h (omega arith))
-IsTurn-by_step s t (Err r) is = absurd (cc)
-
-pub IsTurn-of_event : (rules : Rules) (s : RunState) (e : Event) (t : Turn) → turn rules s e ≡ Ok t → IsTurn s t
-unfolding turn
-IsTurn-of_event rules s Collect t is = subst (IsTurn s) (cc) (IsTurn-turn_to s (collection_of rules (s.totals.collections + 1) s.heap ∷ []) (after_collection rules s.heap) (omega arith))
-IsTurn-of_event rules s e t is = IsTurn-by_step s t (step s.heap e) is
-
-pub IsTurn-of_item : (rules : Rules) (s : RunState) (item : Item) (t : Turn) → turn_of_item rules s item ≡ Ok t → IsTurn s t
-IsTurn-of_item rules s blank t is = subst (IsTurn s) (cc) (IsTurn-turn_to s [] s.heap (omega arith))
-IsTurn-of_item rules s (event e) t is = IsTurn-of_event rules s e t is
-IsTurn-of_item rules s (refused r) t is = absurd (cc)
-
--- ---- one item
-
-pub run-nil : (rules : RunRules) (s : RunState) → run rules s [] ≡ empty_run end_of_trace
-unfolding run
-run-nil rules s = refl
-
-pub run-turns : (rules : RunRules) (s : RunState) (item : Item) (t : Turn) (items : List Item) → turn_of_item (collection_rules rules) s item ≡ Ok t →
-    run rules s (item ∷ items) ≡ after_turn rules.react t (λ next. run rules next items)
-unfolding run
-run-turns rules s item t items is = ap (λ o. by_turn rules.react (s.lines + 1) o (λ next. run rules next items)) is
-
--- behind a turn a run goes on, or halts
-turn-goes_on : (react : React) (t : Turn) (go_on : RunState → Ran) → halts react t.collections ≡ false → after_turn react t go_on ≡ with_earlier t.collections (go_on t.state)
-turn-goes_on react t go_on is =
-    ap (λ b. with_earlier t.collections (cond b (empty_run (halted t.state.totals.collections (violations_of t.collections))) (go_on t.state))) is
-
-turn-halts : (react : React) (t : Turn) (go_on : RunState → Ran) → halts react t.collections ≡ true → after_turn react t go_on ≡ with_earlier t.collections (empty_run (halted t.state.totals.collections (violations_of t.collections)))
-turn-halts react t go_on is =
-    ap (λ b. with_earlier t.collections (cond b (empty_run (halted t.state.totals.collections (violations_of t.collections))) (go_on t.state))) is
-
--- the run goes on from the turn of its first item
-pub run-goes_on : (rules : RunRules) (s : RunState) (item : Item) (t : Turn) (items : List Item) → turn_of_item (collection_rules rules) s item ≡ Ok t → halts rules.react t.collections ≡ false →
-    run rules s (item ∷ items) ≡ with_earlier t.collections (run rules t.state items)
-run-goes_on rules s item t items is on =
-    run-turns rules s item t items is ∙ turn-goes_on rules.react t (λ next. run rules next items) on
-
--- or halts behind it
-pub run-halts : (rules : RunRules) (s : RunState) (item : Item) (t : Turn) (items : List Item) → turn_of_item (collection_rules rules) s item ≡ Ok t → halts rules.react t.collections ≡ true →
-    run rules s (item ∷ items) ≡ with_earlier t.collections (empty_run (halted t.state.totals.collections (violations_of t.collections)))
-run-halts rules s item t items is stops =
-    run-turns rules s item t items is ∙ turn-halts rules.react t (λ next. run rules next items) stops
-
--- or ends at its line
-pub run-ends : (rules : RunRules) (s : RunState) (item : Item) (r : Refusal) (items : List Item) → turn_of_item (collection_rules rules) s item ≡ Err r → run rules s (item ∷ items) ≡ empty_run (refused_line (s.lines + 1) r)
-unfolding run
-run-ends rules s item r items is = ap (λ o. by_turn rules.react (s.lines + 1) o (λ next. run rules next items)) is
-
-pub run-refused : (rules : RunRules) (s : RunState) (r : Refusal) (items : List Item) → run rules s (refused r ∷ items) ≡ empty_run (refused_line (s.lines + 1) r)
-run-refused rules s r items = run-ends rules s (refused r) r items refl
-
--- nothing halts a run where no collection was made
-pub halts-nothing : (react : React) → halts react [] ≡ false
-halts-nothing Report = refl
-halts-nothing Halt = refl
-halts-nothing Force = refl
-
--- a line with no operation changes the number of lines alone
-pub turn_of_item-blank : (rules : Rules) (s : RunState) → turn_of_item rules s blank ≡ Ok (record { collections = []; state = record s { lines = s.lines + 1 } })
-turn_of_item-blank rules s =
-    ap (λ (t : Totals). let turned : Result Turn Refusal = Ok (record { collections = []; state = record { heap = s.heap; totals = t; lines = s.lines + 1 } }) in turned) (with_collections-nil s.totals)
-
--- ---- the items so far
-
--- These items lead from a state to another and make these collections: whatever follows them goes on from there.
-pub record LeadsTo (rules : RunRules) (s : RunState) (items : List Item) (made : List Collection) (s' : RunState) : Type 0 where
-  pub on : (more : List Item) → run rules s (items ++ more) ≡ with_earlier made (run rules s' more)
-  pub totals : s'.totals ≡ with_collections s.totals made
-  pub lines : s'.lines ≡ s.lines + length items
-  pub few_collections : length made ≤ length items
-
-pub LeadsTo-nil : (rules : RunRules) (s : RunState) → LeadsTo rules s [] [] s
-LeadsTo-nil rules s = record { on = λ more. refl; totals = sym (with_collections-nil s.totals); lines = omega arith; few_collections = omega arith }
-
--- one item more
-pub LeadsTo-push : (rules : RunRules) (s s' : RunState) (items : List Item) (made : List Collection) (item : Item) (t : Turn) →
-    LeadsTo rules s items made s' → turn_of_item (collection_rules rules) s' item ≡ Ok t → halts rules.react t.collections ≡ false → LeadsTo rules s (items ++ item ∷ []) (made ++ t.collections) t.state
-LeadsTo-push rules s s' items made item t leads is goes_on =
-    let turned : IsTurn s' t = IsTurn-of_item (collection_rules rules) s' item t is in
-    record {
-      on = λ more.
-          ap (run rules s) (append_assoc items (item ∷ []) more)
-          ∙ leads.on (item ∷ more)
-          ∙ ap (with_earlier made) (run-goes_on rules s' item t more is goes_on)
-          ∙ with_earlier-twice made t.collections (run rules t.state more);
-      totals =
-          turned.totals
-          ∙ ap (λ (b : Totals). with_collections b t.collections) leads.totals
-          ∙ sym (with_collections-append s.totals made t.collections);
-      lines = omega (arith, turned.lines, leads.lines, length-append items (item ∷ []));
-      few_collections = omega (arith, turned.at_most_one, leads.few_collections, length-append items (item ∷ []), length-append made t.collections);
-    }
-
--- where nothing follows, the run comes to its end
-pub run-leads_to : (rules : RunRules) (s s' : RunState) (items : List Item) (made : List Collection) → LeadsTo rules s items made s' → run rules s items ≡ with_earlier made (empty_run end_of_trace)
-run-leads_to rules s s' items made leads =
-    ap (run rules s) (sym (append-nil items)) ∙ leads.on [] ∙ ap (with_earlier made) (run-nil rules s')
-
-pub ending_of-leads_to : (rules : RunRules) (s' : RunState) (items : List Item) (made : List Collection) → LeadsTo rules first_state items made s' → ending_of rules items ≡ end_of_trace
-ending_of-leads_to rules s' items made leads = ap (λ (r : Ran). r.ending) (run-leads_to rules first_state s' items made leads)
 
 pub part_of-leads_to : (rules : RunRules) (s' : RunState) (items : List Item) (made : List Collection) → LeadsTo rules first_state items made s' → part_of rules items ≡ collections_text made
 part_of-leads_to rules s' items made leads =
@@ -229,10 +43,3 @@ report_text-leads_to rules s s' items more made leads =
     ap (report_text s.totals) (leads.on more)
     ∙ report_text-with_earlier s.totals made (run rules s' more)
     ∙ ap (λ (t : Totals). collections_text made ++ report_text t (run rules s' more)) (sym leads.totals)
-
-pub run_status-leads_to : (rules : RunRules) (s s' : RunState) (items more : List Item) (made : List Collection) → LeadsTo rules s items made s' →
-    run_status s.totals (run rules s (items ++ more)) ≡ run_status s'.totals (run rules s' more)
-run_status-leads_to rules s s' items more made leads =
-    ap (run_status s.totals) (leads.on more)
-    ∙ run_status-with_earlier s.totals made (run rules s' more)
-    ∙ ap (λ (t : Totals). run_status t (run rules s' more)) (sym leads.totals)

@@ -1,13 +1,11 @@
-//! What the run of a trace reports: the definitions of a run and of its report (in `specs/`), and the texts of a
-//! collection, a fault line, a halt line and the end line.
+//! The report on the run of a trace: its definition (in `specs/`), and the texts of a collection, a fault line, a halt
+//! line and the end line.
 #![tactic(auto)]
 
 mod examples;
 mod parts;
 mod paths;
 mod refusals;
-#[cfg(test)]
-mod tests;
 mod texts;
 mod verdicts;
 
