@@ -5,6 +5,6 @@ mod gates;
 mod heaps;
 mod names;
 
-pub use gates::{PATIENCE, UntilBothBegin, UntilOneIsStolen, UntilThreeAreBegun, Watch};
+pub use gates::{Hold, Holding, UNTIL_BOTH_BEGIN, UntilOneIsStolen, Watch, until_many_are_begun};
 pub use heaps::{SampleHeap, cell, registry_of, roles_of, table_of};
 pub use names::{id, name};

@@ -1,0 +1,85 @@
+//! Two workers at a collection, each on a thread of its own: gates that hold the one until the other has gone on.
+//! The heap has 1,002 objects: a crew of two has two threads where a worker may have 1,000 tasks or more, and it has room
+//! for two tasks an object and one more.
+
+use audit_run::audit;
+use heap_base::{MemSink, MemSource, Status};
+use std::alloc::Global;
+use std::process::Abort;
+use std::test::Fail;
+use std::thread::Threads;
+use test_support::{Hold, Holding, UNTIL_BOTH_BEGIN, Watch, until_many_are_begun};
+
+/// Two roots: `a` names an object with 1,000 children, which worker 0 begins with, and `b` one without any, which is the
+/// only task that worker 1 gets.
+fn family(alloc: Global) -> Result<String, Fail> {
+    let mut trace = String::new(alloc);
+    trace.push_str(
+        "{\"op\":\"alloc\",\"id\":1,\"type\":\"A\",\"slots\":1000}\n\
+         {\"op\":\"alloc\",\"id\":2,\"type\":\"A\",\"slots\":0}\n\
+         {\"op\":\"root\",\"name\":\"a\",\"to\":1}\n\
+         {\"op\":\"root\",\"name\":\"b\",\"to\":2}\n",
+    )?;
+    for slot in 0..1_000u32 {
+        let child = slot + 3;
+        trace.push_str(&format!(in alloc;
+            "{{\"op\":\"alloc\",\"id\":{child},\"type\":\"A\",\"slots\":0}}\n\
+             {{\"op\":\"store\",\"at\":1,\"slot\":{slot},\"to\":{child}}}\n"
+        )?)?;
+    }
+    trace.push_str("{\"op\":\"collect\"}\n")?;
+    Ok(trace)
+}
+
+/// Audits the family with two workers that are held so. No worker is to give up.
+fn expect_held<R: Threads + Abort + Sync>(
+    rt: &R,
+    alloc: Global,
+    holds: &[Hold],
+) -> Result<(), Fail> {
+    let gate = Holding {
+        holds,
+        watch: Watch::new(),
+    };
+    let trace = family(alloc)?;
+    let mut source = MemSource::make(alloc, trace.as_bytes(), 4096, &[])?;
+    let mut sink = MemSink::make(alloc, 4096, 4096, &[])?;
+    let words = ["gcaudit", "--workers", "2"];
+    let status = audit(rt, alloc, &words, &mut source, &mut sink, &gate);
+    assert_eq!(rt; status, Status::Clean);
+    let report = b"gc 1 live 1002 traced 1002 freed 0\nend gcs 1 violations 0\n";
+    assert_eq!(rt; sink.bytes(), report.as_slice());
+    assert!(rt; !gate.watch.gave_up());
+    Ok(())
+}
+
+/// Each worker is held in its first task until the other has begun one.
+#[test]
+fn both_workers_begin(rt: HostRuntime) -> Result<(), Fail> {
+    expect_held(&rt, rt.alloc(), &UNTIL_BOTH_BEGIN)
+}
+
+/// Worker 1 begins before worker 0 goes on, and is held in its only task until worker 0 has begun three.
+#[test]
+fn a_worker_goes_on_while_another_is_held(rt: HostRuntime) -> Result<(), Fail> {
+    expect_held(&rt, rt.alloc(), &until_many_are_begun(3))
+}
+
+/// Worker 0 is held in its second task, while its other tasks wait, until worker 1 has begun a second. Worker 1 got one
+/// task, which puts none: its second is one of worker 0's.
+#[test]
+fn a_waiting_task_is_stolen(rt: HostRuntime) -> Result<(), Fail> {
+    let holds = [
+        Hold {
+            worker: 1,
+            nth: 1,
+            until: 2,
+        },
+        Hold {
+            worker: 0,
+            nth: 2,
+            until: 2,
+        },
+    ];
+    expect_held(&rt, rt.alloc(), &holds)
+}

@@ -1,0 +1,16 @@
+//! Tests of a whole run by its calls: reads and writes that fail, what two workers do at the same time, and the texts
+//! of a report. What a trace's report is, the cases on the built program show.
+#![tactic(auto)]
+
+#[cfg(test)]
+mod calls;
+#[cfg(test)]
+mod day;
+#[cfg(test)]
+mod faults;
+#[cfg(test)]
+mod gates;
+#[cfg(test)]
+mod order;
+#[cfg(test)]
+mod texts;

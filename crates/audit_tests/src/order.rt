@@ -1,0 +1,85 @@
+//! What a run asks of its source and its sink, call by call.
+ghost use Rattle.std.specs.Prelude.{Some};
+
+use audit_run::audit;
+use heap_base::{Failed, MemSink, MemSource, OpenGate, Sink, Source, Status};
+use std::cell::Cell;
+use std::test::Fail;
+
+/// The calls so far: `r` for a read, `w` for a write.
+#[derive(Drop)]
+struct Calls {
+    made: Cell<[u8; 8]>,
+    count: Cell<usize>,
+}
+
+impl Calls {
+    fn note(&self, call: u8) {
+        let mut made = self.made.get();
+        if let Some(place) = made.get_mut(self.count.get()) {
+            *place = call;
+        }
+        self.made.set(made);
+        self.count.set(self.count.get().saturating_add(1));
+    }
+}
+
+/// A source that notes each read.
+#[derive(Drop)]
+struct NotedSource<'a> {
+    source: MemSource,
+    calls: &'a Calls,
+}
+
+impl<'a> Source for NotedSource<'a> {
+    ghost left = { λ s. Some s.source.left };
+
+    ghost faults = { λ s. s.source.faults };
+
+    fn read(&mut self, into: &mut [u8]) -> Result<usize, Failed> {
+        self.calls.note(b'r');
+        self.source.read(into)
+    }
+}
+
+/// A sink that notes each write.
+#[derive(Drop)]
+struct NotedSink<'a> {
+    sink: MemSink,
+    calls: &'a Calls,
+}
+
+impl<'a> Sink for NotedSink<'a> {
+    ghost held = { λ s. Some s.sink.held };
+
+    ghost faults = { λ s. s.sink.faults };
+
+    fn write(&mut self, piece: &[u8]) -> Result<usize, Failed> {
+        self.calls.note(b'w');
+        self.sink.write(piece)
+    }
+}
+
+/// Each line comes by a read of its own: the text of its collection is written, by one write, before the next read.
+#[test]
+fn a_collection_is_written_before_the_next_read(rt: HostRuntime) -> Result<(), Fail> {
+    let trace = b"{\"op\":\"collect\"}\n{\"op\":\"collect\"}\n";
+    let calls = Calls {
+        made: Cell::new([b' '; 8]),
+        count: Cell::new(0),
+    };
+    let mut source = NotedSource {
+        source: MemSource::make(rt.alloc(), trace, 17, &[])?,
+        calls: &calls,
+    };
+    let mut sink = NotedSink {
+        sink: MemSink::make(rt.alloc(), 4096, 4096, &[])?,
+        calls: &calls,
+    };
+    let words = ["gcaudit"];
+    let status = audit(&rt, rt.alloc(), &words, &mut source, &mut sink, &OpenGate);
+    assert_eq!(rt; status, Status::Clean);
+    assert_eq!(rt; calls.made.get(), *b"rwrwrw  ");
+    assert_eq!(rt; calls.count.get(), 6);
+    Ok(())
+}

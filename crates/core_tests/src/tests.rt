@@ -1,0 +1,6 @@
+mod agreements;
+mod by_hand;
+mod calls;
+mod large;
+mod limits;
+mod lines;

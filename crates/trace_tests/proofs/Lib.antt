@@ -1,0 +1,3 @@
+pub mod CellTaskLemmas
+pub mod OnlyJob
+pub mod PhaseRuns

@@ -1,0 +1,12 @@
+use Rattle.std.proofs.Common.{arith, List, length, ap, sym, subst}
+use Rattle.heap_base.specs.declared.task.Task.{Task}
+use Rattle.trace_tests.specs.CellTasks.{AreFirst}
+use Rattle.trace_tests.proofs.CellTaskLemmas.{first_more}
+use Rattle.trace_tests.proofs.counters.add_first.Goals as goal
+
+pub returns-then-of-clause-lists : goal.returns-then-of-clause-lists
+returns-then-of-clause-lists c =
+    let is = ap (λ (ts : List Task). length ts) c.of.ensures in
+    let few = c.if-of.true in
+    subst (AreFirst c.args.workers c.args.cells) (sym c.add.ensures.lists)
+    (first_more c.args.workers c.args.cells c.args.first.now.lists c.args.worker c.args.cell c.requires.lists c.if-worker-workers.true c.if-cell-cells.true (omega arith))

@@ -1,0 +1,2 @@
+pub mod CellTasks
+pub mod NewJobs

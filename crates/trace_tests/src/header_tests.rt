@@ -1,0 +1,212 @@
+//! Header words: who wins a cell, how often it was met, and its marks. And tallies.
+ghost use Rattle.std.specs.Prelude.{◌≡◌, ℕ, ◌<◌, ◌≤◌, length, slice_index_or};
+ghost use Rattle.std.specs.List.{All};
+ghost use Rattle.heap_base.specs.declared.limits.TheConstants.{MOST_WORKERS};
+ghost use Rattle.header_rule.specs.Passes.{IsPassOf, IsSamePass, ArePassesOf};
+
+use header_rule::{Headers, Marks, Pass, Words};
+use instance_ledger::Tally;
+use std::alloc::Global;
+use std::sync::atomic::AtomicU64;
+use std::sync::atomic::Ordering::SeqCst;
+use std::test::Fail;
+use std::thread::{Threads, for_each_mut};
+
+const NONE: Marks = Marks {
+    found: false,
+    disputed: false,
+    met_by_roots: false,
+};
+
+// Meets a cell, where a meet is left.
+fn meet_once(headers: &Headers, cells: u32, pass: &mut Pass, cell: u32, given: Marks) -> bool
+    requires cells { headers.now.cells ≡ cells }
+    requires pass { IsPassOf headers.now pass.old }
+    ensures { IsSamePass headers.now pass.old pass.new }
+{
+    if cell < cells && pass.left() > 0 {
+        headers.meet(pass, cell, given)
+    } else {
+        false
+    }
+}
+
+// Meets cell 1 of two with the pass of this number.
+fn meet_with(headers: &Headers, passes: &mut Vec<Pass>, number: usize, given: Marks) -> bool
+    requires cells { headers.now.cells ≡ 2 }
+    requires passes { ArePassesOf headers.now passes.old.items }
+    ensures { ArePassesOf headers.now passes.new.items }
+{
+    match passes.get_mut(number) {
+        Some(pass) => meet_once(headers, 2, pass, 1, given),
+        None => false,
+    }
+}
+
+// The marks of a cell: found, disputed, met by roots.
+fn marks_of(words: &Words, cell: u32) -> (bool, bool, bool)
+    requires { cell < words.now.cells }
+{
+    (
+        words.found(cell),
+        words.disputed(cell),
+        words.met_by_roots(cell),
+    )
+}
+
+#[test]
+fn a_meet_counts_and_marks_its_cell(rt: HostRuntime) -> Result<(), Fail> {
+    let (headers, mut passes) = Headers::make(rt.alloc(), 2, 2)?;
+    for (place, pass) in passes.iter().enumerate() {
+        assert_eq!(rt; pass.number() as usize, place);
+        assert_eq!(rt; pass.left(), 2_251_799_813_685_248);
+    }
+    assert_eq!(rt; passes.len(), 2);
+    let found = Marks {
+        found: true,
+        ..NONE
+    };
+    assert!(rt; meet_with(&headers, &mut passes, 0, NONE));
+    assert!(rt; !meet_with(&headers, &mut passes, 1, found));
+    assert!(rt;
+        passes
+            .iter()
+            .all(|pass| pass.left() == 2_251_799_813_685_247)
+    );
+    let words = headers.close(passes);
+    assert_eq!(rt; (words.count(0), words.count(1)), (0, 2));
+    assert_eq!(rt; marks_of(&words, 0), (false, false, false));
+    assert_eq!(rt; marks_of(&words, 1), (true, false, false));
+    Ok(())
+}
+
+// The marks of a cell that was met once.
+fn marks_after(alloc: Global, given: Marks) -> Result<(bool, bool, bool), Fail> {
+    let (headers, mut passes) = Headers::make(alloc, 2, 1)?;
+    meet_with(&headers, &mut passes, 0, given);
+    let words = headers.close(passes);
+    Ok(marks_of(&words, 1))
+}
+
+#[test]
+fn each_mark_is_its_own(rt: HostRuntime) -> Result<(), Fail> {
+    for (found, disputed, met_by_roots) in [
+        (false, false, false),
+        (true, false, false),
+        (false, true, false),
+        (false, false, true),
+        (true, true, true),
+    ] {
+        let given = Marks {
+            found,
+            disputed,
+            met_by_roots,
+        };
+        let marks = marks_after(rt.alloc(), given)?;
+        assert_eq!(rt; marks, (found, disputed, met_by_roots));
+    }
+    Ok(())
+}
+
+// Meets cells 1,000 times, in an order by the pass's number, and counts each win at its cell.
+fn meet_in_order(headers: &Headers, cells: u32, pass: &mut Pass, won: &[AtomicU64])
+    requires cells { headers.now.cells ≡ cells }
+    requires pass { IsPassOf headers.now pass.old }
+    ensures { IsSamePass headers.now pass.old pass.new }
+{
+    let (first, step) = match pass.number() {
+        0 => (0, 1),
+        1 => (999, 999),
+        2 => (500, 7),
+        _ => (250, 333),
+    };
+    for meet in 0..1_000u64 {
+        let cell = (first + meet * step) % cells.max(1) as u64;
+        if meet_once(headers, cells, pass, cell as u32, NONE) {
+            if let Some(wins) = won.get(cell as usize) {
+                wins.fetch_add(1, SeqCst);
+            }
+        }
+    }
+}
+
+// Each pass in a thread of its own.
+fn meet_in_threads<R: Threads + Sync>(
+    rt: &R,
+    headers: &Headers,
+    cells: u32,
+    passes: &mut [Pass],
+    won: &[AtomicU64],
+)
+    requires cells { headers.now.cells ≡ cells }
+    requires passes { All (IsPassOf headers.now) passes.old }
+    ensures len { length passes.new ≡ length passes.old }
+    ensures each { (i : ℕ) (d : _) → i < length passes.old → IsSamePass headers.now (slice_index_or passes.old i d) (slice_index_or passes.new i d) }
+{
+    for_each_mut(
+        rt,
+        passes,
+        4,
+        &|_, pass: &mut Pass|
+            requires { IsPassOf headers.now pass.old × (headers.now.cells ≡ cells) }
+            ensures { IsSamePass headers.entry.now pass.old pass.new }
+        { meet_in_order(headers, cells, pass, won) },
+    );
+}
+
+// Whether each cell was met so often.
+fn are_counted(words: &Words, cells: u32, count: u64) -> bool
+    requires { words.now.cells ≡ cells }
+{
+    for cell in 0..cells {
+        if words.count(cell) != count {
+            return false;
+        }
+    }
+    true
+}
+
+fn counters(alloc: Global, count: u32) -> Result<Vec<AtomicU64>, Fail> {
+    let mut counters = Vec::with_capacity(alloc, count as usize)?;
+    for _ in 0..count {
+        counters.push(AtomicU64::new(0))?;
+    }
+    Ok(counters)
+}
+
+// Whether each of the cells was won once and met so often, after 1,000 meets by each worker.
+fn is_fair<R: Threads + Sync>(
+    rt: &R,
+    alloc: Global,
+    cells: u32,
+    workers: u32,
+    count: u64,
+) -> Result<bool, Fail>
+    requires { (0 < workers) × (workers ≤ MOST_WORKERS) }
+{
+    let won = counters(alloc, cells)?;
+    let (headers, mut passes) = Headers::make(alloc, cells, workers)?;
+    meet_in_threads(rt, &headers, cells, passes.as_mut_slice(), won.as_slice());
+    let words = headers.close(passes);
+    let won_once = won.iter().all(|wins| wins.load(SeqCst) == 1);
+    Ok(won_once && are_counted(&words, cells, count))
+}
+
+#[test]
+fn a_cell_is_won_once_by_whichever_thread(rt: HostRuntime) -> Result<(), Fail> {
+    assert!(rt; is_fair(&rt, rt.alloc(), 1, 2, 2_000)?);
+    assert!(rt; is_fair(&rt, rt.alloc(), 1_000, 4, 4)?);
+    Ok(())
+}
+
+#[test]
+fn tallies_are_merged(rt: HostRuntime) -> Result<(), Fail> {
+    let mut tally = Tally::make(rt.alloc(), 2)?;
+    tally.add(1);
+    tally.add(1);
+    let mut other = Tally::make(rt.alloc(), 2)?;
+    other.add(1);
+    tally.merge(&other);
+    assert_eq!(rt; (tally.of(0), tally.of(1)), (0, 3));
+    Ok(())
+}

@@ -1,0 +1,175 @@
+//! Traces of sample heaps by few and many workers, and what is wanted of them.
+ghost use Rattle.std.specs.Prelude.{◌≡◌, ◌<◌, ◌≤◌, length, IfOk};
+ghost use Rattle.heap_base.specs.declared.limits.TheConstants.{MOST_WORKERS};
+
+use heap_base::{Gate, OpenGate};
+use heap_trace::{Kit, Traced, trace};
+use object_table::ObjectTable;
+use std::alloc::Global;
+use std::process::Abort;
+use std::test::Fail;
+use std::thread::Threads;
+use test_support::{SampleHeap, cell, registry_of, roles_of, table_of};
+
+/// What a trace says of an object: how many references there are to it, whether it is kept, whether it is marked found, and
+/// whether as met by roots.
+pub type Seen = (u64, bool, bool, bool);
+
+/// What is wanted of an object. Where it may be marked found or not, nothing is said of that.
+pub type Want = (u64, bool, Option<bool>, bool);
+
+pub const UNTRACED: Want = (0, false, Some(false), false);
+
+/// Kept, with no mark.
+pub fn kept(references: u64) -> Want {
+    (references, true, Some(false), false)
+}
+
+/// Kept and found.
+pub fn found(references: u64) -> Want {
+    (references, true, Some(true), false)
+}
+
+/// Kept, and found or not.
+pub fn found_or_not(references: u64) -> Want {
+    (references, true, None, false)
+}
+
+/// Kept and met by roots.
+pub fn met(references: u64) -> Want {
+    (references, true, Some(false), true)
+}
+
+/// Kept, found and met by roots.
+pub fn found_and_met(references: u64) -> Want {
+    (references, true, Some(true), true)
+}
+
+/// The heap of the table, traced by so many workers.
+pub fn trace_table<R: Threads + Sync, G: Gate>(
+    rt: &R,
+    alloc: Global,
+    table: &ObjectTable,
+    owned: &[(u32, u32)],
+    workers: u32,
+    gate: &G,
+) -> Result<Traced, Fail>
+    requires { (0 < workers) × (workers ≤ MOST_WORKERS) }
+    ensures cells { IfOk result (λ t. t.words.cells ≡ length table.now.cells) }
+    ensures kinds { IfOk result (λ t. length t.instances ≡ length table.now.table.kinds) }
+{
+    let heap = SampleHeap {
+        owned,
+        ..SampleHeap::EMPTY
+    };
+    let mut registry = registry_of(alloc, heap)?;
+    let roles = roles_of(&mut registry, table)?;
+    let kit = Kit::prepare(alloc, table.cells(), table.kinds(), workers)?;
+    Ok(trace(rt, kit, table, &roles, gate))
+}
+
+fn seen(table: &ObjectTable, traced: &Traced, object: u32) -> Option<Seen>
+    requires { traced.now.words.cells ≡ length table.now.cells }
+{
+    let cell = cell(table, object)?;
+    let kept = traced.kept().get(cell as usize)?;
+    let words = traced.words();
+    Some((
+        words.count(cell),
+        *kept,
+        words.found(cell),
+        words.met_by_roots(cell),
+    ))
+}
+
+fn is_as_wanted(seen: Option<Seen>, want: Want) -> bool {
+    match seen {
+        Some((count, kept, found, met)) => {
+            (count, kept, met) == (want.0, want.1, want.3) && want.2.is_none_or(|is| is == found)
+        }
+        None => false,
+    }
+}
+
+/// Whether the trace says of each object from the first to the last, both included, what is wanted.
+pub fn are_as_wanted(
+    table: &ObjectTable,
+    traced: &Traced,
+    first: u32,
+    last: u32,
+    want: Want,
+) -> bool
+    requires { traced.now.words.cells ≡ length table.now.cells }
+{
+    for object in first..=last {
+        if !is_as_wanted(seen(table, traced, object), want) {
+            return false;
+        }
+    }
+    true
+}
+
+/// Whether so many objects of each type are traced, the types in the order in which they came, and no others.
+pub fn counts_kinds(table: &ObjectTable, traced: &Traced, instances: &[u64]) -> bool
+    requires { length traced.now.instances ≡ length table.now.table.kinds }
+{
+    let mut sum = 0u64;
+    for kind in 0..table.kinds() {
+        if instances.get(kind as usize).copied() != Some(traced.instances(kind)) {
+            return false;
+        }
+        sum = sum.saturating_add(traced.instances(kind));
+    }
+    instances.len() == table.kinds() as usize && traced.traced() as u64 == sum
+}
+
+/// What is wanted of a trace: of each object from a first to a last, and how many of each type are traced.
+#[derive(Clone, Copy)]
+pub struct Wanted<'a> {
+    pub objects: &'a [(u32, u32, Want)],
+    pub instances: &'a [u64],
+}
+
+/// Traces the table by so many workers, and compares.
+pub fn check_table<R: Threads + Sync + Abort>(
+    rt: &R,
+    alloc: Global,
+    table: &ObjectTable,
+    owned: &[(u32, u32)],
+    wanted: Wanted<'_>,
+    workers: u32,
+) -> Result<(), Fail>
+    requires { (0 < workers) × (workers ≤ MOST_WORKERS) }
+{
+    let traced = trace_table(rt, alloc, table, owned, workers, &OpenGate)?;
+    for (first, last, want) in wanted.objects {
+        let are = are_as_wanted(table, &traced, *first, *last, *want);
+        assert!(rt; are, "objects {first} to {last} by {workers} workers");
+    }
+    let counts = counts_kinds(table, &traced, wanted.instances);
+    assert!(rt; counts, "the types by {workers} workers");
+    Ok(())
+}
+
+/// Traces a sample heap by 1, 2, 3 and 16 workers, and compares.
+pub fn check<R: Threads + Sync + Abort>(
+    rt: &R,
+    alloc: Global,
+    heap: SampleHeap<'_>,
+    objects: &[(u32, Want)],
+    instances: &[u64],
+) -> Result<(), Fail> {
+    let table = table_of(alloc, heap)?;
+    let mut ranges = Vec::new(alloc);
+    for (object, want) in objects {
+        ranges.push((*object, *object, *want))?;
+    }
+    let wanted = Wanted {
+        objects: &ranges,
+        instances,
+    };
+    for workers in [1, 2, 3, 16] {
+        check_table(rt, alloc, &table, heap.owned, wanted, workers)?;
+    }
+    Ok(())
+}
