@@ -8,8 +8,6 @@ mod piece;
 mod pieces;
 mod plan;
 mod source;
-#[cfg(test)]
-mod tests;
 
 pub use plan::{GenPlan, LEAST_SIZE, MOST_NUMBER, MOST_SIZE};
 pub use source::GenSource;

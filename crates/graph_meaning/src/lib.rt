@@ -12,8 +12,6 @@ mod reaction;
 mod refusal;
 mod roles;
 mod shown_paths;
-#[cfg(test)]
-mod tests;
 mod views;
 
 pub use collection::{Collection, Verdict, VerdictList};

@@ -14,8 +14,6 @@ mod source;
 mod status;
 mod stdio;
 mod task;
-#[cfg(test)]
-mod tests;
 
 pub use errors::{Failed, OutOfMemory};
 pub use gate::{Gate, OpenGate};

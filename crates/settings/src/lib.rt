@@ -4,8 +4,6 @@
 mod command;
 mod numbers;
 mod settings;
-#[cfg(test)]
-mod tests;
 mod values;
 
 pub use numbers::{LEAST_WORKERS, MOST_DIGITS, MOST_PATHS, USUAL_WORKERS};

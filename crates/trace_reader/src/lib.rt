@@ -9,8 +9,6 @@ mod line;
 mod object;
 mod operation;
 mod plain;
-#[cfg(test)]
-mod tests;
 mod window;
 
 pub use cutter::LineCutter;

@@ -1,7 +1,7 @@
+//! The traces that are generated.
 ghost use Rattle.std.specs.Prelude.{◌<◌};
 
-use crate::draws::Draws;
-use crate::{GenPlan, GenSource, MOST_SIZE};
+use generator::{GenPlan, GenSource, MOST_SIZE};
 use heap_base::Source;
 use std::alloc::Global;
 use std::test::Fail;
@@ -79,14 +79,6 @@ fn traces_are_the_same_by_any_reads(rt: HostRuntime) -> Result<(), Fail> {
         }
     }
     Ok(())
-}
-
-#[test]
-fn the_first_draws(rt: HostRuntime) {
-    let mut draws = Draws { state: 1 };
-    for want in [16_838, 5_758, 10_113, 17_515, 31_051, 5_627] {
-        assert_eq!(rt; draws.draw(), want);
-    }
 }
 
 #[test]
