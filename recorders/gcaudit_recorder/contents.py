@@ -4,40 +4,55 @@ Nothing here calls a method that a program may have written: contents are read b
 by the descriptors of a class and by gc.get_referents, which finds what has no name too.
 """
 import gc
+import sys
 import types
 import weakref
 from collections import deque
-from typing import Any, Callable, Dict, List, NamedTuple, Optional, Tuple
+from typing import Any, Callable, Dict, Iterable, List, NamedTuple, Optional, Tuple, Union
 
 from gcaudit_trace.names import cut, legal_name
 
-# A label, what is held there, and whether it is held weakly.
-Content = Tuple[str, Any, bool]
+# A label, or the index of an element; and what is held there. The label WEAK says that it is held weakly.
+Label = Union[str, int]
+Content = Tuple[Label, Any]
 
+WEAK = "(weak)"
 CellType = type((lambda x: lambda: x)(0).__closure__[0])
-PLAIN = frozenset({int, float, complex, bool, str, bytes, type(None), type(Ellipsis), type(NotImplemented), range, slice})
+PLAIN = frozenset({int, float, complex, bool, str, bytes, type(None), type(Ellipsis), type(NotImplemented), range})
 PROXIES = frozenset({weakref.ProxyType, weakref.CallableProxyType})
+OWN_MODULES = ("gcaudit_recorder.", "gcaudit_trace.")
 _LEFT_OUT = frozenset({
-    types.FrameType, types.CodeType, types.ModuleType, types.GetSetDescriptorType, types.MemberDescriptorType,
-    types.WrapperDescriptorType, types.MethodDescriptorType, types.ClassMethodDescriptorType})
+    types.CodeType, types.GetSetDescriptorType, types.MemberDescriptorType, types.WrapperDescriptorType, types.MethodDescriptorType,
+    types.ClassMethodDescriptorType})
 _GENERATORS = (types.GeneratorType, types.CoroutineType, types.AsyncGeneratorType)
 _UNCHANGING = frozenset({tuple, frozenset})
-_OWN_MODULES = ("gcaudit_recorder.", "gcaudit_trace.")
+_HAS_GC = 1 << 14       # a type's objects have a head for Python's collector
+_IS_HEAP_TYPE = 1 << 9
+_GC_HEAD = 16
+_LONG_TEXT = 256        # a text or bytes of more than this count for the object that holds them
+_OPTIMIZED = 1          # code whose variables don't stand in a dict
 _class_dict = type.__dict__["__dict__"].__get__
+_module_dict = types.ModuleType.__dict__["__dict__"].__get__
 _qualified = type.__dict__["__qualname__"].__get__
 _module = type.__dict__["__module__"].__get__
 _order = type.__dict__["__mro__"].__get__
+_bases = type.__dict__["__bases__"].__get__
+_flags = type.__dict__["__flags__"].__get__
 
 
 class Shape(NamedTuple):
     """What all objects of one type have in common."""
     name: str
-    left_out: bool
-    weakly: bool            # objects of the type can be referred to weakly
-    grows: bool             # what an object holds can become more
+    left_out: bool                  # never an object of a trace
+    inner: bool                     # one only where classes, modules and frames are asked for
+    weakly: bool                    # objects of the type can be referred to weakly
+    grows: bool                     # what an object holds can become more
     reader: Callable[[Any, "Shape"], List[Content]]
     own_dict: Optional[Any]         # the descriptor of __dict__
-    members: Tuple[Tuple[str, Any], ...]  # label and descriptor of each name in __slots__
+    members: Tuple[Tuple[str, Any], ...]    # label and descriptor of each name in __slots__
+    size: Callable[[Any], int]      # the bytes of an object itself
+    head: int                       # the bytes before it
+    of_program: bool                # a class that a program can make: objects hold it
 
 
 _shapes: Dict[int, Tuple[Any, Shape]] = {}
@@ -69,17 +84,38 @@ def module_of(kind: type) -> str:
     return module if isinstance(module, str) else ""
 
 
+def is_own_frame(frame: types.FrameType) -> bool:
+    """Whether a frame runs a function of the recorder."""
+    name = frame.f_globals.get("__name__")
+    return type(name) is str and (name + ".").startswith(OWN_MODULES)
+
+
+def object_name(obj: Any, shape: Shape) -> str:
+    """The type of an object as the trace has it. Modules, classes and frames are told apart by their names."""
+    if isinstance(obj, type):
+        return legal_name("class " + type_name(obj))
+    if isinstance(obj, types.ModuleType):
+        name = _module_dict(obj).get("__name__")
+        return legal_name("module " + name) if type(name) is str else shape.name
+    if type(obj) is types.FrameType:
+        return legal_name("frame %s" % obj.f_code.co_name)
+    return shape.name
+
+
 def _new_shape(kind: type) -> Shape:
-    own_dict, members = None, []
-    for base in _order(kind):
+    own_dict, members, size = None, [], None
+    for base in _order(kind) or ():     # a type of C code that isn't ready has none
         for name, found in list(_class_dict(base).items()):
             if name == "__dict__" and type(found) in (types.GetSetDescriptorType, types.MemberDescriptorType):
                 own_dict = own_dict or found
             elif type(found) is types.MemberDescriptorType and kind is not types.FunctionType:
                 members.append(("." + name, found))
-    name = type_name(kind)
-    left_out = kind in PLAIN or kind in _LEFT_OUT or issubclass(kind, type) or module_of(kind).startswith(_OWN_MODULES)
-    return Shape(name, left_out, kind.__weakrefoffset__ != 0, kind not in _UNCHANGING, _reader(kind), own_dict, tuple(members))
+            elif name == "__sizeof__" and size is None and type(found) is types.MethodDescriptorType:
+                size = found
+    inner = issubclass(kind, (type, types.ModuleType)) or kind is types.FrameType
+    left_out = kind in PLAIN or kind in _LEFT_OUT or (module_of(kind) + ".").startswith(OWN_MODULES)
+    return Shape(type_name(kind), left_out, inner, kind.__weakrefoffset__ != 0, kind not in _UNCHANGING, _reader(kind), own_dict, tuple(members),
+                 size or object.__sizeof__, _GC_HEAD if _flags(kind) & _HAS_GC else 0, bool(_flags(kind) & _IS_HEAP_TYPE))
 
 
 def _reader(kind: type) -> Callable[[Any, Shape], List[Content]]:
@@ -87,18 +123,29 @@ def _reader(kind: type) -> Callable[[Any, Shape], List[Content]]:
     if kind is dict:
         return lambda obj, shape: _items(obj)
     if kind is list or kind is tuple:
-        return lambda obj, shape: _elements(list(obj))
+        return lambda obj, shape: list(enumerate(obj))
     if kind is types.FunctionType:
         return _of_function
     if kind is CellType:
-        return lambda obj, shape: [(".cell_contents", held, False) for held in gc.get_referents(obj)]
+        return lambda obj, shape: [(".cell_contents", held) for held in gc.get_referents(obj)]
     if kind in _GENERATORS:
         return _of_generator
+    if kind is types.FrameType:
+        return _of_frame
+    if issubclass(kind, type):
+        return _of_class
+    if issubclass(kind, types.ModuleType):
+        return _of_module
+    if kind is types.TracebackType:
+        return lambda obj, shape: [(".tb_frame", obj.tb_frame), (".tb_next", obj.tb_next)]
     return _of_any
 
 
-def contents(obj: Any, shape: Shape) -> List[Content]:
-    """All that the object holds and that isn't left out. Another thread may change it meanwhile, so it is tried again."""
+def contents(obj: Any, shape: Shape, deep: bool = False) -> List[Content]:
+    """All that the object holds, plain values among it. Another thread may change it meanwhile, so it is tried again.
+
+    `deep` says that classes and the globals of functions are held too.
+    """
     for _ in range(100):
         try:
             found = shape.reader(obj, shape)
@@ -106,15 +153,40 @@ def contents(obj: Any, shape: Shape) -> List[Content]:
         except RuntimeError:  # changed size during iteration
             continue
     else:
-        found = [("(held)", held, False) for held in gc.get_referents(obj)]
-    return [one for one in found if type(one[1]) not in PLAIN and not shape_of(one[1]).left_out]
+        found = [("(held)", held) for held in gc.get_referents(obj)]
+    if deep:
+        if shape.of_program:
+            found.append(("(class)", type(obj)))
+        if type(obj) is types.FunctionType:
+            found.append(("(globals)", _module_with(obj.__globals__)))
+    return found
 
 
-def contents_of_root(obj: Any) -> List[Content]:
-    """What a class or a module holds that is itself a root: its attributes."""
-    attributes = _class_dict(obj) if isinstance(obj, type) else types.ModuleType.__dict__["__dict__"].__get__(obj)
-    found = [("." + name, held, False) for name, held in list(attributes.items()) if isinstance(name, str)]
-    return [one for one in found if type(one[1]) not in PLAIN and not shape_of(one[1]).left_out]
+def size_of(obj: Any, shape: Shape, held: Iterable[Content]) -> int:
+    """The bytes of an object: itself, its __dict__, and the long texts that it holds."""
+    size = shape.size(obj) + shape.head
+    if shape.own_dict is not None and not shape.inner:
+        merged = shape.own_dict.__get__(obj)
+        if type(merged) is dict:
+            size += dict.__sizeof__(merged) + _GC_HEAD
+    for _, one in held:
+        kind = type(one)
+        if (kind is str or kind is bytes) and len(one) > _LONG_TEXT:
+            size += kind.__sizeof__(one)
+    return size
+
+
+def _module_with(names: Dict[str, Any]) -> Any:
+    """The module whose globals these are; the dict itself where no module has it."""
+    module = sys.modules.get(names.get("__name__", "")) if type(names.get("__name__")) is str else None
+    return module if isinstance(module, types.ModuleType) and _module_dict(module) is names else names
+
+
+def key_label(key: Any) -> str:
+    """The label of a dict's value."""
+    if type(key) is str and len(key) < 60 and key.isprintable():
+        return "[%r]" % key
+    return "[%s]" % _key_text(key)
 
 
 def _key_text(key: Any) -> str:
@@ -130,17 +202,20 @@ def _key_text(key: Any) -> str:
 
 
 def _items(obj: dict) -> List[Content]:
-    found = []
+    found: List[Content] = []
     for key, held in list(dict.items(obj)):
-        if type(held) not in PLAIN:
-            found.append(("[%s]" % _key_text(key), held, False))
+        kind = type(held)
+        if kind not in PLAIN:
+            found.append((key_label(key), held))
+        elif (kind is str or kind is bytes) and len(held) > _LONG_TEXT:
+            found.append(("(text)", held))
         if type(key) not in PLAIN:
-            found.append(("(key)", key, False))
+            found.append(("(key)", key))
     return found
 
 
-def _elements(held: list) -> List[Content]:
-    return [("[%d]" % place, one, False) for place, one in enumerate(held) if type(one) not in PLAIN]
+def _attributes(names: Dict[str, Any]) -> List[Content]:
+    return [("." + name, held) for name, held in list(names.items()) if type(name) is str]
 
 
 def _of_any(obj: Any, shape: Shape) -> List[Content]:
@@ -152,69 +227,108 @@ def _of_any(obj: Any, shape: Shape) -> List[Content]:
         if shape.own_dict is not None:
             merged = shape.own_dict.__get__(obj)
             if type(merged) is dict:
-                found += [("." + name, held, False) for name, held in list(merged.items()) if isinstance(name, str)]
+                found += _attributes(merged)
         for label, member in shape.members:
             try:
-                found.append((label, member.__get__(obj), False))
+                found.append((label, member.__get__(obj)))
             except AttributeError:
                 continue  # the slot is empty
         if issubclass(kind, dict):
             found += _items(obj)
         elif issubclass(kind, (list, tuple)):
             base = list if issubclass(kind, list) else tuple
-            found += _elements(list(base.__iter__(obj)))
+            found += enumerate(base.__iter__(obj))
         elif issubclass(kind, deque):
-            found += _elements(list(deque.__iter__(obj)))
+            found += enumerate(list(deque.__iter__(obj)))
         elif issubclass(kind, (set, frozenset)):
             base = set if issubclass(kind, set) else frozenset
-            found += [("(element)", one, False) for one in list(base.__iter__(obj))]
-    found = [one for one in found if type(one[1]) not in PLAIN]
-    found += _unnamed(gc.get_referents(obj), found, merged)
+            found += [("(element)", one) for one in list(base.__iter__(obj))]
+        elif shape.name == "numpy.ndarray":
+            found += _of_array(obj)
+    found += _unnamed(gc.get_referents(obj), found, merged, kind)
     if issubclass(kind, weakref.ReferenceType):
         target = weakref.ReferenceType.__call__(obj)
         if target is not None:
-            found.append(("(weak)", target, True))
+            found.append((WEAK, target))
     return found
 
 
-def _unnamed(referents: List[Any], named: List[Content], merged: Any) -> List[Content]:
-    """The referents that stand under no name yet, each as often as it is left over."""
-    left = {}
-    for _, held, _ in named:
+def _of_array(obj: Any) -> List[Content]:
+    """The elements of an array of objects of numpy, which Python's collector doesn't know."""
+    numpy = sys.modules.get("numpy")
+    if numpy is None or type(obj) is not numpy.ndarray or not obj.dtype.hasobject:
+        return []
+    return list(enumerate(obj.reshape(-1).tolist()))
+
+
+def _unnamed(referents: List[Any], named: List[Content], *others: Any) -> List[Content]:
+    """The referents that stand under no name yet, each as often as it is left over, without the others."""
+    left: Dict[int, int] = {}
+    for _, held in named:
         left[id(held)] = left.get(id(held), 0) + 1
-    found = []
+    skipped = {id(other) for other in others}
+    found: List[Content] = []
     for held in referents:
-        if held is merged:
+        if id(held) in skipped:
             continue
         if left.get(id(held), 0):
             left[id(held)] -= 1
         else:
-            found.append(("(held)", held, False))
+            found.append(("(held)", held))
     return found
 
 
 def _of_function(obj: Any, shape: Shape) -> List[Content]:
     """The variables that a function closes over, its defaults and attributes; not its module's globals."""
     closure = obj.__closure__
-    found = [("(variable %s)" % name, cell, False) for name, cell in zip(obj.__code__.co_freevars, closure or ())]
+    found: List[Content] = [("(variable %s)" % name, cell) for name, cell in zip(obj.__code__.co_freevars, closure or ())]
     merged = shape.own_dict.__get__(obj)
-    found += [("." + name, held, False) for name, held in list(merged.items()) if isinstance(name, str)]
+    found += _attributes(merged)
     for label, held in ((".__defaults__", obj.__defaults__), (".__kwdefaults__", obj.__kwdefaults__)):
         if held is not None:
-            found.append((label, held, False))
-    globals_of = (obj.__globals__, getattr(obj, "__builtins__", None), closure)
-    referents = [held for held in gc.get_referents(obj) if not any(held is left for left in globals_of)]
-    return found + _unnamed(referents, found, merged)
+            found.append((label, held))
+    return found + _unnamed(gc.get_referents(obj), found, merged, obj.__globals__, getattr(obj, "__builtins__", None), closure)
 
 
 def _of_generator(obj: Any, shape: Shape) -> List[Content]:
     """The variables of a generator or coroutine that waits. Its frame is left out, what the frame holds isn't."""
-    found = []
+    found: List[Content] = []
     for held in gc.get_referents(obj):
         if type(held) is types.FrameType:
             globals_of = (held.f_globals, held.f_builtins)
             inner = [one for one in gc.get_referents(held) if not any(one is left for left in globals_of)]
-            found += [("(local)", one, False) for one in inner if one is not obj]
+            found += [("(local)", one) for one in inner if one is not obj]
         else:
-            found.append(("(local)", held, False))
+            found.append(("(local)", held))
     return found
+
+
+def locals_of(frame: types.FrameType) -> Dict[str, Any]:
+    """The variables of a frame. The dict that Python makes to tell them is emptied again, or it would hold them from now on."""
+    told = frame.f_locals
+    if told is frame.f_globals:
+        return {}
+    found = dict(told)
+    code = frame.f_code
+    is_made = type(told) is dict and code.co_flags & _OPTIMIZED
+    # This function and the frame hold the dict; who else has it called locals(), or traces the program.
+    if is_made and sys.getrefcount(told) <= 3 and frame.f_trace is None and sys.gettrace() is None and sys.getprofile() is None:
+        for name in code.co_varnames + code.co_cellvars + code.co_freevars:
+            told.pop(name, None)
+    return found
+
+
+def _of_frame(obj: types.FrameType, shape: Shape) -> List[Content]:
+    """The variables of a frame, and what else it holds; not its globals, and not who called it."""
+    found: List[Content] = [("(local %s)" % name, held) for name, held in locals_of(obj).items()]
+    return found + _unnamed(gc.get_referents(obj), found, obj.f_globals, obj.f_builtins, obj.f_code, obj.f_back)
+
+
+def _of_class(obj: type, shape: Shape) -> List[Content]:
+    found = _attributes(_class_dict(obj))
+    return found + [("(base)", base) for base in _bases(obj)]
+
+
+def _of_module(obj: types.ModuleType, shape: Shape) -> List[Content]:
+    found = _attributes(_module_dict(obj))
+    return found + _unnamed(gc.get_referents(obj), found, _module_dict(obj))

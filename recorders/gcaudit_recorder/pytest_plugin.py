@@ -13,11 +13,21 @@ from typing import Any, Dict
 
 import pytest
 
-from .recorder import Recorder
+from gcaudit_trace import TraceError
+
+from .recorder import HeapViolation, Recorder
 
 
 def pytest_addoption(parser):
     parser.getgroup("gcaudit").addoption("--gcaudit", metavar="PROGRAM", default=None, help="the program gcaudit")
+
+
+class HeapFailure(pytest.fail.Exception, HeapViolation):
+    """A violation as the failure of a test: without a traceback, and an AssertionError, as xfail(raises=AssertionError) wants it."""
+
+    def __init__(self, violation: HeapViolation) -> None:
+        super().__init__(str(violation), pytrace=False)
+        self.report, self.named, self.trace = violation.report, violation.named, violation.trace
 
 
 class HeapRecorder(Recorder):
@@ -49,9 +59,13 @@ def pytest_pyfunc_call(pyfuncitem):
         return
     try:
         recorder.check(pyfuncitem.config.getoption("--gcaudit"))
-    except Exception as error:  # also where gcaudit isn't found: a test that wasn't checked hasn't passed
+    except HeapViolation as violation:
+        failure: BaseException = HeapFailure(violation)
+    except (TraceError, OSError, MemoryError) as error:  # a test that wasn't checked hasn't passed
         failure = pytest.fail.Exception(str(error), pytrace=False)
-        if hasattr(outcome, "force_exception"):
-            outcome.force_exception(failure)
-        else:
-            raise failure from None
+    else:
+        return
+    if hasattr(outcome, "force_exception"):
+        outcome.force_exception(failure)
+    else:
+        raise failure from None

@@ -1,17 +1,18 @@
-"""What the readers of heap dumps share: the words of the command line, progress, and writing a trace of one collection."""
+"""What the readers of heap dumps share: the words of the command line, and writing a trace of one collection."""
 import argparse
 import contextlib
+import difflib
 import os
-import sys
 import tempfile
-import time
-from typing import Any, Callable, Dict, Iterable, List, Tuple
+from typing import Dict, Iterable, List, Set, Tuple
 
+from . import command
+from .command import Progress
 from .names import UniqueNames, legal_name
-from .writer import MOST_OBJECTS, TraceError, TraceWriter, WholeFile
+from .reading import opened
+from .writer import MOST_OBJECTS, Batch, TraceError, TraceWriter, WholeFile
 
 SHOWN_CLASSES = 8
-_LINES_AT_A_TIME = 4096
 
 
 def parser_for(program: str, about: str) -> argparse.ArgumentParser:
@@ -24,7 +25,9 @@ def parser_for(program: str, about: str) -> argparse.ArgumentParser:
     said.add_argument("--limit", metavar="CLASS=N", action="append", default=[], help="at most N objects of the class are reached")
     said.add_argument("--unshared", metavar="CLASS", action="append", default=[], help="each object of the class has one reference at most")
     said.add_argument("--owned-by", metavar="OWNER=CLASS", action="append", default=[],
-                      help="objects of the class are reached only through the one object of the class OWNER")
+                      help="no object of the class outlives the hold that the one object of the class OWNER has on it: where a root leads to "
+                      "it past the owner, the owner must lead to it too")
+    said.add_argument("--may-be-missing", action="store_true", help="it is no mistake where the dump knows nothing of a class that was named")
     kept = parser.add_argument_group("what is kept (each may be given more than once)")
     kept.add_argument("--only", metavar="PREFIX", action="append", default=[], help="keep classes whose names begin so, and no others")
     kept.add_argument("--without", metavar="PREFIX", action="append", default=[], help="leave out classes whose names begin so")
@@ -32,48 +35,19 @@ def parser_for(program: str, about: str) -> argparse.ArgumentParser:
 
 
 def main(program: str, about: str, convert, words=None) -> int:
-    """Runs a reader of dumps; what went wrong is said in a sentence, with the status 2."""
+    """Runs a reader of dumps, `convert(file, asked, progress)`; what went wrong is said in a sentence, with the status 2."""
     asked = parser_for(program, about).parse_args(words)
-    try:
-        if os.path.exists(asked.trace) and os.path.samefile(asked.dump, asked.trace):
+
+    def work() -> int:
+        if os.path.exists(asked.trace) and os.path.exists(asked.dump) and os.path.samefile(asked.dump, asked.trace):
             raise TraceError("the trace would replace the dump, %s" % asked.dump)
-        convert(asked, Progress(program))
-    except TraceError as error:
-        print("%s: %s" % (program, error), file=sys.stderr)
-        return 2
-    except OSError as error:
-        print("%s: %s: %s" % (program, error.filename or asked.dump, error.strerror or error), file=sys.stderr)
-        return 2
-    except MemoryError:
-        print("%s: there is not enough memory; leave out more by --only or --without" % program, file=sys.stderr)
-        return 2
-    except KeyboardInterrupt:
-        print("%s: stopped" % program, file=sys.stderr)
-        return 130
-    return 0
-
-
-class Progress:
-    """A plain line a second on standard error, where that is a terminal; what was left out is always said."""
-
-    def __init__(self, program: str) -> None:
-        self._program = program
-        self._shows = sys.stderr.isatty()
-        self._next = time.monotonic() + 1
-
-    def at(self, step: str, done: int = 0, whole: int = 0) -> None:
-        """What is being done now, and how far it is in bytes where that is known."""
-        now = time.monotonic()
-        if self._shows and now >= self._next:
-            self._next = now + 1
-            self.say("%s: %d of %d MB" % (step, done >> 20, whole >> 20) if whole else step)
-
-    def following(self) -> None:
-        """The references through what is left out are being followed."""
-        self.at("following references through what is left out")
-
-    def say(self, text: str) -> None:
-        print("%s: %s" % (self._program, text), file=sys.stderr, flush=True)
+        with opened(asked.dump) as file:
+            try:
+                convert(file, asked, Progress(program))
+            except MemoryError:
+                raise TraceError("out of memory; leave out more by --only or --without") from None
+        return 0
+    return command.run(program, work, asked.dump)
 
 
 class Wishes:
@@ -82,6 +56,7 @@ class Wishes:
     def __init__(self, asked: argparse.Namespace) -> None:
         self._only = tuple(asked.only)
         self._without = tuple(asked.without)
+        self._may_be_missing = asked.may_be_missing
         self.dead = set(asked.dead)
         self.unshared = set(asked.unshared)
         self.limits = dict(self._limit(text) for text in asked.limit)
@@ -108,22 +83,24 @@ class Wishes:
         """Whether objects of the class are kept."""
         return (not self._only or name.startswith(self._only)) and not (self._without and name.startswith(self._without))
 
+    def need_known(self, known: Set[str]) -> None:
+        """Refuses a class that the dump knows nothing of: what is asserted of it would hold whatever the program does."""
+        missing = sorted(self.named - known)
+        if missing and not self._may_be_missing:
+            raise TraceError("; ".join("the dump has no class %s%s" % (name, _nearest(name, known)) for name in missing))
 
-class _Batch:
-    """Hands lines on many at a time, since a file takes long for each write."""
 
-    def __init__(self, write: Callable[[str], Any]) -> None:
-        self._write = write
-        self._lines: List[str] = []
+def _nearest(name: str, known: Set[str]) -> str:
+    """The names that were meant, as far as can be guessed."""
+    last = _last_word(name)
+    found = sorted((one for one in known if _last_word(one) == last), key=len)[:3]
+    found = found or difflib.get_close_matches(name, known, 3)
+    return ", but %s" % " and ".join(found) if found else " and none with a name like it"
 
-    def add(self, line: str) -> None:
-        self._lines.append(line)
-        if len(self._lines) >= _LINES_AT_A_TIME:
-            self.flush()
 
-    def flush(self) -> None:
-        self._write("".join(self._lines))
-        self._lines.clear()
+def _last_word(name: str) -> str:
+    """What stands behind the last of the signs that part packages and outer classes, in small letters."""
+    return name.replace("$", ".").replace("/", ".").rpartition(".")[2].lower()
 
 
 class DumpTrace:
@@ -139,8 +116,8 @@ class DumpTrace:
         except OSError as error:
             self._whole.give_up()
             raise self._whole.failed(error) from None
-        self._lines = _Batch(self._whole.write)
-        self._stores = _Batch(self._waiting.write)
+        self._lines = Batch(self._whole.write)
+        self._stores = Batch(self._waiting.write)
         self.trace = TraceWriter(self._lines.add)
         self._contents = TraceWriter(self._stores.add)
         self._wishes = wishes

@@ -1,14 +1,17 @@
 """Writing a trace: a line for each operation, and a file that appears under its name only when it is whole."""
+import contextlib
 import json
 import os
 import tempfile
-from typing import Dict, Iterable, Optional, Tuple
+import weakref
+from typing import Any, Callable, Dict, Iterable, List, Optional, Tuple
 
 MOST_OBJECTS = 1048576
 MOST_SLOTS = 16777216
 MOST_ROOTS = 65536
 MOST_TYPES = 65536
 MOST_ID = 4294967295
+_LINES_AT_A_TIME = 4096
 
 
 class TraceError(Exception):
@@ -18,11 +21,17 @@ class TraceError(Exception):
 class WholeFile:
     """A text file that is written beside its name, and takes its name at `finish`.
 
-    Where the writing fails or is given up, nothing is left, and a file that had the name before stays.
+    Where the writing fails or is given up, nothing is left, and a file that had the name before stays. So it is where
+    nobody finishes the file before it is forgotten or the program ends.
     """
 
     def __init__(self, path: str) -> None:
-        self.path = os.path.abspath(os.fsdecode(path))
+        try:
+            self.path = os.path.abspath(os.fsdecode(path))
+        except TypeError:
+            raise TraceError("a trace is written to a path or to an open text file, not to a %s" % type(path).__name__) from None
+        if "\0" in self.path:
+            raise TraceError("a path has no zero byte in it")
         self._place = os.path.realpath(self.path)   # a link stays, and what it leads to is replaced
         self.folder, base = os.path.split(self._place)
         if os.path.exists(self._place) and not os.path.isfile(self._place):
@@ -32,6 +41,7 @@ class WholeFile:
         except OSError as error:
             raise self.failed(error) from None
         self._file = os.fdopen(handle, "w", encoding="utf-8", newline="\n", buffering=1 << 20)
+        self._remove = weakref.finalize(self, _remove, self._temporary, os.getpid())
 
     def failed(self, error: OSError) -> TraceError:
         return TraceError("%s can't be written: %s" % (self.path, error.strerror or error))
@@ -48,26 +58,46 @@ class WholeFile:
             self._file.close()
             os.chmod(self._temporary, 0o666 & ~_umask())
             os.replace(self._temporary, self._place)
+            self._remove.detach()
         except OSError as error:
             self.give_up()
             raise self.failed(error) from None
 
     def give_up(self) -> None:
         """Leaves no file behind."""
-        try:
+        with contextlib.suppress(OSError):
             self._file.close()
-        except OSError:
-            pass
-        try:
-            os.unlink(self._temporary)
-        except OSError:
-            pass
+        self._remove()
+
+
+def _remove(path: str, process: int) -> None:
+    """Removes a file of this process; a process that was forked from it leaves it."""
+    if os.getpid() == process:
+        with contextlib.suppress(OSError):
+            os.unlink(path)
 
 
 def _umask() -> int:
     mask = os.umask(0o077)
     os.umask(mask)
     return mask
+
+
+class Batch:
+    """Hands lines on many at a time, since a file takes long for each write."""
+
+    def __init__(self, write: Callable[[str], Any]) -> None:
+        self._write = write
+        self._lines: List[str] = []
+
+    def add(self, line: str) -> None:
+        self._lines.append(line)
+        if len(self._lines) >= _LINES_AT_A_TIME:
+            self.flush()
+
+    def flush(self) -> None:
+        self._write("".join(self._lines))
+        self._lines.clear()
 
 
 class TraceWriter:
@@ -99,8 +129,8 @@ class TraceWriter:
                 raise TraceError("the trace would have more than %d types, which gcaudit doesn't take" % MOST_TYPES)
             self._types.add(type_name)
 
-    def alloc(self, type_name: str, slots: int, thread: int = 0) -> int:
-        """A new object; the answer is its id."""
+    def alloc(self, type_name: str, slots: int, thread: int = 0, size: Optional[int] = None) -> int:
+        """A new object; the answer is its id. Its size in bytes stands there for other readers; gcaudit ignores it."""
         self._see_type(type_name)
         if self.objects >= MOST_OBJECTS:
             raise TraceError("the trace would have more than %d live objects, which gcaudit doesn't take" % MOST_OBJECTS)
@@ -112,7 +142,8 @@ class TraceWriter:
         self.objects += 1
         self.slots += slots
         on_thread = ',"thread":%d' % thread if thread else ""
-        self._write(f'{{"op":"alloc","id":{self.last_id},"type":{self._quote(type_name)},"slots":{slots}{on_thread}}}\n')
+        sized = "" if size is None else ',"bytes":%d' % size
+        self._write(f'{{"op":"alloc","id":{self.last_id},"type":{self._quote(type_name)},"slots":{slots}{on_thread}{sized}}}\n')
         return self.last_id
 
     def freed(self, objects: int, slots: int) -> None:
@@ -127,12 +158,13 @@ class TraceWriter:
         self._write(f'{{"op":"store","at":{at},"slot":{slot},"to":{held}{labelled}}}\n')
 
     def fill(self, at: int, contents: Iterable[Tuple[str, int, bool]]) -> None:
-        """Fills the slots of a new object from the first on: label, the object that is held, whether weakly."""
+        """Fills the slots of a new object from the first on: label, the object that is held or 0, whether weakly."""
         write, quoted, quote = self._write, self._quoted.get, self._quote
         for slot, (label, to, weak) in enumerate(contents):
             if weak:
                 self.set_weak(at, slot, True)
-            write(f'{{"op":"store","at":{at},"slot":{slot},"to":{to},"label":{quoted(label) or quote(label)}}}\n')
+            if to:
+                write(f'{{"op":"store","at":{at},"slot":{slot},"to":{to},"label":{quoted(label) or quote(label)}}}\n')
 
     def set_weak(self, at: int, slot: int, weak: bool) -> None:
         self._write('{"op":"set-weak","at":%d,"slot":%d,"weak":%s}\n' % (at, slot, "true" if weak else "false"))

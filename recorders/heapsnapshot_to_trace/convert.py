@@ -1,10 +1,11 @@
 """From V8's .heapsnapshot to a trace: nodes are objects, edges are slots, weak edges are weak slots."""
+import argparse
 import os
 from array import array
 from collections import Counter
 from itertools import chain, compress, repeat
 from operator import floordiv, mod
-from typing import Dict, Iterator, List, Set, Tuple
+from typing import BinaryIO, Dict, Iterator, List, Set, Tuple
 
 from gcaudit_trace import TraceError
 from gcaudit_trace.dumps import DumpTrace, Progress, Wishes, need_room, say_left_out
@@ -28,8 +29,9 @@ Edge = Tuple[int, int, int, int]    # the codes of what is held and of who holds
 class Snapshot:
     """The nodes of a snapshot as arrays, and the names that are needed."""
 
-    def __init__(self, file, wishes: Wishes, progress: Progress) -> None:
+    def __init__(self, file: BinaryIO, name: str, wishes: Wishes, progress: Progress) -> None:
         self.file = file
+        self.name = name
         self.wishes = wishes
         self.progress = progress
         self.size = os.fstat(file.fileno()).st_size
@@ -57,11 +59,11 @@ class Snapshot:
 
     def read(self) -> None:
         takers = {"snapshot": self._take_meta, "nodes": self._take_nodes, "edges": self._take_edge_names, "strings": self._take_strings}
-        read_members(Reader(self.file, self.progress, "reading the nodes", self.size), takers)
+        read_members(Reader(self.file, self.name, self.progress, "reading the nodes", self.size), takers)
         self._choose()
 
     def _wrong(self, why: str) -> TraceError:
-        return TraceError("%s is no heap snapshot that is known: %s" % (self.file.name, why))
+        return TraceError("%s is no heap snapshot that is known: %s" % (self.name, why))
 
     def _take_meta(self, reader: Reader) -> None:
         try:
@@ -164,6 +166,8 @@ class Snapshot:
             else:
                 self._count_left_out(name, count)
         self._counts = counts
+        functions = {self.texts.get(name, "") for kind, name in of_each if self.kind_words[kind] == "closure"}
+        self.wishes.need_known(functions.union(self._class_names.values()))
         need_room(sum(counts.values()), counts)
         self.codes = codes = array("i", bytes(4 * len(self.kinds)))
         for node, key in compress(enumerate(zip(self.kinds, self.names)), is_object):
@@ -198,7 +202,7 @@ class Snapshot:
         width, node_width = self._edge_width, self._node_width
         kind_at, name_at, to_at = self._edge_at
         holders = chain.from_iterable(map(repeat, self.codes, self.edge_counts))
-        reader = Reader(self.file, self.progress, step, self.size, self._edges_start)
+        reader = Reader(self.file, self.name, self.progress, step, self.size, self._edges_start)
         for rows in self._rows(reader, width):
             held = map(self.codes.__getitem__, map(floordiv, rows[to_at::width], repeat(node_width)))
             yield zip(held, holders, rows[kind_at::width], rows[name_at::width])   # `held` first, which ends with the rows
@@ -281,18 +285,17 @@ class Snapshot:
                 yield self.texts.get(self.names[node], "") or self._label(kind, name), number
 
 
-def convert(asked, progress: Progress) -> None:
+def convert(file: BinaryIO, asked: argparse.Namespace, progress: Progress) -> None:
     """Writes the trace of a snapshot, by the words of the command line."""
     wishes = Wishes(asked)
-    with open(asked.dump, "rb") as file:
-        snapshot = Snapshot(file, wishes, progress)
-        snapshot.read()
-        stay = snapshot.pass_over()
-        say_left_out(snapshot.left_out, len(stay), progress)
-        with DumpTrace(asked.trace, wishes) as out:
-            snapshot.write(out, stay)
-            if snapshot.weak_lost:
-                progress.say("%d weak references to objects that are left out have no slot" % snapshot.weak_lost)
-            if snapshot.to_classes:
-                progress.say("%d references from objects to their classes are left out (map, __proto__)" % snapshot.to_classes)
-            out.finish(snapshot.roots(), progress)
+    snapshot = Snapshot(file, asked.dump, wishes, progress)
+    snapshot.read()
+    stay = snapshot.pass_over()
+    say_left_out(snapshot.left_out, len(stay), progress)
+    with DumpTrace(asked.trace, wishes) as out:
+        snapshot.write(out, stay)
+        if snapshot.weak_lost:
+            progress.say("%d weak references to objects that are left out have no slot" % snapshot.weak_lost)
+        if snapshot.to_classes:
+            progress.say("%d references from objects to their classes are left out (map, __proto__)" % snapshot.to_classes)
+        out.finish(snapshot.roots(), progress)

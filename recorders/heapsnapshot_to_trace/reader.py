@@ -1,9 +1,10 @@
 """Reads V8's .heapsnapshot piece by piece: numbers come as lists, and texts are kept only where they are asked for."""
 import json
 import re
-from typing import Any, Callable, Dict, Iterator, List, Optional, Set
+from typing import Any, BinaryIO, Callable, Dict, Iterator, List, Optional, Set
 
 from gcaudit_trace import TraceError
+from gcaudit_trace.command import Progress
 
 PIECE = 1 << 20
 LONGEST_TEXT = 400
@@ -19,8 +20,9 @@ _WHOLE_STRING = re.compile(rb'[ \t\r\n]*"([^"\\]*(?:\\.[^"\\]*)*)"[ \t\r\n]*,', 
 class Reader:
     """A file of bytes from a place on, with what was read of it and not yet taken."""
 
-    def __init__(self, file, progress, step: str, size: int, start: int = 0) -> None:
+    def __init__(self, file: BinaryIO, name: str, progress: Progress, step: str, size: int, start: int = 0) -> None:
         self._file = file
+        self._name = name
         self._progress = progress
         self._step = step
         self._size = size
@@ -43,10 +45,10 @@ class Reader:
         return bool(piece)
 
     def cut(self) -> TraceError:
-        return TraceError("%s is cut: it ends within the snapshot" % self._file.name)
+        return TraceError("%s is cut: it ends within the snapshot" % self._name)
 
     def wrong(self) -> TraceError:
-        return TraceError("%s is no heap snapshot of V8" % self._file.name)
+        return TraceError("%s is no heap snapshot of V8" % self._name)
 
     def next_sign(self) -> bytes:
         """The next byte that is no blank, which is not taken."""
@@ -94,7 +96,7 @@ class Reader:
         try:
             text = raw.decode("utf-8", "strict" if is_whole else "ignore")
         except UnicodeDecodeError:
-            raise TraceError("%s is no heap snapshot: it isn't UTF-8" % self._file.name) from None
+            raise TraceError("%s is no heap snapshot: it isn't UTF-8" % self._name) from None
         if "\\" in text:
             try:
                 text = json.loads('"' + text + '"', strict=False)

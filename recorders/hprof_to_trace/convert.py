@@ -1,7 +1,9 @@
 """From an HPROF dump to a trace: which objects are kept, what they hold, and which roots there are."""
+import argparse
 import struct
 from array import array
-from typing import Dict, Iterable, Iterator, List, NamedTuple, Tuple
+from itertools import chain
+from typing import BinaryIO, Dict, Iterable, Iterator, List, NamedTuple, Tuple
 
 from gcaudit_trace import TraceError
 from gcaudit_trace.dumps import DumpTrace, Progress, Wishes, need_room, say_left_out
@@ -79,6 +81,7 @@ class Heap:
         for code, count in primitive.items():
             self.left_out[PRIMITIVES[code] + "[]"] = count
         self._named_counts = {self.dump.class_name(class_id): count for class_id, count in counts.items()}
+        self.wishes.need_known({self.dump.class_name(class_id) for class_id in chain(self.dump.class_names, self.classes)})
         need_room(len(places), self._named_counts)
 
     def _may_hold(self, class_id: int) -> bool:
@@ -239,16 +242,15 @@ class Heap:
         return kind
 
 
-def convert(asked, progress: Progress) -> None:
+def convert(file: BinaryIO, asked: argparse.Namespace, progress: Progress) -> None:
     """Writes the trace of a dump, by the words of the command line."""
     wishes = Wishes(asked)
-    with open(asked.dump, "rb") as file:
-        heap = Heap(Dump(file, progress), wishes, progress)
-        heap.find_objects()
-        stay = heap.pass_over()
-        say_left_out(heap.left_out, len(stay), progress)
-        with DumpTrace(asked.trace, wishes) as out:
-            heap.write(out, stay)
-            if heap.weak_lost:
-                progress.say("%d weak references to objects that are left out have no slot" % heap.weak_lost)
-            out.finish(heap.named_roots(), progress)
+    heap = Heap(Dump(file, asked.dump, progress), wishes, progress)
+    heap.find_objects()
+    stay = heap.pass_over()
+    say_left_out(heap.left_out, len(stay), progress)
+    with DumpTrace(asked.trace, wishes) as out:
+        heap.write(out, stay)
+        if heap.weak_lost:
+            progress.say("%d weak references to objects that are left out have no slot" % heap.weak_lost)
+        out.finish(heap.named_roots(), progress)

@@ -1,9 +1,10 @@
 """Reads an HPROF dump (JAVA PROFILE 1.0.1 and 1.0.2) record by record, from a file that is mapped into memory."""
 import mmap
 import struct
-from typing import Dict, Iterator, List, NamedTuple, Tuple
+from typing import BinaryIO, Dict, Iterator, List, NamedTuple, Tuple
 
 from gcaudit_trace import TraceError
+from gcaudit_trace.command import Progress
 
 OBJECT = 2
 SIZES = {4: 1, 5: 2, 6: 4, 7: 8, 8: 1, 9: 2, 10: 4, 11: 8}
@@ -34,26 +35,26 @@ class Root(NamedTuple):
 class Dump:
     """A dump, its strings, class names and stack frames. `records` steps over the records of its heap."""
 
-    def __init__(self, file, progress) -> None:
+    def __init__(self, file: BinaryIO, name: str, progress: Progress) -> None:
         self._progress = progress
+        self.name = name
         try:
             self.data = mmap.mmap(file.fileno(), 0, access=mmap.ACCESS_READ)
         except (ValueError, OSError):
-            raise TraceError("%s is no HPROF dump: it is empty, or no file" % file.name) from None
+            raise TraceError("%s is no HPROF dump: it is empty, or no file" % name) from None
         self.size = len(self.data)
         end = self.data.find(b"\0", 0, 64)
         version = self.data[:max(end, 0)]
         if version not in (b"JAVA PROFILE 1.0.1", b"JAVA PROFILE 1.0.2"):
             what = "HPROF of another version" if version.startswith(b"JAVA PROFILE") else "no HPROF dump"
-            raise TraceError("%s is %s: it must begin with JAVA PROFILE 1.0.1 or 1.0.2" % (file.name, what))
+            raise TraceError("%s is %s: it must begin with JAVA PROFILE 1.0.1 or 1.0.2" % (name, what))
         if self.size < end + 13:
-            raise TraceError("%s is cut: its head is not whole" % file.name)
+            raise TraceError("%s is cut: its head is not whole" % name)
         self.id_size = struct.unpack_from(">I", self.data, end + 1)[0]
         if self.id_size not in (4, 8):
-            raise TraceError("%s has identifiers of %d bytes; 4 and 8 are known" % (file.name, self.id_size))
+            raise TraceError("%s has identifiers of %d bytes; 4 and 8 are known" % (name, self.id_size))
         self._start = end + 13
         self.id_code = "Q" if self.id_size == 8 else "I"
-        self.name = file.name
         self._strings: Dict[int, Tuple[int, int]] = {}      # where the text of each stands
         self.class_names: Dict[int, int] = {}               # the string of each class
         self._class_texts: Dict[int, str] = {}

@@ -1,8 +1,10 @@
 """Dumps of real programs: each leak is found with its path, the twin without it passes; bad dumps are refused in a sentence."""
 import contextlib
+import gzip
 import io
 import json
 import os
+import re
 import resource
 import shutil
 import stat
@@ -16,7 +18,7 @@ from unittest import mock
 from tests.support import PROGRAM, PROGRAMS, RECORDERS, InFolder, events, needs_commands, needs_program
 
 from gcaudit_trace import audit
-from gcaudit_trace.dumps import Progress
+from gcaudit_trace.command import Progress
 from gcaudit_trace.passing import LeftOut
 from heapsnapshot_to_trace.__main__ import main as heapsnapshot_to_trace
 from hprof_to_trace.__main__ import main as hprof_to_trace
@@ -150,6 +152,27 @@ class DumpTests:
             self.refused([self.leak, self.path("none.jsonl"), *words])
         self.assertEqual(os.listdir(self.folder), [])
 
+    def test_a_class_that_the_dump_lacks(self):
+        for name in self.lacking:
+            status, said = run(type(self).convert, self.leak, self.path("none.jsonl"), "--dead", name)
+            self.assertEqual((status, os.listdir(self.folder)), (2, []))
+            self.assertRegex(said, r"^\w+: the dump has no class %s, but .*%s" % (re.escape(name), self.pattern("Ended")))
+        status, said = run(type(self).convert, self.leak, self.path("none.jsonl"), "--limit", "NoSuchThingAtAll=1")
+        self.assertRegex(said, r"^\w+: the dump has no class NoSuchThingAtAll and none with a name like it\n$")
+        self.trace_of(self.leak, "--may-be-missing", "--dead", self.lacking[0])
+
+    def test_a_dump_packed_by_gzip(self):
+        with open(self.clean, "rb") as plain, gzip.open(self.path("dump.gz"), "wb", 1) as packed:
+            shutil.copyfileobj(plain, packed)
+        trace, _ = self.trace_of(self.path("dump.gz"), *self.assertions())
+        of_packed = events(trace)
+        trace, _ = self.trace_of(self.clean, *self.assertions())
+        self.assertEqual(events(trace), of_packed)
+        os.truncate(self.path("dump.gz"), os.path.getsize(self.path("dump.gz")) // 2)
+        os.unlink(trace)
+        self.refused([self.path("dump.gz"), trace])
+        self.assertEqual(os.listdir(self.folder), ["dump.gz"])
+
     def test_an_old_trace_stays_where_the_dump_is_bad(self):
         with open(self.path("trace.jsonl"), "w") as file:
             file.write("old")
@@ -171,6 +194,7 @@ class Java(DumpTests, InFolder):
     convert = staticmethod(hprof_to_trace)
     names = {name: "SessionLeak$" + full for name, full in
              dict(Ended="EndedSession", Config="Config", Node="Node", Box="Box", Item="Item", Bus="EventBus", Listener="Listener").items()}
+    lacking = ("SessionLeak.EndedSession", "EndedSession", "endedsession", "SessionLeak$EndedSesion")
     path_of_session = (r"dead \d+ SessionLeak\$EndedSession: root .* class SessionLeak \.BUS -> \d+ SessionLeak\$EventBus \.listeners -> "
                        r"\d+ java\.util\.ArrayList \.elementData -> \d+ java\.lang\.Object\[\] \[0\] -> \d+ SessionLeak\$Listener \.session -> ")
 
@@ -213,6 +237,7 @@ class Java(DumpTests, InFolder):
 class Node(DumpTests, InFolder):
     convert = staticmethod(heapsnapshot_to_trace)
     names = dict(Ended="EndedSession", Config="Config", Node="TreeNode", Box="Box", Item="Item")
+    lacking = ("endedsession", "EndedSesion", "shop.EndedSession")
     path_of_session = (r"dead \d+ EndedSession: root .* \.bus -> \d+ EventBus \.listeners -> \d+ Array \[0\] -> \d+ function listener "
                        r"\(context\) -> \d+ system / Context \(variable session\) -> \d+ EndedSession")
 
@@ -434,7 +459,7 @@ class ProgressLines(unittest.TestCase):
     def said(self, is_terminal):
         said, now = io.StringIO(), [100.0]
         said.isatty = lambda: is_terminal
-        with contextlib.redirect_stderr(said), mock.patch("gcaudit_trace.dumps.time.monotonic", lambda: now[0]):
+        with contextlib.redirect_stderr(said), mock.patch("gcaudit_trace.command.time.monotonic", lambda: now[0]):
             progress = Progress("reader")
             for seconds, done in ((0.5, 1), (0.5, 2), (0.9, 3), (0.1, 4), (5, 5)):
                 now[0] += seconds

@@ -65,6 +65,20 @@ class Installed(unittest.TestCase):
                               "--gcaudit", PROGRAM, "test_thing.py", status=1)
         self.assertIn("root things -> 1 list [0] -> 2 test_thing.Thing\n", said)
 
+    @needs_program
+    def test_the_plugin_is_registered_once(self):
+        """Installed, and also on PYTHONPATH, and named by -p."""
+        if python_with("pytest", among=[self.command("python")]) is None:
+            self.skipTest("pytest is not there")
+        with open(os.path.join(self.folder, "test_gone.py"), "w") as file:
+            file.write(TEST + "    thing = heap.root('things', None)\n    heap.root('other', [])\n")
+        for pythonpath in ({}, {"PYTHONPATH": RECORDERS}):
+            for named in ([], ["-p", "gcaudit_recorder.pytest_plugin"]):
+                done = subprocess.run([self.command("python"), "-B", "-m", "pytest", "-p", "no:cacheprovider", *named, "--basetemp",
+                                       os.path.join(self.folder, "temporary"), "--gcaudit", PROGRAM, "test_gone.py"], cwd=self.folder,
+                                      env=dict(self.environment, **pythonpath), stdout=subprocess.PIPE, stderr=subprocess.STDOUT)
+                self.assertIn("1 passed in ", done.stdout.decode())
+
 
 if __name__ == "__main__":
     unittest.main()

@@ -127,6 +127,27 @@ class Leaks(InFolder):
         self.assertRegex(report, r"gc 2 ownedby \d+ \S+Entry owner \d+: root app -> 1 \S+App \.recent -> \d+ list \[0\] -> ")
         self.assertIsNone(report_of(lambda: run(False)))
 
+    def test_each_case_of_an_owner(self):
+        """The table of gcaudit_recorder/README.md: by whom the element is held, and whether that is a violation."""
+        for by_box, by_recent, box_lives, violated in ((True, False, True, False), (True, True, True, False), (False, True, True, True),
+                                                       (False, True, False, True), (False, False, True, False)):
+            app, item = App(box=App(), recent=[]), Entry()
+            app.box.item = item
+
+            def run():
+                with self.audited(app=app) as recorder:
+                    recorder.assert_owned_by(app.box, item)
+                    if by_recent:
+                        app.recent.append(item)
+                    if not by_box:
+                        del app.box.item
+                    if not box_lives:
+                        del app.box
+            report = report_of(run)
+            self.assertEqual(report is not None, violated, (by_box, by_recent, box_lives))
+            if violated:
+                self.assertRegex(report, r"ownedby \d+ \S+Entry owner \d+( gone)?: root app -> 1 \S+App \.recent -> ")
+
     def test_element_held_beside_its_container(self):
         class Box:
             pass
@@ -160,7 +181,7 @@ class Leaks(InFolder):
     def test_region(self):
         def serve(leaks):
             log = []
-            with audited({"app": App(log=log)}, self.path("trace.jsonl"), PROGRAM) as recorder:
+            with audited({"app": App(log=log)}, self.path("trace.jsonl"), PROGRAM, may_be_empty=True):
                 pass
             app = App(log=log, old={"n": 1})
             with self.audited(app=app) as recorder:
@@ -197,8 +218,8 @@ class Leaks(InFolder):
         app = App(ref=weakref.ref(item), proxy=weakref.proxy(item), cache=weakref.WeakValueDictionary(a=item))
         with self.audited(app=app) as recorder:
             recorder.assert_dead(item)
-            recorder.collect()
             del item
+            recorder.collect()
         self.assertEqual([e["weak"] for e in events(self.path("trace.jsonl")) if e["op"] == "set-weak"][:1], [True])
 
     def test_dead_again_after_it_was_unreached(self):
@@ -233,8 +254,8 @@ class Leaks(InFolder):
             with self.audited(registry=Registry, settings=module) as recorder:
                 recorder.assert_dead(Registry.entries[0])
                 recorder.assert_dead(module.entry)
-        self.assertRegex(caught.exception.named, r"root registry -> \d+ type \.entries -> \d+ list \[0\] -> ")
-        self.assertRegex(caught.exception.named, r"root settings -> \d+ module \.entry -> ")
+        self.assertRegex(caught.exception.named, r"root registry -> \d+ class \S+Registry \.entries -> \d+ list \[0\] -> ")
+        self.assertRegex(caught.exception.named, r"root settings -> \d+ module settings \.entry -> ")
 
 
 class Traces(InFolder):
@@ -245,7 +266,7 @@ class Traces(InFolder):
         self.trace = self.path("trace.jsonl")
 
     def recorder(self, **roots):
-        return Recorder(self.trace, roots)
+        return Recorder(self.trace, roots, may_be_empty=True)
 
     def clean(self, recorder):
         recorder.close()
@@ -305,7 +326,8 @@ class Traces(InFolder):
         self.assertEqual(len(self.ids_of("list")), 1)
 
     def test_addresses_used_again(self):
-        for make in (Entry, Slotted, lambda: Slotted([]), lambda: [1], dict):
+        # What holds an object that has weak references is told apart by it. Where nothing can tell, an old id comes back.
+        for make, ids_at_least in ((Entry, 12), (lambda: Slotted(Entry()), 12), (lambda: [Entry()], 12), (lambda: [1], 1), (dict, 1)):
             recorder = self.recorder()
             app = App()
             recorder.root("app", app)
@@ -322,7 +344,7 @@ class Traces(InFolder):
                 app.item = None
             self.clean(recorder)
             ids = [e["to"] for e in events(self.trace) if e["op"] == "store" and e.get("label") == ".item" and e["to"]]
-            self.assertEqual(len(set(ids)), 12)
+            self.assertGreaterEqual(len(set(ids)), ids_at_least)
             if sys.implementation.name == "cpython":
                 self.assertGreater(again, 0)
 
@@ -351,7 +373,6 @@ class Traces(InFolder):
             app.items[:] = [weakref.ref(app) if n % 3 else Entry() for n in range(count)]
             recorder.collect()
         recorder.assert_dead(app.items[0])
-        self.assertEqual(recorder._known[id(app)].number, 1)
         recorder.close()
         if PROGRAM:
             with self.assertRaisesRegex(HeapViolation, r"\.items -> \d+ list \[0\] -> "):
@@ -439,6 +460,63 @@ class Traces(InFolder):
         with open(self.trace) as file:
             self.assertEqual(file.read(), "old")
 
+    def test_no_partial_file_of_a_recorder_that_nobody_closes(self):
+        recorder = self.recorder(entry=Entry())
+        recorder.collect()
+        self.assertEqual(len(os.listdir(self.folder)), 1)
+        del recorder
+        gc.collect()
+        self.assertEqual(os.listdir(self.folder), [])
+        program = "from gcaudit_recorder import Recorder\nrecorder = Recorder(%r, {'a': []})\nrecorder.collect()\n" % self.trace
+        subprocess.run([sys.executable, "-B", "-c", program], env=dict(os.environ, PYTHONPATH=RECORDERS), check=True)
+        self.assertEqual(os.listdir(self.folder), [])
+
+    @needs_program
+    def test_nothing_asserted_or_no_root_is_no_pass(self):
+        held = [Entry()]
+        for roots, asserted, why in (({"held": held}, None, "nothing was asserted"), ({}, [Entry()], "no root was there"),
+                                     ({"gone": Entry()}, [Entry()], "no root was there")):
+            for may_be_empty in (False, True):
+                recorder = Recorder(self.trace, roots, may_be_empty=may_be_empty)
+                roots = {name: held for name in roots}
+                if asserted:
+                    recorder.assert_unshared(asserted)
+                if may_be_empty or roots and asserted:
+                    continue
+                with self.assertRaisesRegex(TraceError, why):
+                    recorder.check(PROGRAM)
+
+    def test_an_unchanged_heap_frees_nothing(self):
+        app = App(empty={}, numbers=[1, 2], nested=[[], {}, ({"a": 1}, [2])], table={"a": {"b": {}}}, entry=Entry([{}]))
+        recorder = self.recorder(app=app)
+        recorder.assert_instances(Config, 1)
+        for _ in range(3):
+            recorder.collect()
+        recorder.close()
+        self.assertEqual({e["op"] for e in events(self.trace)[events(self.trace).index({"op": "collect"}):]}, {"collect"})
+        if PROGRAM:
+            self.assertIn("gc 3 live 15 traced 15 freed 0\n", recorder.check(PROGRAM))
+
+    @needs_program
+    def test_a_path_to_each_instance(self):
+        app = App(first=Entry(), others=[Entry(), Entry()])
+        recorder = self.recorder(app=app)
+        recorder.assert_instances(Entry, 1)
+        with self.assertRaises(HeapViolation) as caught:
+            recorder.check(PROGRAM, all_instances=True)
+        for place, path in enumerate((r"\.first", r"\.others -> \d+ list \[0\]", r"\.others -> \d+ list \[1\]"), 1):
+            self.assertRegex(str(caught.exception), r"gc 1 instance %d of 3 \S+Entry: root app -> 1 \S+App %s -> \d+ \S+Entry\n" % (place, path))
+
+    def test_too_many_objects_say_of_which_types(self):
+        from gcaudit_recorder import walk
+        self.addCleanup(setattr, walk, "MOST_OBJECTS", walk.MOST_OBJECTS)
+        walk.MOST_OBJECTS = 100
+        app = App(entries=[Entry() for _ in range(200)])
+        recorder = self.recorder(app=app)
+        with self.assertRaisesRegex(TraceError, r"more than 100 objects.*Most are of: \S+Entry 98, \S+App 1, list 1"):
+            recorder.collect()
+        recorder.abandon()
+
     def test_open_file(self):
         text = io.StringIO()
         entry = Entry()
@@ -453,7 +531,13 @@ class Traces(InFolder):
                       lambda: recorder.assert_instances(str, 1), lambda: recorder.assert_dead(recorder)):
             self.assertRaises(TraceError, wrong)
         entry = Entry()
-        self.assertRaises(TraceError, lambda: recorder.assert_owned_by(entry, entry))
+        for wrong in (lambda: recorder.assert_owned_by(entry, entry), lambda: recorder.assert_dead(None), lambda: recorder.root(5, entry),
+                      lambda: recorder.assert_instances(Entry, True), lambda: recorder.assert_instances(Entry, "1"), lambda: recorder.assert_owned_by(5, entry),
+                      lambda: Recorder(5), lambda: Recorder(None), lambda: Recorder(self.path("a"), [entry]), lambda: Recorder(self.path("a"), "every"),
+                      lambda: Recorder(self.path("a"), {"a": 5}), lambda: Recorder("a\0b"), lambda: recorder.growth(0, list), lambda: recorder.growth(2, 5),
+                      lambda: recorder.region("Entry").__enter__()):
+            self.assertRaises(TraceError, wrong)
+        self.assertEqual([name for name in os.listdir(self.folder) if "trace.jsonl" not in name], [])
         recorder.close()
         self.assertRaises(TraceError, recorder.collect)
         self.assertRaises(TraceError, lambda: recorder.check("/no/such/gcaudit"))
@@ -530,7 +614,7 @@ class Plugin(InFolder):
         self.assertIn("1 passed in ", said)
 
     def test_a_root_that_was_taken_away(self):
-        status, said = self.run_pytest(LOGOUT % False + "    heap.root('bus', None)\n")
+        status, said = self.run_pytest(LOGOUT % False + "    heap.root('bus', None)\n    heap.may_be_empty = True\n    del bus, session\n")
         self.assertEqual(status, 0, said)
 
     def test_a_test_that_fails_itself(self):
@@ -538,6 +622,28 @@ class Plugin(InFolder):
         self.assertEqual(status, 1, said)
         self.assertIn("assert session is None", said)
         self.assertNotIn("gcaudit found a violation", said)
+
+    def test_xfail_takes_a_violation(self):
+        mark = "import pytest\n" + (LOGOUT % False).replace("def test_logout", "@pytest.mark.xfail(raises=AssertionError, strict=True)\ndef test_logout")
+        status, said = self.run_pytest(mark)
+        self.assertEqual(status, 0, said)
+        self.assertIn("1 xfailed in ", said)
+
+    def test_a_test_that_asserts_nothing_or_names_no_root_fails(self):
+        for text, why in (("def test_it(heap):\n    heap.root('a', [1])\n", "nothing was asserted"),
+                          ("def test_it(heap):\n    heap.assert_dead([[]])\n", "no root was there"),
+                          ("def test_it(heap):\n    pass\n", "nothing was asserted")):
+            status, said = self.run_pytest(text)
+            self.assertEqual(status, 1, said)
+            self.assertIn(why, said)
+            status, said = self.run_pytest(text + "    heap.may_be_empty = True\n")
+            self.assertEqual(status, 0, said)
+
+    def test_it_is_registered_once_however_it_is_named(self):
+        with open(self.path("conftest.py"), "w") as file:
+            file.write("pytest_plugins = ['gcaudit_recorder.pytest_plugin']\n")
+        status, said = self.run_pytest(LOGOUT % True)
+        self.assertEqual(status, 0, said)
 
     def test_without_gcaudit_nothing_passes(self):
         status, said = self.run_pytest(LOGOUT % True, "/no/such/gcaudit")

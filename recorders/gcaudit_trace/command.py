@@ -1,0 +1,114 @@
+"""What the commands share: errors told in a sentence, progress, and output that may not arrive."""
+import argparse
+import contextlib
+import os
+import sys
+import time
+from typing import Any, Callable, Iterator, List, Optional
+
+from .writer import TraceError, WholeFile
+
+REFUSED = 2
+STOPPED = 130
+
+
+class Progress:
+    """A plain line a second on standard error, where that is a terminal; `say` is always said."""
+
+    def __init__(self, program: str, first_after: float = 1.0) -> None:
+        self._program = program
+        self._shows = sys.stderr.isatty()
+        self._next = time.monotonic() + first_after
+
+    def at(self, step: str, done: int = 0, whole: int = 0) -> None:
+        """What is being done now, and how far it is in bytes where that is known."""
+        now = time.monotonic()
+        if self._shows and now >= self._next:
+            self._next = now + 1
+            self.say("%s: %d of %d MB" % (step, done >> 20, whole >> 20) if whole else step)
+
+    def following(self) -> None:
+        """The references through what is left out are being followed."""
+        self.at("following references through what is left out")
+
+    def say(self, text: str) -> None:
+        print("%s: %s" % (self._program, text), file=sys.stderr, flush=True)
+
+
+def run(program: str, work: Callable[[], int], about: str = "") -> int:
+    """Does the work of a command, whose status is the answer; what goes wrong is said in a sentence, with the status 2.
+
+    `about` names the file in question where an error of the system doesn't.
+    """
+    try:
+        status = work()
+        sys.stdout.flush()
+        return status
+    except TraceError as error:
+        return _refused(program, str(error))
+    except BrokenPipeError:
+        _drop_output()
+        return _refused(program, "nobody reads the output any longer")
+    except OSError as error:
+        _drop_output()
+        place = error.filename or about or "standard output"
+        return _refused(program, "%s: %s" % (place, error.strerror or error))
+    except MemoryError:
+        return _refused(program, "out of memory")
+    except KeyboardInterrupt:
+        _say(program, "stopped")
+        return STOPPED
+
+
+def _refused(program: str, why: str) -> int:
+    _say(program, why)
+    return REFUSED
+
+
+def _say(program: str, text: str) -> None:
+    with contextlib.suppress(OSError):
+        print("%s: %s" % (program, text), file=sys.stderr, flush=True)
+
+
+def _drop_output() -> None:
+    """What is still to be written to standard output goes nowhere, so that the interpreter doesn't try again at its end."""
+    with contextlib.suppress(OSError, ValueError):
+        nowhere = os.open(os.devnull, os.O_WRONLY)
+        os.dup2(nowhere, sys.stdout.fileno())
+        os.close(nowhere)
+
+
+@contextlib.contextmanager
+def output_to(path: Optional[str]) -> Iterator[Any]:
+    """Where a command writes: a file that appears when it is whole, or standard output."""
+    if path is None:
+        yield sys.stdout
+        return
+    whole = WholeFile(path)
+    try:
+        yield whole
+    except BaseException:
+        whole.give_up()
+        raise
+    whole.finish()
+
+
+def add_gcaudit(parser: argparse.ArgumentParser) -> None:
+    """The words that say which program gcaudit is run, and how."""
+    parser.add_argument("--gcaudit", metavar="PROGRAM", help="the program gcaudit; else the variable GCAUDIT or the PATH tells it")
+    parser.add_argument("--workers", metavar="N", help="so many workers trace the heap, 1 to 16; the report is the same")
+    parser.add_argument("--paths", metavar="P", help="so many violations of each collection have their paths, 0 to 10000; else 100")
+    parser.add_argument("--react", metavar="R", choices=("report", "halt", "force"), help="report, halt or force: what is done about violations")
+
+
+def gcaudit_options(asked: argparse.Namespace) -> List[str]:
+    """The words for gcaudit's own command line."""
+    found = []
+    for name, most in (("workers", 16), ("paths", 10000)):
+        number = getattr(asked, name)
+        if number is None:
+            continue
+        if not (number.isascii() and number.isdigit() and int(number) <= most and (name == "paths" or int(number) > 0)):
+            raise TraceError("--%s wants a number from %d to %d, not %s" % (name, name == "workers", most, number))
+        found += ["--" + name, number]
+    return found + (["--react", asked.react] if asked.react else [])

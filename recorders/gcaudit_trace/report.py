@@ -1,0 +1,219 @@
+"""The report of gcaudit line by line, with the slots named by the labels that the trace has."""
+import json
+import re
+from typing import Callable, Dict, Iterator, List, NamedTuple, Optional, Set, Tuple
+
+from .names import cut
+
+MORE = "(more)"  # the label of a slot that leads to further slots of the same object
+_LONGEST_LABEL = 120
+_NUMBERS = re.compile(r"\d+")
+_HEADS = (
+    ("dead", re.compile(r"gc (?P<collection>\d+) dead (?P<number>\d+) (?P<type>.*)", re.DOTALL)),
+    ("unshared", re.compile(r"gc (?P<collection>\d+) unshared (?P<number>\d+) (?P<type>.*) refs (?P<count>\d+)", re.DOTALL)),
+    ("ownedby", re.compile(r"gc (?P<collection>\d+) ownedby (?P<number>\d+) (?P<type>.*) owner (?P<owner>\d+)(?P<gone> gone)?", re.DOTALL)),
+    ("instances", re.compile(r"gc (?P<collection>\d+) instances (?P<type>.*) limit (?P<limit>\d+) found (?P<count>\d+)", re.DOTALL)),
+)
+
+
+class Step(NamedTuple):
+    """A step of a path: the label of the slot, and what it holds. `skipped` steps before it aren't shown."""
+    label: str
+    number: int
+    type_name: str
+    skipped: int = 0
+
+
+class Path(NamedTuple):
+    """A path of a report: from a root of this name, or from an owner (then there is no name), by steps."""
+    root: Optional[str]
+    number: int
+    type_name: str
+    steps: Tuple[Step, ...]
+
+    def __str__(self) -> str:
+        head = "owner" if self.root is None else "root %s ->" % self.root
+        shown = ["%s %d %s" % (head, self.number, self.type_name)]
+        for step in self.steps:
+            if step.skipped:
+                shown.append(" ... %d steps ..." % step.skipped)
+            if step.number:
+                shown.append(" %s -> %d %s" % (cut(step.label, _LONGEST_LABEL), step.number, step.type_name))
+        return "".join(shown)
+
+    def numbers(self) -> List[int]:
+        """The objects on the path that are shown, from its start on."""
+        return [self.number] + [step.number for step in self.steps if step.number]
+
+
+class Verdict(NamedTuple):
+    """A violation: what was asserted, of which object (0 for instances) and type, and the paths that the report has."""
+    kind: str
+    collection: int
+    number: int
+    type_name: str
+    count: int      # references, or objects found
+    limit: int
+    owner: int
+    owner_gone: bool
+    paths: Tuple[Path, ...]
+    line: str       # with the slots named
+
+
+class Report(NamedTuple):
+    """The report with its slots named, and its violations."""
+    named: str
+    verdicts: List[Verdict]
+
+
+def read_report(report: str, trace: str, at: Callable[[int], None] = lambda done: None) -> Report:
+    """Reads a report with the labels of its trace. `at` is told now and then how many bytes of the trace were read."""
+    lines = report.split("\n")
+    of_collection: Dict[int, List[int]] = {}
+    for place, line in enumerate(lines):
+        words = line.split(" ", 3)
+        if words[0] == "gc" and len(words) == 4 and words[2] not in ("live", "cleared"):
+            of_collection.setdefault(int(words[1]), []).append(place)
+    verdicts: List[Verdict] = []
+    if of_collection:
+        wanted = {int(n) for places in of_collection.values() for place in places for n in _NUMBERS.findall(lines[place]) if len(n) < 11}
+        heap, collection = _Labels(wanted), 0
+        for line in _lines_about(trace, wanted, at):
+            if not line.isspace() and heap.read(line):
+                collection += 1
+                for place in of_collection.get(collection, ()):
+                    verdict = _verdict(lines[place], heap)
+                    lines[place] = verdict.line
+                    verdicts.append(verdict)
+    return Report("\n".join(lines), verdicts)
+
+
+def _lines_about(trace: str, wanted: Set[int], at: Callable[[int], None]) -> Iterator[bytes]:
+    """The lines of a trace but for those of objects that aren't wanted, as far as these are told apart at a glance."""
+    keys = {b'"at":%d' % number for number in wanted} | {b'"id":%d' % number for number in wanted}
+    of_objects = {b'{"op":"store"', b'{"op":"alloc"'}
+    others = {b'{"op":"%s"' % op for op in (b"set-weak", b"assert-dead", b"assert-unshared", b"assert-ownedby")}
+    done = 0
+    with open(trace, "rb", buffering=1 << 20) as lines:
+        while True:
+            some = lines.readlines(1 << 20)
+            if not some:
+                return
+            for line in some:
+                words = line.split(b",", 2)
+                if words[0] in of_objects:
+                    if words[1] in keys:
+                        yield line
+                elif words[0] not in others:
+                    yield line
+            done += sum(map(len, some))
+            at(done)
+
+
+class _Labels:
+    """The types and the labels of slots of some objects, as a trace is read line by line."""
+
+    def __init__(self, wanted: Set[int]) -> None:
+        self._wanted = wanted
+        self.types: Dict[int, str] = {}
+        self.labels: Dict[Tuple[int, int], str] = {}
+        self.roots: Dict[str, int] = {}
+
+    def read(self, line: bytes) -> bool:
+        """Takes a line; the answer is whether it is a collection."""
+        event = json.loads(line)
+        op = event["op"]
+        if op == "store":
+            if event["at"] in self._wanted:
+                label = event.get("label")
+                self.labels[event["at"], event["slot"]] = label if isinstance(label, str) else ""
+        elif op == "alloc":
+            if event["id"] in self._wanted:
+                self.types[event["id"]] = event["type"]
+        elif op == "root":
+            self.roots[event["name"]] = event["to"]
+        return op == "collect"
+
+
+def _verdict(line: str, heap: _Labels) -> Verdict:
+    """The violation that a line tells, with its slots named; where it can't be read with certainty, without paths."""
+    for at, has_paths in _starts(line):
+        paths = [_path(text, heap) for text in _paths(line[at:])] if has_paths else []
+        if all(path is not None for path in paths):
+            for kind, head in _HEADS:
+                found = head.fullmatch(line[:at - 2])
+                if found is not None:
+                    shown = line[:at] + " | ".join(map(str, paths)) if has_paths else line
+                    return _made(kind, found.groupdict(), tuple(paths), shown)
+    return Verdict("unknown", int(line.split(" ", 2)[1]), 0, "", 0, 0, 0, False, (), line)
+
+
+def _made(kind: str, words: Dict[str, Optional[str]], paths: Tuple[Path, ...], line: str) -> Verdict:
+    def number(name: str) -> int:
+        return int(words.get(name) or 0)
+    return Verdict(kind, number("collection"), number("number"), words["type"] or "", number("count"), number("limit"), number("owner"),
+                   bool(words.get("gone")), paths, line)
+
+
+def _starts(line: str) -> Iterator[Tuple[int, bool]]:
+    """Where the paths of a line may begin: after each ": " that a root or an owner follows, or that says that they are left out."""
+    if line.endswith(": path left out"):
+        yield len(line) - len("path left out"), False
+    place = line.find(": ")
+    while place >= 0:
+        if line.startswith(("root ", "owner "), place + 2):
+            yield place + 2, True
+        place = line.find(": ", place + 1)
+
+
+def _paths(text: str) -> List[str]:
+    """An unshared line has two paths, with a bar between them."""
+    for bar in re.finditer(r" \| (?=root |owner )", text):
+        return [text[:bar.start()], text[bar.end():]]
+    return [text]
+
+
+def _path(text: str, heap: _Labels) -> Optional[Path]:
+    """The path with its slots named. None where it isn't one by what the trace says of its objects."""
+    found = _path_head(text, heap)
+    if found is None:
+        return None
+    root, number, kind, rest = found
+    steps: List[Step] = []
+    holder: Optional[int] = number
+    skipped = 0
+    while rest:
+        left_out = re.match(r" \.\.\. (\d+) steps \.\.\.", rest)
+        if left_out:
+            skipped, rest, holder = int(left_out.group(1)), rest[left_out.end():], None
+            continue
+        step = re.match(r" \[(\d+)\] -> (\d+) ", rest)
+        if step is None:
+            return None
+        slot, held = int(step.group(1)), int(step.group(2))
+        held_type = heap.types.get(held)
+        if held_type is None or not rest.startswith(held_type, step.end()):
+            return None
+        label = "" if holder is None else heap.labels.get((holder, slot), "")
+        if label != MORE:
+            steps.append(Step(label or "[slot %d]" % slot, held, held_type, skipped))
+            skipped = 0
+        rest, holder = rest[step.end() + len(held_type):], held
+    return Path(root, number, kind, tuple(steps))
+
+
+def _path_head(text: str, heap: _Labels) -> Optional[Tuple[Optional[str], int, str, str]]:
+    """The start of a path, `root NAME -> ID TYPE` or `owner ID TYPE`: the name, the object, its type, and what follows."""
+    owner = re.match(r"owner (\d+) ", text)
+    if owner:
+        number = int(owner.group(1))
+        kind = heap.types.get(number)
+        if kind is None or not text.startswith(kind, owner.end()):
+            return None
+        return None, number, kind, text[owner.end() + len(kind):]
+    for name, to in heap.roots.items():
+        kind = heap.types.get(to) if to is not None else None
+        head = "root %s -> %s %s" % (name, to, kind)
+        if kind is not None and text.startswith(head) and text[len(head):len(head) + 1] in ("", " "):
+            return name, to, kind, text[len(head):]
+    return None
