@@ -513,7 +513,7 @@ class Traces(InFolder):
         walk.MOST_OBJECTS = 100
         app = App(entries=[Entry() for _ in range(200)])
         recorder = self.recorder(app=app)
-        with self.assertRaisesRegex(TraceError, r"more than 100 objects.*Most are of: \S+Entry 98, \S+App 1, list 1"):
+        with self.assertRaisesRegex(TraceError, r"more than 100 objects.*Most are of: \S+Entry 98, list 1, \S+App 1"):
             recorder.collect()
         recorder.abandon()
 
