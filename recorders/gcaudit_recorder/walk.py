@@ -4,7 +4,8 @@ from array import array
 from bisect import bisect_right
 from typing import Any, Callable, Dict, Iterable, Iterator, List, Optional, Set, Tuple
 
-from gcaudit_trace.paths import holder_name, is_between
+from gcaudit_trace.growth import Counts
+from gcaudit_trace.paths import Holder, is_between, named_holder
 from gcaudit_trace.writer import MOST_OBJECTS, TraceError
 
 from .contents import PLAIN, PROXIES, WEAK, Label, Shape, contents, object_name, shape_of, size_of
@@ -290,20 +291,21 @@ class Walk:
     def _root_name(self, place: int) -> str:
         return self._root_names.get(id(self.objects[place]), "owner")
 
-    def counts(self) -> Dict[Tuple[str, str], List[int]]:
+    def counts(self) -> Counts:
         """By type and by what holds them by name: how many objects there are, and their bytes."""
-        names: List[str] = []
-        found: Dict[Tuple[str, str], List[int]] = {}
+        holders: List[Holder] = []
+        found: Counts = {}
         for place, obj in enumerate(self.objects):
             above = self.holder(place)
             if above is None:
-                name = self._root_name(place)
+                holder = Holder("", self._root_name(place))
             else:
                 kind = object_name(self.objects[above], self.shapes[above])
-                name = names[above] if is_between(kind) else holder_name(kind, self._labels.text(self.now.labels[self.first_edges[place]]))
-            names.append(name)
+                label = self._labels.text(self.now.labels[self.first_edges[place]])
+                holder = holders[above] if is_between(kind) else named_holder(kind, label)
+            holders.append(holder)
             if self.is_traced[place]:
-                one = found.setdefault((object_name(obj, self.shapes[place]), name), [0, 0])
+                one = found.setdefault((object_name(obj, self.shapes[place]), holder), [0, 0])
                 one[0] += 1
                 one[1] += self.sizes[place]
         return found

@@ -1,6 +1,6 @@
 """Dominators: how much of a heap each object keeps alive alone."""
 from array import array
-from typing import Iterator, List, NamedTuple, Sequence, Tuple
+from typing import Dict, Iterator, List, NamedTuple, Sequence, Tuple
 
 from .heap import Graph
 
@@ -135,3 +135,48 @@ def _least(place: int, linked: array, best: array, semi: array) -> int:
             best[below] = best[up]
         linked[below] = linked[up]
     return best[place]
+
+
+def kept_by_type(graph: Graph, kept: Kept) -> Dict[str, Tuple[int, int]]:
+    """By type how many objects its objects keep alive alone, they themselves counted, and their bytes.
+
+    An object that another one of its type keeps counts with that one.
+    """
+    size = len(graph)
+    begins, below = _kept_directly(kept.dominators, size)
+    found: Dict[int, List[int]] = {}
+    open_of = [0] * len(graph.type_names)     # how many objects of each type are open on the way down
+    stack = [(size, begins[size])]
+    while stack:
+        node, at = stack.pop()
+        if at < begins[node + 1]:
+            stack.append((node, at + 1))
+            node = below[at]
+            kind = graph.kinds[node]
+            if not open_of[kind]:
+                one = found.setdefault(kind, [0, 0])
+                one[0] += kept.objects[node]
+                one[1] += kept.bytes[node]
+            open_of[kind] += 1
+            stack.append((node, begins[node]))
+        elif node < size:
+            open_of[graph.kinds[node]] -= 1
+    return {graph.type_names[kind]: (objects, total) for kind, (objects, total) in found.items()}
+
+
+def _kept_directly(dominators: Sequence[int], size: int):
+    """Of each node, and at last of the start, what it dominates directly: as one array, and where each part of it begins."""
+    begins = array("Q", bytes(8 * (size + 2)))
+    for holder in dominators:
+        if holder != _NONE:
+            begins[holder] += 1
+    total = 0
+    for place in range(size + 2):
+        total += begins[place]
+        begins[place] = total
+    below = array("I", bytes(4 * total))
+    for node, holder in enumerate(dominators):
+        if holder != _NONE:
+            begins[holder] -= 1
+            below[begins[holder]] = node
+    return begins, below

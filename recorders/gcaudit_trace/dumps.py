@@ -53,7 +53,8 @@ def main(program: str, about: str, convert, words=None) -> int:
 class Wishes:
     """What is asserted and what is kept, by the names of classes."""
 
-    def __init__(self, asked: argparse.Namespace) -> None:
+    def __init__(self, asked: argparse.Namespace, limited: bool = True) -> None:
+        self.limited = limited      # no more is kept than gcaudit takes
         self._only = tuple(asked.only)
         self._without = tuple(asked.without)
         self._may_be_missing = asked.may_be_missing
@@ -82,6 +83,12 @@ class Wishes:
     def keeps(self, name: str) -> bool:
         """Whether objects of the class are kept."""
         return (not self._only or name.startswith(self._only)) and not (self._without and name.startswith(self._without))
+
+    def need_room(self, kept: int, counts: Dict[str, int]) -> None:
+        """Refuses more objects than gcaudit takes, and says which classes have most of them."""
+        if kept > MOST_OBJECTS and self.limited:
+            raise TraceError("%d objects would be kept, and gcaudit takes %d; leave some out by --only or --without. Most are of: %s"
+                             % (kept, MOST_OBJECTS, most_of(counts)))
 
     def need_known(self, known: Set[str]) -> None:
         """Refuses a class that the dump knows nothing of: what is asserted of it would hold whatever the program does."""
@@ -118,7 +125,7 @@ class DumpTrace:
             raise self._whole.failed(error) from None
         self._lines = Batch(self._whole.write)
         self._stores = Batch(self._waiting.write)
-        self.trace = TraceWriter(self._lines.add)
+        self.trace = TraceWriter(self._lines.add, wishes.limited)
         self._contents = TraceWriter(self._stores.add)
         self._wishes = wishes
         self._names = UniqueNames()
@@ -134,12 +141,12 @@ class DumpTrace:
         with contextlib.suppress(OSError):  # what it held is in the trace by now, or given up
             self._waiting.close()
 
-    def object(self, class_name: str, contents: List[Tuple[str, int, bool]]) -> None:
-        """The next object with what it holds: label, number in the trace, whether weakly."""
+    def object(self, class_name: str, size: int, contents: List[Tuple[str, int, bool]]) -> None:
+        """The next object, its bytes, and what it holds: label, number in the trace, whether weakly."""
         legal = self._legal.get(class_name)
         if legal is None:
             legal = self._legal[class_name] = legal_name(class_name)
-        number = self.trace.alloc(legal, len(contents))
+        number = self.trace.alloc(legal, len(contents), 0, size)
         if class_name in self._of_class:
             self._of_class[class_name].append(number)
         try:
@@ -196,19 +203,16 @@ class DumpTrace:
                         self.trace.assert_owned_by(numbers[0], number)
 
 
-def need_room(kept: int, counts: Dict[str, int]) -> None:
-    """Refuses more objects than gcaudit takes, and says which classes have most of them."""
-    if kept > MOST_OBJECTS:
-        most = sorted(counts.items(), key=lambda one: (-one[1], one[0]))[:SHOWN_CLASSES]
-        raise TraceError("%d objects would be kept, and gcaudit takes %d; leave some out by --only or --without. Most are of: %s"
-                         % (kept, MOST_OBJECTS, ", ".join("%s %d" % one for one in most)))
+def most_of(counts: Dict[str, int]) -> str:
+    """The classes that have most objects, and how many classes more there are."""
+    most = sorted(counts.items(), key=lambda one: (-one[1], one[0]))[:SHOWN_CLASSES]
+    more = ", and %d classes more" % (len(counts) - len(most)) if len(counts) > len(most) else ""
+    return ", ".join("%s %d" % one for one in most) + more
 
 
 def say_left_out(counts: Dict[str, int], stay: int, progress: Progress) -> None:
     """Says how many objects were left out, and of which classes most are."""
     if counts:
-        most = sorted(counts.items(), key=lambda one: (-one[1], one[0]))[:SHOWN_CLASSES]
-        more = ", and %d classes more" % (len(counts) - len(most)) if len(counts) > len(most) else ""
-        progress.say("left out: %d objects (%s%s)" % (sum(counts.values()), ", ".join("%s %d" % one for one in most), more))
+        progress.say("left out: %d objects (%s)" % (sum(counts.values()), most_of(counts)))
     if stay:
         progress.say("%d of them stay, as \"left out CLASS\", since several references lead through each to what is kept" % stay)

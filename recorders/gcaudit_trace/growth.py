@@ -1,44 +1,120 @@
-"""What became more from one heap to the next: by type, and by what holds it."""
+"""gcaudit-growth: what became more from one heap to the next, by type, and by what holds it."""
 import argparse
 import sys
-from typing import Dict, List, NamedTuple, Optional, Sequence, Tuple
+from typing import Dict, List, NamedTuple, Sequence, Tuple
+
+from . import command
+from .dominators import kept_alone, kept_by_type
+from .heap import Graph
+from .paths import Holder, Tree
+
+_PROGRAM = "gcaudit-growth"
+_SHOWN = 20
 
 # By type and by what holds them by name: how many objects there are, and their bytes.
-Counts = Dict[Tuple[str, str], List[int]]
+Counts = Dict[Tuple[str, Holder], List[int]]
+# By type how many objects its objects keep alive alone, and their bytes.
+KeptAlone = Dict[str, Tuple[int, int]]
 
 
 class Grown(NamedTuple):
-    """Objects of a type with one holder: their number in each heap, and what they became more on average, in bytes too."""
+    """Objects of a type with one holder: their number in each heap, what they became more on average, and in bytes."""
     type_name: str
-    holder: str
+    holder: Holder
     numbers: Tuple[int, ...]
     more: float
     more_bytes: float
 
 
 class Growth:
-    """Compares the counts of heaps that follow on one another; `step` is what lies between two of them, as a round."""
+    """Compares heaps that follow on one another; `step` is what lies between two of them, as a round."""
 
-    def __init__(self, heaps: Sequence[Counts], step: str) -> None:
+    def __init__(self, heaps: Sequence[Counts], step: str, kept: Sequence[KeptAlone] = ()) -> None:
         self._heaps = list(heaps)
         self._step = step
+        self._kept = list(kept)
 
     def grown(self) -> List[Grown]:
-        """What is more in the last heap than in the first and never became less, most objects first."""
+        """What is more in the last heap than in the first and never became less.
+
+        What is held by objects that don't grow comes first: the others grow since their holders do. Then most objects first.
+        """
         found = []
-        steps = len(self._heaps) - 1
+        steps = max(len(self._heaps) - 1, 1)
         for key in {key for heap in self._heaps for key in heap}:
             counts = [heap.get(key, (0, 0)) for heap in self._heaps]
             numbers = tuple(one[0] for one in counts)
             if numbers[-1] > numbers[0] and all(before <= after for before, after in zip(numbers, numbers[1:])):
                 found.append(Grown(key[0], key[1], numbers, (numbers[-1] - numbers[0]) / steps, (counts[-1][1] - counts[0][1]) / steps))
-        return sorted(found, key=lambda one: (-one.more, -one.more_bytes, one.type_name, one.holder))
+        grown_types = {one.type_name for one in found}
+        return sorted(found, key=lambda one: (one.holder.type_name in grown_types, -one.more, -one.more_bytes, one.type_name, one.holder))
 
     def __str__(self) -> str:
-        lines = ["+%s %s a %s, held by %s%s" % (_number(one.more), one.type_name, self._step, one.holder,
-                                               " (%s bytes)" % _number(one.more_bytes) if one.more_bytes > 0 else "") for one in self.grown()]
+        found = self.grown()
+        grown_types = {one.type_name for one in found}
+        lines = []
+        for one in found[:_SHOWN]:
+            indent = "  " if one.holder.type_name in grown_types else ""
+            size = ", %s bytes" % _number(one.more_bytes) if one.more_bytes > 0 else ""
+            lines.append("%s+%s %s a %s%s, held by %s (%s)" % (indent, _number(one.more), one.type_name, self._step, size, one.holder.name,
+                                                              " -> ".join(map(str, one.numbers))))
+            if not indent and self._kept:
+                lines.append("    its objects keep %s more alone a %s%s" % self._kept_more(one.type_name))
+        if len(found) > _SHOWN:
+            lines.append("and %d more lines" % (len(found) - _SHOWN))
         return "\n".join(lines) or "nothing became more"
+
+    def _kept_more(self, type_name: str) -> Tuple[str, str, str]:
+        first, last = (kept.get(type_name, (0, 0)) for kept in (self._kept[0], self._kept[-1]))
+        steps = max(len(self._kept) - 1, 1)
+        objects, size = ((after - before) / steps for before, after in zip(first, last))
+        return _number(objects) + " objects", self._step, ", %s bytes" % _number(size) if size else ""
 
 
 def _number(value: float) -> str:
-    return "%d" % value if value == int(value) else "%.1f" % value
+    return "{:,}".format(int(value)) if value == int(value) else "{:,.1f}".format(value)
+
+
+def counts_of(graph: Graph) -> Counts:
+    """The objects of a graph by type and holder."""
+    found: Counts = {}
+    for node, holder in Tree(graph).holders_by_name():
+        one = found.setdefault((graph.type_of(node), holder), [0, 0])
+        one[0] += 1
+        if graph.sizes is not None:
+            one[1] += graph.sizes[node]
+    return found
+
+
+def growth_of(graphs: Sequence[Graph], step: str) -> Growth:
+    return Growth([counts_of(graph) for graph in graphs], step, [kept_by_type(graph, kept_alone(graph)) for graph in graphs])
+
+
+def parser() -> argparse.ArgumentParser:
+    made = argparse.ArgumentParser(prog=_PROGRAM, description="Compares heaps of one program that follow on one another, and says of which types there "
+                                   "are more each time, what holds them, and how much they keep alive alone.")
+    made.add_argument("heaps", metavar="DUMP|TRACE", nargs="+", help="two or more heap dumps or traces, of each of which the last collection counts; or one "
+                      "trace, whose collections are compared")
+    made.add_argument("--output", metavar="FILE", help="where it is written, else standard output")
+    return made
+
+
+def main(words=None) -> int:
+    from .sources import every_graph, last_graph    # the readers of dumps, which the recorder does without
+    asked = parser().parse_args(words)
+
+    def work() -> int:
+        progress = command.Progress(_PROGRAM, 2.0)
+        if len(asked.heaps) == 1:
+            graphs, step = every_graph(asked.heaps[0], progress), "collection"
+        else:
+            graphs, step = [last_graph(path, progress) for path in asked.heaps], "dump"
+        text = str(growth_of(graphs, step))
+        with command.output_to(asked.output) as out:
+            out.write(text + "\n")
+        return 0
+    return command.run(_PROGRAM, work)
+
+
+if __name__ == "__main__":
+    sys.exit(main())

@@ -29,6 +29,12 @@ def label_shape(label: str) -> str:
     return _INDEX.sub("[*]", label) if "[" in label else label
 
 
+class Holder(NamedTuple):
+    """What holds objects by name: its type (empty for a root), and the name, as `shop.EventBus.listeners` or `root bus`."""
+    type_name: str
+    name: str
+
+
 class Tree:
     """A shortest path to each node: at each step back the node with the least id, by its least slot."""
 
@@ -99,32 +105,32 @@ class Tree:
                 steps.append(Step(label or "[slot]", graph.numbers[at], graph.type_of(at), left_out))
         return Path(self.root(way[0]), graph.numbers[way[0]], graph.type_of(way[0]), tuple(steps))
 
-    def holder_names(self) -> Iterator[Tuple[int, str]]:
-        """Each node with what holds it by name, as `shop.EventBus.listeners`, or `root bus`: the nearest that isn't only in between."""
+    def holders_by_name(self) -> Iterator[Tuple[int, Holder]]:
+        """Each node with what holds it by name: the nearest holder that isn't only in between, or the root."""
         graph = self.graph
         between = [is_between(name) for name in graph.type_names]
-        names: Dict[Tuple[int, int], str] = {}
-        roots = ["root " + name for name, _ in graph.roots]
-        found: List[str] = [""] * len(graph)
+        known: Dict[Tuple[int, int], Holder] = {}
+        roots = [Holder("", "root " + name) for name, _ in graph.roots]
+        found: List[Optional[Holder]] = [None] * len(graph)
         for node in self.order:
-            holder, edge = self.holders[node], self.edges[node]
-            if holder == _FROM_ROOT:
-                name = roots[edge]
-            elif between[graph.kinds[holder]]:
-                name = found[holder]
+            above, edge = self.holders[node], self.edges[node]
+            if above == _FROM_ROOT:
+                holder = roots[edge]
+            elif between[graph.kinds[above]]:
+                holder = found[above]
             else:
-                key = graph.kinds[holder], graph.labels[edge]
-                name = names.get(key, "")
-                if not name:
-                    name = names[key] = holder_name(graph.type_names[key[0]], graph.label_texts[key[1]])
-            found[node] = name
-            yield node, name
+                key = graph.kinds[above], graph.labels[edge]
+                holder = known.get(key)
+                if holder is None:
+                    holder = known[key] = named_holder(graph.type_names[key[0]], graph.label_texts[key[1]])
+            found[node] = holder
+            yield node, holder
 
 
-def holder_name(type_name: str, label: str) -> str:
+def named_holder(type_name: str, label: str) -> Holder:
     """What holds by name: a type and one of its slots."""
     shape = label_shape(label)
-    return type_name + shape if shape.startswith((".", "[")) else "%s %s" % (type_name, shape)
+    return Holder(type_name, type_name + shape if shape.startswith((".", "[")) else "%s %s" % (type_name, shape))
 
 
 class Shape(NamedTuple):

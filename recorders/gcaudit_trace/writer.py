@@ -103,11 +103,13 @@ class Batch:
 class TraceWriter:
     """Writes the operations of a trace with `write`, and refuses what gcaudit would refuse by its limits.
 
-    Names must be legal (see names.py). What is freed by a collection is told by `freed`.
+    Names must be legal (see names.py). What is freed by a collection is told by `freed`. A trace that isn't for gcaudit
+    need not be `limited`.
     """
 
-    def __init__(self, write) -> None:
+    def __init__(self, write: Callable[[str], Any], limited: bool = True) -> None:
         self._write = write
+        self._limited = limited
         self._quoted: Dict[str, str] = {}
         self._types = set()
         self._roots = set()
@@ -125,16 +127,16 @@ class TraceWriter:
 
     def _see_type(self, type_name: str) -> None:
         if type_name not in self._types:
-            if len(self._types) >= MOST_TYPES:
+            if len(self._types) >= MOST_TYPES and self._limited:
                 raise TraceError("the trace would have more than %d types, which gcaudit doesn't take" % MOST_TYPES)
             self._types.add(type_name)
 
     def alloc(self, type_name: str, slots: int, thread: int = 0, size: Optional[int] = None) -> int:
         """A new object; the answer is its id. Its size in bytes stands there for other readers; gcaudit ignores it."""
         self._see_type(type_name)
-        if self.objects >= MOST_OBJECTS:
+        if self.objects >= MOST_OBJECTS and self._limited:
             raise TraceError("the trace would have more than %d live objects, which gcaudit doesn't take" % MOST_OBJECTS)
-        if self.slots + slots > MOST_SLOTS:
+        if self.slots + slots > MOST_SLOTS and self._limited:
             raise TraceError("the trace would have more than %d live slots, which gcaudit doesn't take" % MOST_SLOTS)
         if self.last_id >= MOST_ID:
             raise TraceError("the trace would have an id above %d, which gcaudit doesn't take" % MOST_ID)
@@ -174,7 +176,7 @@ class TraceWriter:
             self._roots.discard(name)
         else:
             self._roots.add(name)
-        if len(self._roots) > MOST_ROOTS:
+        if len(self._roots) > MOST_ROOTS and self._limited:
             raise TraceError("the trace would have more than %d roots, which gcaudit doesn't take" % MOST_ROOTS)
         self._write('{"op":"root","name":%s,"to":%s}\n' % (self._quote(name), "null" if to is None else "%d" % to))
 

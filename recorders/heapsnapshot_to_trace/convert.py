@@ -8,7 +8,7 @@ from operator import floordiv, mod
 from typing import BinaryIO, Dict, Iterator, List, Set, Tuple
 
 from gcaudit_trace import TraceError
-from gcaudit_trace.dumps import DumpTrace, Progress, Wishes, need_room, say_left_out
+from gcaudit_trace.dumps import DumpTrace, Progress, Wishes, say_left_out
 from gcaudit_trace.passing import LeftOut
 
 from .reader import Reader, read_members
@@ -39,6 +39,7 @@ class Snapshot:
         self.kinds = bytearray()
         self.names = array("I")
         self.edge_counts = array("I")
+        self.sizes = array("Q")
         self.codes = array("i")             # as in `left`; 0 where it is neither kept nor left out
         self.kept_nodes = array("I")
         self.left_nodes = array("I")
@@ -73,6 +74,7 @@ class Snapshot:
             self.edge_words = list(meta["edge_types"][edges.index("type")])
             self._node_width, self._edge_width = len(nodes), len(edges)
             self._kind_at, self._name_at, self._count_at = (nodes.index(field) for field in ("type", "name", "edge_count"))
+            self._size_at = nodes.index("self_size") if "self_size" in nodes else None
             self._edge_at = tuple(edges.index(field) for field in ("type", "name_or_index", "to_node"))
         except (KeyError, ValueError, TypeError, IndexError, AttributeError):
             raise self._wrong("its description of nodes and edges is another") from None
@@ -102,6 +104,7 @@ class Snapshot:
                 self.kinds.extend(rows[self._kind_at::width])
                 self.names.extend(rows[self._name_at::width])
                 self.edge_counts.extend(rows[self._count_at::width])
+                self.sizes.extend(rows[self._size_at::width] if self._size_at is not None else repeat(0, len(rows) // width))
         except (OverflowError, ValueError):
             raise self._wrong("a node has a number that can't be") from None
         if self.kinds and max(self.kinds) >= len(self.kind_words):
@@ -168,7 +171,7 @@ class Snapshot:
         self._counts = counts
         functions = {self.texts.get(name, "") for kind, name in of_each if self.kind_words[kind] == "closure"}
         self.wishes.need_known(functions.union(self._class_names.values()))
-        need_room(sum(counts.values()), counts)
+        self.wishes.need_room(sum(counts.values()), counts)
         self.codes = codes = array("i", bytes(4 * len(self.kinds)))
         for node, key in compress(enumerate(zip(self.kinds, self.names)), is_object):
             if keeps[key]:
@@ -216,7 +219,7 @@ class Snapshot:
             if kind != self._weak:
                 self.left.take_root(self.codes[node])
         stay = self.left.settle(len(self.kept_nodes), self.progress.following)
-        need_room(len(self.kept_nodes) + len(stay), self._counts)
+        self.wishes.need_room(len(self.kept_nodes) + len(stay), self._counts)
         return stay
 
     def _references(self) -> Iterator[Tuple[int, int]]:
@@ -234,10 +237,10 @@ class Snapshot:
     def write(self, out: DumpTrace, stay: List[Tuple[int, int]]) -> None:
         """Writes the kept nodes, and behind them the left-out ones that stay."""
         for held, node in zip(self._holdings(), self.kept_nodes):
-            out.object(self.class_of(node), held)
+            out.object(self.class_of(node), self.sizes[node], held)
         for place, _ in stay:
             held = [("(held)", to, False) for to, _ in self.left.contents(place)]
-            out.object("left out " + self.class_of(self.left_nodes[place]), held)
+            out.object("left out " + self.class_of(self.left_nodes[place]), 0, held)
 
     def _holdings(self) -> Iterator[List[Tuple[str, int, bool]]]:
         """What each of the kept nodes holds, in their order: label, number in the trace, whether weakly."""
@@ -285,9 +288,9 @@ class Snapshot:
                 yield self.texts.get(self.names[node], "") or self._label(kind, name), number
 
 
-def convert(file: BinaryIO, asked: argparse.Namespace, progress: Progress) -> None:
+def convert(file: BinaryIO, asked: argparse.Namespace, progress: Progress, limited: bool = True) -> None:
     """Writes the trace of a snapshot, by the words of the command line."""
-    wishes = Wishes(asked)
+    wishes = Wishes(asked, limited)
     snapshot = Snapshot(file, asked.dump, wishes, progress)
     snapshot.read()
     stay = snapshot.pass_over()

@@ -6,7 +6,7 @@ from itertools import chain
 from typing import BinaryIO, Dict, Iterable, Iterator, List, NamedTuple, Tuple
 
 from gcaudit_trace import TraceError
-from gcaudit_trace.dumps import DumpTrace, Progress, Wishes, need_room, say_left_out
+from gcaudit_trace.dumps import DumpTrace, Progress, Wishes, say_left_out
 from gcaudit_trace.passing import LeftOut
 
 from .reader import (CLASS, INSTANCE, OBJECT, OBJECT_ARRAY, PRIMITIVE_ARRAY, PRIMITIVES, ROOTS, SIZES, ClassDump, Dump, Root)
@@ -43,6 +43,7 @@ class Heap:
         self._may_hold_of: Dict[int, bool] = {}
         self._id = struct.Struct(">" + dump.id_code)
         self._instance = struct.Struct(">%sI%sI" % (dump.id_code, dump.id_code))
+        self._primitive = struct.Struct(">%sIIB" % dump.id_code)
         self._array = struct.Struct(">%sII%s" % (dump.id_code, dump.id_code))
 
     # ---- the first time through: which objects are there
@@ -55,7 +56,11 @@ class Heap:
         left_classes: Dict[int, int] = {}
         for tag, place, number, class_id in self.dump.records("reading the objects"):
             if tag == PRIMITIVE_ARRAY:
-                primitive[number] = primitive.get(number, 0) + 1
+                if self.wishes.limited:
+                    primitive[number] = primitive.get(number, 0) + 1
+                else:
+                    places.append(place)
+                    codes[self._id.unpack_from(self.dump.data, place)[0]] = len(places)
                 continue
             if tag in ROOTS:
                 self.roots.append(self.dump.root(tag, place))
@@ -82,7 +87,7 @@ class Heap:
             self.left_out[PRIMITIVES[code] + "[]"] = count
         self._named_counts = {self.dump.class_name(class_id): count for class_id, count in counts.items()}
         self.wishes.need_known({self.dump.class_name(class_id) for class_id in chain(self.dump.class_names, self.classes)})
-        need_room(len(places), self._named_counts)
+        self.wishes.need_room(len(places), self._named_counts)
 
     def _may_hold(self, class_id: int) -> bool:
         """Whether instances of the class have references to objects other than arrays of primitives, as far as is known by now."""
@@ -110,6 +115,8 @@ class Heap:
             return [one for one in zip(layout.labels, found, layout.weak) if one[1]]
         if tag == OBJECT_ARRAY:
             return [("[%d]" % at, to, False) for at, to in enumerate(self._elements(place)) if to]
+        if tag == PRIMITIVE_ARRAY:
+            return []
         return [(label, to, False) for label, to in self.classes[self._id.unpack_from(data, place)[0]].held]
 
     def references(self, place: int) -> Iterable[int]:
@@ -173,7 +180,7 @@ class Heap:
         for root in self.roots:
             left.take_root(self.codes.get(root.target, 0))
         stay = left.settle(kept, self.progress.following)
-        need_room(kept + len(stay), self._named_counts)
+        self.wishes.need_room(kept + len(stay), self._named_counts)
         return stay
 
     def _references(self, holders: Iterable[Tuple[int, int]]) -> Iterator[Tuple[int, int]]:
@@ -195,10 +202,10 @@ class Heap:
     def write(self, out: DumpTrace, stay: List[Tuple[int, int]]) -> None:
         """Writes the kept objects, and behind them the left-out ones that stay."""
         for place in self._in_steps("writing the trace", self.kept_places):
-            out.object(self._class_at(place), self._resolved(self.holdings(place)))
+            out.object(self._class_at(place), self._size_at(place), self._resolved(self.holdings(place)))
         for place, _ in stay:
             held = [("(held)", to, False) for to, _ in self.left.contents(place)]
-            out.object("left out " + self._class_at(self.left_places[place]), held)
+            out.object("left out " + self._class_at(self.left_places[place]), 0, held)
 
     def _class_at(self, place: int) -> str:
         """The class of the object whose record stands there; of a class, the word and its name."""
@@ -207,7 +214,21 @@ class Heap:
             return "class " + self.dump.class_name(self._id.unpack_from(data, place)[0])
         if tag == INSTANCE:
             return self.dump.class_name(self._instance.unpack_from(data, place)[2])
+        if tag == PRIMITIVE_ARRAY:
+            return PRIMITIVES[self._primitive.unpack_from(data, place)[3]] + "[]"
         return self.dump.class_name(self._array.unpack_from(data, place)[3])
+
+    def _size_at(self, place: int) -> int:
+        """The bytes of what its record stands for: those of its fields or elements, and of a head of two words."""
+        data, tag, head = self.dump.data, self.dump.data[place - 1], 2 * self.dump.id_size
+        if tag == INSTANCE:
+            return head + self._instance.unpack_from(data, place)[3]
+        if tag == OBJECT_ARRAY:
+            return head + self.dump.id_size * self._array.unpack_from(data, place)[2]
+        if tag == PRIMITIVE_ARRAY:
+            _, _, length, kind = self._primitive.unpack_from(data, place)
+            return head + SIZES[kind] * length
+        return head
 
     def _resolved(self, held: List[Tuple[str, int, bool]]) -> List[Tuple[str, int, bool]]:
         """What it holds by numbers in the trace: what is left out is passed over."""
@@ -242,9 +263,9 @@ class Heap:
         return kind
 
 
-def convert(file: BinaryIO, asked: argparse.Namespace, progress: Progress) -> None:
+def convert(file: BinaryIO, asked: argparse.Namespace, progress: Progress, limited: bool = True) -> None:
     """Writes the trace of a dump, by the words of the command line."""
-    wishes = Wishes(asked)
+    wishes = Wishes(asked, limited)
     heap = Heap(Dump(file, asked.dump, progress), wishes, progress)
     heap.find_objects()
     stay = heap.pass_over()

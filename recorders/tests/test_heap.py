@@ -8,7 +8,7 @@ from tests.support import PROGRAM, InFolder, needs_program
 from gcaudit_trace import TraceError, audit
 from gcaudit_trace.dominators import kept_alone
 from gcaudit_trace.heap import heaps
-from gcaudit_trace.paths import Tree, holder_name, label_shape, path_shape
+from gcaudit_trace.paths import Holder, Tree, label_shape, named_holder, path_shape
 from gcaudit_trace.report import Path, Step
 
 
@@ -149,9 +149,9 @@ class Graphs(InFolder):
         self.assertEqual(str(path_shape(path)), "root first -> Link .next -> Link")
 
     def test_names_of_holders(self):
-        self.assertEqual(holder_name("shop.EventBus", ".listeners"), "shop.EventBus.listeners")
-        self.assertEqual(holder_name("shop.Table", "['key'] (over 2 left out)"), "shop.Table[*] (over 2 left out)")
-        self.assertEqual(holder_name("A", "(variable x)"), "A (variable x)")
+        for type_name, label, name in (("shop.EventBus", ".listeners", "shop.EventBus.listeners"), ("A", "(variable x)", "A (variable x)"),
+                                       ("shop.Table", "['key'] (over 2 left out)", "shop.Table[*] (over 2 left out)")):
+            self.assertEqual(named_holder(type_name, label), Holder(type_name, name))
         self.assertEqual(label_shape(".items[3]"), ".items[*]")
         path = Path("thread 7", 1, "T", (Step("[3]", 2, "list"), Step("['a']", 3, "dict")))
         self.assertEqual(str(path_shape(path)), "root thread * -> T [*] -> list [*] -> dict")
