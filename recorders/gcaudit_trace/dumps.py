@@ -9,6 +9,7 @@ from typing import Dict, Iterable, List, Set, Tuple
 from . import command
 from .command import Progress
 from .names import UniqueNames, legal_name
+from .passing import LeftOut, Staying
 from .reading import opened
 from .writer import MOST_OBJECTS, Batch, TraceError, TraceWriter, WholeFile
 
@@ -154,6 +155,11 @@ class DumpTrace:
         except OSError as error:
             raise self._whole.failed(error) from None
 
+    def joint(self, class_name: str, joint: Staying) -> None:
+        """The next joint, by the class of one of the objects that it stands for."""
+        more = " and %d more" % (joint.count - 1) if joint.count > 1 else ""
+        self.object("left out %s%s" % (class_name, more), 0, joint.contents)
+
     def finish(self, roots: Iterable[Tuple[str, int]], progress: Progress) -> None:
         """Writes the stores, the roots, the assertions and the collection, and gives the file its name."""
         self._lines.flush()
@@ -210,9 +216,10 @@ def most_of(counts: Dict[str, int]) -> str:
     return ", ".join("%s %d" % one for one in most) + more
 
 
-def say_left_out(counts: Dict[str, int], stay: int, progress: Progress) -> None:
-    """Says how many objects were left out, and of which classes most are."""
+def say_left_out(counts: Dict[str, int], stay: int, left: LeftOut, progress: Progress) -> None:
+    """Says how many objects were left out, of which classes most are, and how many joints stand for some of them."""
     if counts:
         progress.say("left out: %d objects (%s)" % (sum(counts.values()), most_of(counts)))
     if stay:
-        progress.say("%d of them stay, as \"left out CLASS\", since several references lead through each to what is kept" % stay)
+        progress.say("joints in the trace, as \"left out CLASS\": %d, which stand for %d of them; several references lead through each to what is kept"
+                     % (stay, left.stand_for()))

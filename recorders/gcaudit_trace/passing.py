@@ -1,27 +1,53 @@
 """Left-out objects of a dump, and how references go on through them.
 
-Who held a left-out object holds what that one held. Where more than one reference, or a root, leads to a left-out
-object that leads on to kept ones, it stays in the trace, so that no reference stands there twice.
+Who held a left-out object holds what that one held. Left-out objects that lead to one another in a circle count as one
+(a strongly connected part). What leads on to one thing alone is passed over. What leads on to several things is a joint:
+all that lead on to the same things are one joint, and it stays in the trace where more than one reference, or a root, leads
+to it; else it is passed over too. So what is kept is reached exactly by what reached it before.
 
 An object is known by a number here, its code: that of a kept object is its number in the trace, from 1 on; those of
 left-out objects are -1, -2 and so on.
 """
 from array import array
 from itertools import accumulate, chain, repeat
-from typing import Callable, Dict, Iterable, Iterator, List, Optional, Tuple
+from typing import AbstractSet, Callable, Dict, Iterable, Iterator, List, NamedTuple, Sequence, Tuple
+
+_NOTHING = 0            # as a code: nothing that is kept is reached
+
+
+class Joint(NamedTuple):
+    """What stands for left-out objects that lead on to the same things."""
+    outs: Tuple[int, ...]   # codes of kept objects, and of other joints: -1 for the first, -2 and so on
+    place: int              # of the first of the left-out objects
+
+
+class Staying(NamedTuple):
+    """A joint that stays in the trace."""
+    place: int              # of one of the left-out objects that it stands for
+    count: int              # how many these are
+    contents: List[Tuple[str, int, bool]]   # label, number in the trace, and that it isn't weak
 
 
 class LeftOut:
-    """The left-out objects that may hold something. First all are added, then all references told, then it is settled."""
+    """The left-out objects that may hold something. First all are added, then all references told, then it is settled.
 
-    def __init__(self) -> None:
+    `label_of` answers by the place of a left-out object, of its reference and the code of what is held there the label of that
+    reference. `unshared` has the codes of kept objects of which the references count: they stay as many as they were.
+    """
+
+    def __init__(self, label_of: Callable[[int, int, int], str], unshared: AbstractSet[int] = frozenset()) -> None:
+        self._label_of = label_of
+        self._unshared = unshared
         # At the place of each object, counted from 0:
         self._counts = array("I")           # how many references it holds
-        self._references = array("I")       # how many lead to it from kept objects and roots, later from all that matter
-        self._useful = bytearray()          # 1 where a kept object is reached from it
+        self._led_to = array("I")           # how many lead to it from kept objects, and two for each root
         self._starts = array("Q")           # where its references begin among `_held`
+        self._resolved = array("i")         # what it leads to: a kept object, a joint, or nothing
+        self._passed = array("I")           # how many left-out objects lie before that, itself counted
         self._held = array("i")             # the codes of what all of them hold
-        self._stays: Dict[int, int] = {}    # the number in the trace of each that stays, by its code
+        self._joints: List[Joint] = []
+        self._joint_counts: List[int] = []  # how many objects each stands for
+        self._numbers: Dict[int, int] = {}  # the number in the trace of each joint that stays, by its code
 
     def __len__(self) -> int:
         return len(self._counts)
@@ -29,12 +55,12 @@ class LeftOut:
     def add(self) -> int:
         """There is one more. The answer is its code."""
         self._counts.append(0)
-        self._references.append(0)
+        self._led_to.append(0)
         return -len(self._counts)
 
     def take(self, references: Iterable[Tuple[int, int]]) -> None:
         """References by the codes of who holds and what is held. Left-out objects must come in the order in which they were added."""
-        counts, led_to, add = self._counts, self._references, self._held.append
+        counts, led_to, add = self._counts, self._led_to, self._held.append
         for holder, held in references:
             if holder < 0:
                 counts[-1 - holder] += 1
@@ -43,71 +69,102 @@ class LeftOut:
                 led_to[-1 - held] += 1
 
     def take_root(self, held: int) -> None:
-        """A root leads there; a left-out object that leads on stays."""
+        """A root leads there; a joint there stays."""
         if held < 0:
-            self._references[-1 - held] += 2
+            self._led_to[-1 - held] += 2
 
-    def settle(self, kept: int, tell: Callable[[], None]) -> List[Tuple[int, int]]:
-        """Decides which stay. The answer has the place and the number in the trace of each; they come after the kept ones.
+    def settle(self, kept: int, tell: Callable[[], None]) -> int:
+        """Decides which joints stay; they have the numbers in the trace after those of the kept objects. The answer is how many.
 
         This may take some seconds, and calls `tell` now and then.
         """
         self._starts = array("Q", accumulate(self._counts, initial=0))
-        self._find_useful(tell)
+        useful = self._find_useful(tell)
         tell()
-        led_to = self._references
-        for is_useful, held in zip(chain.from_iterable(map(repeat, self._useful, self._counts)), self._held):
-            if is_useful and held < 0:
-                led_to[-1 - held] += 1
-        places, place = [], self._useful.find(1)
-        while place >= 0:
-            if led_to[place] > 1:
-                places.append(place)
-            place = self._useful.find(1, place + 1)
-        stay = list(zip(places, range(kept + 1, kept + 1 + len(places))))
-        self._stays = {-1 - place: number for place, number in stay}
-        return stay
+        self._resolve(useful, tell)
+        tell()
+        led_to_joints = [0] * len(self._joints)
+        for code, count in zip(self._resolved, self._led_to):
+            if code < 0:
+                led_to_joints[-1 - code] += count
+        for place in range(len(self._joints) - 1, -1, -1):  # a joint comes behind all that it leads to
+            if led_to_joints[place]:
+                for out in self._joints[place].outs:
+                    if out < 0:
+                        led_to_joints[-1 - out] += 1
+        stay = [-1 - place for place, count in enumerate(led_to_joints) if count > 1]
+        self._numbers = {code: number for number, code in enumerate(stay, kept + 1)}
+        return len(stay)
 
-    def number_of(self, code: int) -> Optional[int]:
-        """The number in the trace of a kept object, or of a left-out one that stays."""
-        return code if code > 0 else self._stays.get(code)
+    def staying(self) -> Iterator[Staying]:
+        """The joints that stay, in the order of their numbers."""
+        for code in self._numbers:
+            joint = self._joints[-1 - code]
+            count = self._joint_counts[-1 - code]
+            yield Staying(joint.place, count, list(self._contents(joint, count == 1)))
 
-    def beyond(self, code: int) -> Iterator[Tuple[int, int]]:
-        """What a reference leads to: numbers in the trace, each with how many left-out objects were passed over.
+    def stand_for(self) -> int:
+        """How many left-out objects the joints that stay stand for."""
+        return sum(self._joint_counts[-1 - code] for code in self._numbers)
 
-        It ends, since what lies on a circle has two references and stays.
-        """
-        stays, work = self._stays, [(code, 0)]
+    def numbers_of(self, code: int) -> List[int]:
+        """The numbers in the trace of a kept object, or of what a left-out one leads to."""
+        return [number for _, number, _ in self.through(code, "")]
+
+    def through(self, code: int, label: str) -> Iterator[Tuple[str, int, bool]]:
+        """What a slot with this label leads to, as slots: label, number in the trace, and that it isn't weak."""
+        if code > 0:
+            yield label, code, False
+            return
+        place = -1 - code
+        to, passed = self._resolved[place], self._passed[place]
+        if to > 0:
+            yield self._label(label, passed, place, to), to, False
+        elif to in self._numbers:
+            yield self._label(label, passed, place, to), self._numbers[to], False
+        elif to < 0:
+            joint = self._joints[-1 - to]
+            for out in joint.outs:
+                for number, further in self._beyond(out):
+                    yield self._label(label, passed + 1 + further, joint.place, out), number, False
+
+    def _beyond(self, out: int) -> Iterator[Tuple[int, int]]:
+        """What a joint's reference leads to: numbers in the trace, each with how many joints were passed over."""
+        work = [(out, 0)]
         while work:
             code, passed = work.pop()
             if code > 0:
                 yield code, passed
-            elif code in stays:
-                yield stays[code], passed
-            elif self._useful[-1 - code]:
-                work += [(held, passed + 1) for held in reversed(self._held_by(-1 - code))]
+            elif code in self._numbers:
+                yield self._numbers[code], passed
+            else:
+                work += [(further, passed + 1) for further in reversed(self._joints[-1 - code].outs)]
 
-    def through(self, code: int, label: str) -> Iterator[Tuple[str, int, bool]]:
-        """What a slot with this label leads to, as slots: label, number in the trace, and that they aren't weak."""
-        for number, passed in self.beyond(code):
-            yield "%s (over %d left out)" % (label, passed) if passed else label, number, False
+    def _label(self, label: str, passed: int, place: int, to: int) -> str:
+        """The label of a slot with what was passed over: where it is one object, the label of its own reference."""
+        if not passed:
+            return label
+        inner = self._inner_label(place, to) if passed == 1 else ""
+        return "%s %s" % (label, inner) if inner else "%s (over %d left out)" % (label, passed)
 
-    def contents(self, place: int) -> Iterator[Tuple[int, int]]:
-        """What a left-out object that stays holds, in the same way."""
-        for held in self._held_by(place):
-            yield from self.beyond(held)
+    def _inner_label(self, place: int, to: int) -> str:
+        """The label under which a left-out object holds this itself; empty where it doesn't."""
+        for edge in range(self._starts[place], self._starts[place + 1]):
+            held = self._held[edge]
+            if held == to or (held < 0 and to < 0 and self._resolved[-1 - held] == to and not self._passed[-1 - held]):
+                return self._label_of(place, edge, held)
+        return ""
 
-    def _held_by(self, place: int) -> array:
-        return self._held[self._starts[place]:self._starts[place + 1]]
+    def _contents(self, joint: Joint, is_one: bool) -> Iterator[Tuple[str, int, bool]]:
+        for out in joint.outs:
+            label = self._inner_label(joint.place, out) if is_one else ""
+            for number, further in self._beyond(out):
+                yield ("%s (over %d left out)" % (label, further) if further and label else label or "(held)"), number, False
 
-    def _holders(self) -> Iterator[int]:
-        """The place of who holds each of `_held`."""
-        return chain.from_iterable(map(repeat, range(len(self._counts)), self._counts))
-
-    def _find_useful(self, tell: Callable[[], None]) -> None:
-        """Finds those from which a kept object is reached, backwards from those that hold one."""
+    def _find_useful(self, tell: Callable[[], None]) -> bytearray:
+        """Those from which a kept object is reached, found backwards from those that hold one."""
         size = len(self._counts)
-        self._useful = useful = bytearray(size)
+        useful = bytearray(size)
         # Of each left-out object its holders, from `starts` on. While they are filled in, from behind, `starts` goes down.
         starts = array("Q", bytes(8 * (size + 1)))
         for held in self._held:
@@ -117,7 +174,7 @@ class LeftOut:
         holders = array("I", bytes(4 * starts[size]))
         tell()
         work = []
-        for holder, held in zip(self._holders(), self._held):
+        for holder, held in zip(chain.from_iterable(map(repeat, range(size), self._counts)), self._held):
             if held < 0:
                 starts[-1 - held] = at = starts[-1 - held] - 1
                 holders[at] = holder
@@ -131,3 +188,93 @@ class LeftOut:
                 if not useful[holder]:
                     useful[holder] = 1
                     work.append(holder)
+        return useful
+
+    def _resolve(self, useful: bytearray, tell: Callable[[], None]) -> None:
+        """Finds what each leads to. A strongly connected part comes when all that it leads to is resolved (Tarjan)."""
+        size, starts, held = len(self._counts), self._starts, self._held
+        self._resolved, self._passed = array("i", bytes(4 * size)), array("I", bytes(4 * size))
+        seen, low, is_open = array("I", bytes(4 * size)), array("I", bytes(4 * size)), bytearray(size)
+        known: Dict[Tuple[int, ...], int] = {}
+        count, opened = 0, array("I")
+        for first in range(size):
+            if not useful[first] or seen[first]:
+                continue
+            work = [(first, starts[first])]
+            count += 1
+            seen[first] = low[first] = count
+            is_open[first] = 1
+            opened.append(first)
+            while work:
+                place, edge = work.pop()
+                end, least = starts[place + 1], low[place]
+                while edge < end:
+                    to = -1 - held[edge]
+                    edge += 1
+                    if to < 0 or not useful[to]:
+                        continue
+                    if not seen[to]:
+                        work.append((place, edge))
+                        count += 1
+                        seen[to] = low[to] = count
+                        is_open[to] = 1
+                        opened.append(to)
+                        work.append((to, starts[to]))
+                        if not count & 0xFFFF:
+                            tell()
+                        break
+                    if is_open[to] and seen[to] < least:
+                        least = seen[to]
+                else:
+                    low[place] = least
+                    if least == seen[place]:
+                        part = self._closed(opened, place)
+                        self._resolve_part(part, useful, is_open, known)
+                    elif work and least < low[work[-1][0]]:
+                        low[work[-1][0]] = least
+                    continue
+                low[place] = least
+
+    @staticmethod
+    def _closed(opened: array, first: int) -> Sequence[int]:
+        """Takes a whole part from what is open."""
+        part = [opened.pop()]
+        while part[-1] != first:
+            part.append(opened.pop())
+        return part
+
+    def _resolve_part(self, part: Sequence[int], useful: bytearray, is_open: bytearray, known: Dict[Tuple[int, ...], int]) -> None:
+        starts, held, resolved, unshared = self._starts, self._held, self._resolved, self._unshared
+        outs: Dict[int, int] = {}   # with a reference by which each is reached
+        again: List[int] = []       # references more to what must not be shared
+        for place in part:
+            for edge in range(starts[place], starts[place + 1]):
+                code = held[edge]
+                if code < 0:
+                    to = -1 - code
+                    if is_open[to] or not useful[to]:
+                        continue
+                    code = resolved[to]
+                elif code in unshared and code in outs:
+                    again.append(code)
+                outs.setdefault(code, edge)
+        is_exact = bool(unshared) and any(code in unshared for code in outs)
+        if len(outs) == 1 and not is_exact:
+            code, edge = next(iter(outs.items()))
+            passed = len(part) + (self._passed[-1 - held[edge]] if held[edge] < 0 else 0)
+        else:
+            code, passed = self._joint(tuple(sorted(outs)) + tuple(again), part, {} if is_exact else known), 0
+        for place in part:
+            is_open[place] = 0
+            resolved[place] = code
+            self._passed[place] = passed
+
+    def _joint(self, outs: Tuple[int, ...], part: Sequence[int], known: Dict[Tuple[int, ...], int]) -> int:
+        """The code of the joint that leads to these."""
+        code = known.get(outs)
+        if code is None:
+            self._joints.append(Joint(outs, part[-1]))
+            self._joint_counts.append(0)
+            code = known[outs] = -len(self._joints)
+        self._joint_counts[-1 - code] += len(part)
+        return code

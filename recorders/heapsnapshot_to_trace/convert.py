@@ -43,7 +43,10 @@ class Snapshot:
         self.codes = array("i")             # as in `left`; 0 where it is neither kept nor left out
         self.kept_nodes = array("I")
         self.left_nodes = array("I")
-        self.left = LeftOut()
+        self._unshared: Set[int] = set()    # the codes of kept nodes that are asserted unshared
+        self.left = LeftOut(self._label_of, self._unshared)
+        self._left_kinds = bytearray()      # of each reference that a left-out node holds
+        self._left_names = array("I")
         self.left_out: Dict[str, int] = {}  # how many nodes of each class are left out
         self.texts: Dict[int, str] = {}
         self.weak_lost = 0
@@ -177,6 +180,8 @@ class Snapshot:
             if keeps[key]:
                 self.kept_nodes.append(node)
                 codes[node] = len(self.kept_nodes)
+                if self._class_names[key] in self.wishes.unshared:
+                    self._unshared.add(codes[node])
             else:
                 self.left_nodes.append(node)
                 codes[node] = self.left.add()
@@ -210,37 +215,42 @@ class Snapshot:
             held = map(self.codes.__getitem__, map(floordiv, rows[to_at::width], repeat(node_width)))
             yield zip(held, holders, rows[kind_at::width], rows[name_at::width])   # `held` first, which ends with the rows
 
-    def pass_over(self) -> List[Tuple[int, int]]:
-        """Where nodes are left out: decides which of them stay. Their places among these, and their numbers in the trace."""
+    def pass_over(self) -> int:
+        """Where nodes are left out: decides what of them stays as joints, and how many these are."""
         if not len(self.left):
-            return []
+            return 0
         self.left.take(self._references())
         for kind, _, node in self._root_edges:
             if kind != self._weak:
                 self.left.take_root(self.codes[node])
         stay = self.left.settle(len(self.kept_nodes), self.progress.following)
-        self.wishes.need_room(len(self.kept_nodes) + len(stay), self._counts)
+        self.wishes.need_room(len(self.kept_nodes) + stay, self._counts)
         return stay
 
     def _references(self) -> Iterator[Tuple[int, int]]:
-        """By codes who holds what strongly, where one of them is left out."""
+        """By codes who holds what strongly, where one of them is left out. The kinds and names of what is left out are noted."""
         weak, class_edges = self._weak, self._class_edges
         from_all = bool(self.wishes.owners)
         for edges in self._edges("reading what is left out"):
             for held, holder, kind, name in edges:
                 if holder < 0:
                     if held and kind != weak and (kind, name) not in class_edges:
+                        self._left_kinds.append(kind)
+                        self._left_names.append(name)
                         yield holder, held
                 elif held < 0 and holder and kind != weak and not (from_all and (kind, name) in class_edges):
                     yield holder, held
 
-    def write(self, out: DumpTrace, stay: List[Tuple[int, int]]) -> None:
-        """Writes the kept nodes, and behind them the left-out ones that stay."""
+    def _label_of(self, place: int, edge: int, code: int) -> str:
+        """The label of a reference of a left-out node."""
+        return self._label(self._left_kinds[edge], self._left_names[edge])
+
+    def write(self, out: DumpTrace) -> None:
+        """Writes the kept nodes, and behind them the joints."""
         for held, node in zip(self._holdings(), self.kept_nodes):
             out.object(self.class_of(node), self.sizes[node], held)
-        for place, _ in stay:
-            held = [("(held)", to, False) for to, _ in self.left.contents(place)]
-            out.object("left out " + self.class_of(self.left_nodes[place]), 0, held)
+        for joint in self.left.staying():
+            out.joint(self.class_of(self.left_nodes[joint.place]), joint)
 
     def _holdings(self) -> Iterator[List[Tuple[str, int, bool]]]:
         """What each of the kept nodes holds, in their order: label, number in the trace, whether weakly."""
@@ -283,8 +293,8 @@ class Snapshot:
     def roots(self) -> Iterator[Tuple[str, int]]:
         """The roots by name, as far as they lead to what is in the trace."""
         for kind, name, node in self._root_edges:
-            number = self.left.number_of(self.codes[node])
-            if number is not None and kind != self._weak:
+            code = self.codes[node]
+            for number in self.left.numbers_of(code) if code and kind != self._weak else ():
                 yield self.texts.get(self.names[node], "") or self._label(kind, name), number
 
 
@@ -294,9 +304,9 @@ def convert(file: BinaryIO, asked: argparse.Namespace, progress: Progress, limit
     snapshot = Snapshot(file, asked.dump, wishes, progress)
     snapshot.read()
     stay = snapshot.pass_over()
-    say_left_out(snapshot.left_out, len(stay), progress)
+    say_left_out(snapshot.left_out, stay, snapshot.left, progress)
     with DumpTrace(asked.trace, wishes) as out:
-        snapshot.write(out, stay)
+        snapshot.write(out)
         if snapshot.weak_lost:
             progress.say("%d weak references to objects that are left out have no slot" % snapshot.weak_lost)
         if snapshot.to_classes:

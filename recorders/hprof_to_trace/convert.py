@@ -3,12 +3,13 @@ import argparse
 import struct
 from array import array
 from itertools import chain
-from typing import BinaryIO, Dict, Iterable, Iterator, List, NamedTuple, Tuple
+from typing import BinaryIO, Dict, Iterable, Iterator, List, NamedTuple, Set, Tuple
 
 from gcaudit_trace import TraceError
 from gcaudit_trace.dumps import DumpTrace, Progress, Wishes, say_left_out
 from gcaudit_trace.passing import LeftOut
 
+from .codes import Codes
 from .reader import (CLASS, INSTANCE, OBJECT, OBJECT_ARRAY, PRIMITIVE_ARRAY, PRIMITIVES, ROOTS, SIZES, ClassDump, Dump, Root)
 
 _REFERENCE = "java.lang.ref.Reference"
@@ -31,9 +32,10 @@ class Heap:
         self.wishes = wishes
         self.progress = progress
         self.classes: Dict[int, ClassDump] = {}
-        self.codes: Dict[int, int] = {}         # of each kept object and of left-out ones that may hold something, by identifier
+        self.codes = Codes()                    # of each kept object and of left-out ones that may hold something, by identifier
         self.kept_places = array("Q")           # where the record of each kept object stands
-        self.left = LeftOut()
+        self._unshared: Set[int] = set()        # the codes of kept objects that are asserted unshared
+        self.left = LeftOut(self._label_of, self._unshared)
         self.left_places = array("Q")
         self.left_out: Dict[str, int] = {}      # how many objects of each class are left out
         self.roots: List[Root] = []
@@ -41,6 +43,7 @@ class Heap:
         self._layouts: Dict[int, Layout] = {}
         self._keeps: Dict[int, bool] = {}
         self._may_hold_of: Dict[int, bool] = {}
+        self._unshared_classes: Set[int] = set()
         self._id = struct.Struct(">" + dump.id_code)
         self._instance = struct.Struct(">%sI%sI" % (dump.id_code, dump.id_code))
         self._primitive = struct.Struct(">%sIIB" % dump.id_code)
@@ -51,6 +54,7 @@ class Heap:
     def find_objects(self) -> None:
         """Numbers the kept objects, and notes the roots and the classes."""
         codes, places, keeps, keeps_class = self.codes, self.kept_places, self._keeps, self._keeps_class
+        code_of, unshared_classes = codes.get, self._unshared_classes
         counts: Dict[int, int] = {}
         primitive: Dict[int, int] = {}
         left_classes: Dict[int, int] = {}
@@ -67,7 +71,7 @@ class Heap:
                 continue
             if not number:
                 raise TraceError("%s is damaged: an object has the identifier 0" % self.dump.name)
-            if number in codes:
+            if code_of(number):
                 continue    # the same record again
             if tag == CLASS:
                 self.classes[number] = self.dump.class_dump(place)
@@ -75,6 +79,8 @@ class Heap:
                 places.append(place)
                 codes[number] = len(places)
                 counts[class_id] = counts.get(class_id, 0) + 1
+                if class_id in unshared_classes:
+                    self._unshared.add(len(places))
             else:
                 left_classes[class_id] = left_classes.get(class_id, 0) + 1
                 if tag != INSTANCE or self._may_hold(class_id):
@@ -102,8 +108,16 @@ class Heap:
         return found
 
     def _keeps_class(self, class_id: int) -> bool:
-        found = self._keeps[class_id] = self.wishes.keeps(self.dump.class_name(class_id))
+        name = self.dump.class_name(class_id)
+        if name in self.wishes.unshared:
+            self._unshared_classes.add(class_id)
+        found = self._keeps[class_id] = self.wishes.keeps(name)
         return found
+
+    def _label_of(self, place: int, edge: int, code: int) -> str:
+        """The label under which a left-out object holds another."""
+        code_of = self.codes.get
+        return next((label for label, to, weak in self.holdings(self.left_places[place]) if not weak and code_of(to) == code), "")
 
     # ---- what an object holds
 
@@ -169,18 +183,18 @@ class Heap:
 
     # ---- where something is left out: how references go on through it
 
-    def pass_over(self) -> List[Tuple[int, int]]:
-        """Decides which of the left-out objects stay: their places among these, and their numbers in the trace."""
+    def pass_over(self) -> int:
+        """Decides what of the left-out objects stays as joints, and how many these are."""
         left, kept = self.left, len(self.kept_places)
         if not len(left):
-            return []
+            return 0
         holders = range(-1, -1 - len(left), -1)
         left.take(self._references(zip(holders, self._in_steps("reading what is left out", self.left_places))))
         left.take(self._references(zip(range(1, kept + 1), self._in_steps("reading what is kept", self.kept_places))))
         for root in self.roots:
-            left.take_root(self.codes.get(root.target, 0))
+            left.take_root(self.codes.get(root.target))
         stay = left.settle(kept, self.progress.following)
-        self.wishes.need_room(kept + len(stay), self._named_counts)
+        self.wishes.need_room(kept + stay, self._named_counts)
         return stay
 
     def _references(self, holders: Iterable[Tuple[int, int]]) -> Iterator[Tuple[int, int]]:
@@ -191,21 +205,21 @@ class Heap:
                 yield holder, held
 
     def _in_steps(self, step: str, places: array) -> Iterator[int]:
-        """The places, with progress told."""
+        """The places, with progress told; what was read of the file needs no memory any longer."""
         for count, place in enumerate(places):
             yield place
-            if not count & 0x3FF:
+            if not count & 0xFFFF:
                 self.progress.at(step, place, self.dump.size)
+                self.dump.forget_read(place)
 
     # ---- the trace
 
-    def write(self, out: DumpTrace, stay: List[Tuple[int, int]]) -> None:
-        """Writes the kept objects, and behind them the left-out ones that stay."""
+    def write(self, out: DumpTrace) -> None:
+        """Writes the kept objects, and behind them the joints."""
         for place in self._in_steps("writing the trace", self.kept_places):
             out.object(self._class_at(place), self._size_at(place), self._resolved(self.holdings(place)))
-        for place, _ in stay:
-            held = [("(held)", to, False) for to, _ in self.left.contents(place)]
-            out.object("left out " + self._class_at(self.left_places[place]), 0, held)
+        for joint in self.left.staying():
+            out.joint(self._class_at(self.left_places[joint.place]), joint)
 
     def _class_at(self, place: int) -> str:
         """The class of the object whose record stands there; of a class, the word and its name."""
@@ -232,9 +246,9 @@ class Heap:
 
     def _resolved(self, held: List[Tuple[str, int, bool]]) -> List[Tuple[str, int, bool]]:
         """What it holds by numbers in the trace: what is left out is passed over."""
-        found = []
+        found, code_of = [], self.codes.get
         for label, to, weak in held:
-            code = self.codes.get(to, 0)
+            code = code_of(to)
             if code > 0:
                 found.append((label, code, weak))
             elif weak:
@@ -247,8 +261,8 @@ class Heap:
         """The roots by kind and name, as far as they lead to what is in the trace."""
         stack_of = {root.thread: root.frame for root in self.roots if ROOTS[root.kind][0] == "thread"}
         for root in self.roots:
-            number = self.left.number_of(self.codes.get(root.target, 0))
-            if number is not None:
+            code = self.codes.get(root.target)
+            for number in self.left.numbers_of(code) if code else ():
                 yield self._root_name(root, stack_of), number
 
     def _root_name(self, root: Root, stack_of: Dict[int, int]) -> str:
@@ -269,9 +283,9 @@ def convert(file: BinaryIO, asked: argparse.Namespace, progress: Progress, limit
     heap = Heap(Dump(file, asked.dump, progress), wishes, progress)
     heap.find_objects()
     stay = heap.pass_over()
-    say_left_out(heap.left_out, len(stay), progress)
+    say_left_out(heap.left_out, stay, heap.left, progress)
     with DumpTrace(asked.trace, wishes) as out:
-        heap.write(out, stay)
+        heap.write(out)
         if heap.weak_lost:
             progress.say("%d weak references to objects that are left out have no slot" % heap.weak_lost)
         out.finish(heap.named_roots(), progress)

@@ -174,6 +174,12 @@ class Dump:
                 count += 1
                 if not count & 0xFFFF:
                     self._progress.at(step, position, self.size)
+                    self.forget_read(position)
+
+    def forget_read(self, position: int) -> None:
+        """What stands before a position isn't read again soon: the file need not lie in memory up to there."""
+        if hasattr(mmap, "MADV_DONTNEED"):
+            self.data.madvise(mmap.MADV_DONTNEED, 0, position - position % mmap.PAGESIZE)
 
     def class_dump(self, place: int) -> ClassDump:
         """The class whose record stands there."""

@@ -19,7 +19,6 @@ from tests.support import PROGRAM, PROGRAMS, RECORDERS, InFolder, events, needs_
 
 from gcaudit_trace import audit
 from gcaudit_trace.command import Progress
-from gcaudit_trace.passing import LeftOut
 from heapsnapshot_to_trace.__main__ import main as heapsnapshot_to_trace
 from hprof_to_trace.__main__ import main as hprof_to_trace
 
@@ -94,7 +93,7 @@ class DumpTests:
         for dump, violations in ((self.leak, 4), (self.clean, 0)):
             trace, said = self.trace_of(dump, *self.assertions(), *only)
             self.assertIn("end gcs 1 violations %d" % violations, audit(trace, PROGRAM).report)
-            self.assertIn("of them stay", said)
+            self.assertRegex(said, r'joints in the trace, as "left out CLASS": \d+, which stand for \d+ of them; ')
 
     def test_all_is_in_the_trace(self):
         trace, said = self.trace_of(self.clean)
@@ -429,28 +428,6 @@ class WrittenDumps(InFolder):
         status, said = run(heapsnapshot_to_trace, self.path("dump"), self.path("none.jsonl"))
         self.assertEqual((status, os.listdir(self.folder)), (2, ["dump"]), said)
         self.assertRegex(said, r"^heapsnapshot_to_trace: [^\n]+\n$")
-
-    def test_circles_of_left_out_objects(self):
-        left = LeftOut()
-        self.assertEqual([left.add() for _ in range(5)], [-1, -2, -3, -4, -5])
-        # 1 and 2 are kept. -1 and -2 hold each other; -3 and -4 too, and lead to nothing that is kept.
-        left.take([(-1, -2), (-2, -1), (-2, 2), (-3, -4), (-4, -3), (-5, 1), (-5, -1)])
-        left.take([(1, -1), (1, -3), (1, -5)])
-        self.assertEqual(left.settle(2, lambda: None), [(0, 3)])
-        self.assertEqual(list(left.beyond(-1)), [(3, 0)])
-        self.assertEqual(list(left.contents(0)), [(3, 1), (2, 1)])
-        self.assertEqual(list(left.beyond(-3)), [])
-        self.assertEqual(list(left.through(-5, ".x")), [(".x (over 1 left out)", 1, False), (".x (over 1 left out)", 3, False)])
-        self.assertEqual([left.number_of(code) for code in (2, -1, -2, -3, 0)], [2, 3, None, None, None])
-
-    def test_a_root_keeps_what_is_left_out(self):
-        for leads_on, stay in ((True, [(0, 2)]), (False, [])):
-            left = LeftOut()
-            held = left.add()
-            left.take([(held, 1)] if leads_on else [])
-            left.take_root(held)
-            left.take_root(1)
-            self.assertEqual(left.settle(1, lambda: None), stay)
 
 
 class ProgressLines(unittest.TestCase):

@@ -1,0 +1,31 @@
+"""A table from addresses to codes that takes little memory where addresses lie close to each other."""
+from array import array
+from typing import Dict
+
+_PAGE_BITS = 16         # a page has the addresses that differ in these bits alone
+_STEP_BITS = 3          # objects stand at multiples of eight
+_STEPS = 1 << (_PAGE_BITS - _STEP_BITS)
+_NOTHING = bytes(4 * _STEPS)
+
+
+class Codes:
+    """The code of each object by its identifier; 0 where it has none."""
+
+    def __init__(self) -> None:
+        self._pages: Dict[int, array] = {}
+        self._others: Dict[int, int] = {}   # of identifiers that are no such address
+
+    def get(self, number: int) -> int:
+        if number & 7:
+            return self._others.get(number, 0)
+        page = self._pages.get(number >> _PAGE_BITS)
+        return 0 if page is None else page[number >> _STEP_BITS & _STEPS - 1]
+
+    def __setitem__(self, number: int, code: int) -> None:
+        if number & 7:
+            self._others[number] = code
+            return
+        page = self._pages.get(number >> _PAGE_BITS)
+        if page is None:
+            page = self._pages[number >> _PAGE_BITS] = array("i", _NOTHING)
+        page[number >> _STEP_BITS & _STEPS - 1] = code
