@@ -11,6 +11,7 @@ from gcaudit_trace.passing import LeftOut
 
 from .codes import Codes
 from .reader import (CLASS, INSTANCE, OBJECT, OBJECT_ARRAY, PRIMITIVE_ARRAY, PRIMITIVES, ROOTS, SIZES, ClassDump, Dump, Root)
+from .threads import thread_names
 
 _REFERENCE = "java.lang.ref.Reference"
 _HOLD_PRIMITIVES_ALONE = frozenset({"java.lang.String"})
@@ -260,20 +261,30 @@ class Heap:
     def named_roots(self) -> Iterator[Tuple[str, int]]:
         """The roots by kind and name, as far as they lead to what is in the trace."""
         stack_of = {root.thread: root.frame for root in self.roots if ROOTS[root.kind][0] == "thread"}
+        names = thread_names(self.dump, self.classes, dict(self._thread_texts()))
         for root in self.roots:
             code = self.codes.get(root.target)
             for number in self.left.numbers_of(code) if code else ():
-                yield self._root_name(root, stack_of), number
+                yield self._root_name(root, stack_of, names), number
 
-    def _root_name(self, root: Root, stack_of: Dict[int, int]) -> str:
+    def _thread_texts(self) -> Iterator[Tuple[int, int]]:
+        """The serial number of each thread, and the identifier of the text that is its name."""
+        for root in self.roots:
+            code = self.codes.get(root.target)
+            if code and ROOTS[root.kind][0] == "thread":
+                place = self.kept_places[code - 1] if code > 0 else self.left_places[-1 - code]
+                yield from ((root.thread, to) for label, to, _ in self.holdings(place) if label == ".name")
+
+    def _root_name(self, root: Root, stack_of: Dict[int, int], names: Dict[int, str]) -> str:
         kind, _, numbers = ROOTS[root.kind]
         if kind == "class":
             return "class " + self.dump.class_name(root.target)
+        thread = names.get(root.thread, str(root.thread))
         if kind == "thread":
-            return "thread %d" % root.thread
+            return "thread " + thread
         if numbers:
             frame = " " + self.dump.frame_name(stack_of.get(root.thread, 0), root.frame) if numbers == 2 and root.frame < 1 << 31 else ""
-            return "%s%s (thread %d)" % (kind, frame, root.thread)
+            return "%s%s (thread %s)" % (kind, frame, thread)
         return kind
 
 

@@ -207,8 +207,10 @@ class Java(DumpTests, InFolder):
         found = events(trace)
         roots = [e["name"] for e in found if e["op"] == "root"]
         self.assertTrue(any(name.startswith("class java.lang.") for name in roots), roots[:20])
-        self.assertTrue(any(name.startswith("frame ") and "SessionLeak.main" in name for name in roots), roots)
-        self.assertTrue(any(name.startswith("thread ") for name in roots), roots)
+        self.assertTrue(any(re.match(r"frame SessionLeak\.main:\d+ \(thread main\)", name) for name in roots), roots)
+        self.assertLessEqual({"thread main", "thread Finalizer", "thread Signal Dispatcher", "thread d\u00e9p\u00f4t", "thread \u5009\u5eab"}, set(roots))
+        trace, _ = self.trace_of(self.leak, "--only", "SessionLeak")
+        self.assertIn("thread main", [e["name"] for e in events(trace) if e["op"] == "root"])
         ended = next(e["id"] for e in found if e["op"] == "alloc" and e["type"] == "SessionLeak$EndedSession")
         weak = {(e["at"], e["slot"]) for e in found if e["op"] == "set-weak" and e["weak"]}
         held = [(e["at"], e["slot"]) in weak for e in found if e["op"] == "store" and e["to"] == ended]

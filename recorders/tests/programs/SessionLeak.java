@@ -38,6 +38,19 @@ public class SessionLeak {
 
     static class Node { Node left, right; }
 
+    static class Sleeper extends Thread {
+        Sleeper(String name) { super(name); }
+
+        @Override
+        public void run() {
+            try {
+                sleep(Long.MAX_VALUE);
+            } catch (InterruptedException end) {
+                return;
+            }
+        }
+    }
+
     static final EventBus BUS = new EventBus();
     static final Map<String, Session> SESSIONS = new HashMap<>();
     static final LinkedList<Object> RECENT = new LinkedList<>();
@@ -78,6 +91,11 @@ public class SessionLeak {
             for (int at = 0; at < count; at++) {
                 bulk[at] = new Object[] {"text" + at, new int[4], new ArrayList<>(List.of(at))};
             }
+        }
+        for (String name : new String[] {"d\u00e9p\u00f4t", "\u5009\u5eab"}) {
+            Thread thread = new Sleeper(name);
+            thread.setDaemon(true);
+            thread.start();
         }
         System.out.println("ready");
         System.in.read();
