@@ -9,10 +9,11 @@ An object is known by a number here, its code: that of a kept object is its numb
 left-out objects are -1, -2 and so on.
 """
 from array import array
-from itertools import accumulate, chain, repeat
+from itertools import accumulate
 from typing import AbstractSet, Callable, Dict, Iterable, Iterator, List, NamedTuple, Sequence, Tuple
 
 _NOTHING = 0            # as a code: nothing that is kept is reached
+_CLOSED = 0xFFFFFFFF    # in place of the number in which an object was met
 
 
 class Joint(NamedTuple):
@@ -58,8 +59,13 @@ class LeftOut:
         self._led_to.append(0)
         return -len(self._counts)
 
+    def hold(self, place: int, codes: Sequence[int]) -> None:
+        """What the left-out object at this place holds. They come in the order in which they were added."""
+        self._counts[place] = len(codes)
+        self._held.extend(codes)
+
     def take(self, references: Iterable[Tuple[int, int]]) -> None:
-        """References by the codes of who holds and what is held. Left-out objects must come in the order in which they were added."""
+        """References by the codes of who holds and what is held; left-out holders in the order in which they were added."""
         counts, led_to, add = self._counts, self._led_to, self._held.append
         for holder, held in references:
             if holder < 0:
@@ -79,10 +85,7 @@ class LeftOut:
         This may take some seconds, and calls `tell` now and then.
         """
         self._starts = array("Q", accumulate(self._counts, initial=0))
-        useful = self._find_useful(tell)
-        tell()
-        self._resolve(useful, tell)
-        tell()
+        self._resolve(tell)
         led_to_joints = [0] * len(self._joints)
         for code, count in zip(self._resolved, self._led_to):
             if code < 0:
@@ -161,75 +164,45 @@ class LeftOut:
             for number, further in self._beyond(out):
                 yield ("%s (over %d left out)" % (label, further) if further and label else label or "(held)"), number, False
 
-    def _find_useful(self, tell: Callable[[], None]) -> bytearray:
-        """Those from which a kept object is reached, found backwards from those that hold one."""
-        size = len(self._counts)
-        useful = bytearray(size)
-        # Of each left-out object its holders, from `starts` on. While they are filled in, from behind, `starts` goes down.
-        starts = array("Q", bytes(8 * (size + 1)))
-        for held in self._held:
-            if held < 0:
-                starts[-1 - held] += 1
-        starts = array("Q", accumulate(starts))
-        holders = array("I", bytes(4 * starts[size]))
-        tell()
-        work = []
-        for holder, held in zip(chain.from_iterable(map(repeat, range(size), self._counts)), self._held):
-            if held < 0:
-                starts[-1 - held] = at = starts[-1 - held] - 1
-                holders[at] = holder
-            elif not useful[holder]:
-                useful[holder] = 1
-                work.append(holder)
-        tell()
-        while work:
-            place = work.pop()
-            for holder in holders[starts[place]:starts[place + 1]]:
-                if not useful[holder]:
-                    useful[holder] = 1
-                    work.append(holder)
-        return useful
-
-    def _resolve(self, useful: bytearray, tell: Callable[[], None]) -> None:
+    def _resolve(self, tell: Callable[[], None]) -> None:
         """Finds what each leads to. A strongly connected part comes when all that it leads to is resolved (Tarjan)."""
         size, starts, held = len(self._counts), self._starts, self._held
         self._resolved, self._passed = array("i", bytes(4 * size)), array("I", bytes(4 * size))
-        seen, low, is_open = array("I", bytes(4 * size)), array("I", bytes(4 * size)), bytearray(size)
+        seen, low = array("I", bytes(4 * size)), array("I", bytes(4 * size))
         known: Dict[Tuple[int, ...], int] = {}
         count, opened = 0, array("I")
         for first in range(size):
-            if not useful[first] or seen[first]:
+            if seen[first]:
                 continue
             work = [(first, starts[first])]
             count += 1
             seen[first] = low[first] = count
-            is_open[first] = 1
             opened.append(first)
             while work:
                 place, edge = work.pop()
                 end, least = starts[place + 1], low[place]
                 while edge < end:
-                    to = -1 - held[edge]
+                    code = held[edge]
                     edge += 1
-                    if to < 0 or not useful[to]:
+                    if code > 0:
                         continue
-                    if not seen[to]:
+                    to = ~code
+                    number = seen[to]
+                    if not number:
                         work.append((place, edge))
                         count += 1
                         seen[to] = low[to] = count
-                        is_open[to] = 1
                         opened.append(to)
                         work.append((to, starts[to]))
                         if not count & 0xFFFF:
                             tell()
                         break
-                    if is_open[to] and seen[to] < least:
-                        least = seen[to]
+                    if number < least:
+                        least = number
                 else:
                     low[place] = least
                     if least == seen[place]:
-                        part = self._closed(opened, place)
-                        self._resolve_part(part, useful, is_open, known)
+                        self._resolve_part(self._closed(opened, place), seen, known)
                     elif work and least < low[work[-1][0]]:
                         low[work[-1][0]] = least
                     continue
@@ -243,7 +216,7 @@ class LeftOut:
             part.append(opened.pop())
         return part
 
-    def _resolve_part(self, part: Sequence[int], useful: bytearray, is_open: bytearray, known: Dict[Tuple[int, ...], int]) -> None:
+    def _resolve_part(self, part: Sequence[int], seen: array, known: Dict[Tuple[int, ...], int]) -> None:
         starts, held, resolved, unshared = self._starts, self._held, self._resolved, self._unshared
         outs: Dict[int, int] = {}   # with a reference by which each is reached
         again: List[int] = []       # references more to what must not be shared
@@ -251,21 +224,24 @@ class LeftOut:
             for edge in range(starts[place], starts[place + 1]):
                 code = held[edge]
                 if code < 0:
-                    to = -1 - code
-                    if is_open[to] or not useful[to]:
+                    code = resolved[~code]  # nothing too, where it is of the part itself
+                    if not code:
                         continue
-                    code = resolved[to]
                 elif code in unshared and code in outs:
                     again.append(code)
-                outs.setdefault(code, edge)
+                if code not in outs:
+                    outs[code] = edge
         is_exact = bool(unshared) and any(code in unshared for code in outs)
-        if len(outs) == 1 and not is_exact:
+        passed = 0
+        if not outs:
+            code = _NOTHING
+        elif len(outs) == 1 and not is_exact:
             code, edge = next(iter(outs.items()))
-            passed = len(part) + (self._passed[-1 - held[edge]] if held[edge] < 0 else 0)
+            passed = len(part) + (self._passed[~held[edge]] if held[edge] < 0 else 0)
         else:
-            code, passed = self._joint(tuple(sorted(outs)) + tuple(again), part, {} if is_exact else known), 0
+            code = self._joint(tuple(sorted(outs)) + tuple(again), part, {} if is_exact else known)
         for place in part:
-            is_open[place] = 0
+            seen[place] = _CLOSED
             resolved[place] = code
             self._passed[place] = passed
 

@@ -1,6 +1,6 @@
 """A table from addresses to codes that takes little memory where addresses lie close to each other."""
 from array import array
-from typing import Dict
+from typing import Dict, Iterable, List
 
 _PAGE_BITS = 16         # a page has the addresses that differ in these bits alone
 _STEP_BITS = 3          # objects stand at multiples of eight
@@ -13,6 +13,7 @@ class Codes:
 
     def __init__(self) -> None:
         self._pages: Dict[int, array] = {}
+        self._nothing = array("i", _NOTHING)
         self._others: Dict[int, int] = {}   # of identifiers that are no such address
 
     def get(self, number: int) -> int:
@@ -20,6 +21,13 @@ class Codes:
             return self._others.get(number, 0)
         page = self._pages.get(number >> _PAGE_BITS)
         return 0 if page is None else page[number >> _STEP_BITS & _STEPS - 1]
+
+    def many(self, numbers: Iterable[int]) -> List[int]:
+        """The codes of these, without those that have none."""
+        if self._others:
+            return list(filter(None, map(self.get, numbers)))
+        page_of, nothing = self._pages.get, self._nothing
+        return [code for code in [page_of(number >> _PAGE_BITS, nothing)[number >> _STEP_BITS & _STEPS - 1] for number in numbers] if code]
 
     def __setitem__(self, number: int, code: int) -> None:
         if number & 7:

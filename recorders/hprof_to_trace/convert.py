@@ -134,15 +134,25 @@ class Heap:
             return []
         return [(label, to, False) for label, to in self.classes[self._id.unpack_from(data, place)[0]].held]
 
-    def references(self, place: int) -> Iterable[int]:
-        """The identifiers of what it holds strongly; 0 may be among them."""
-        tag = self.dump.data[place - 1]
-        if tag == INSTANCE:
-            layout, found = self._fields(place)
-            return [to for to, weak in zip(found, layout.weak) if not weak] if layout.has_weak else found
-        if tag == OBJECT_ARRAY:
-            return self._elements(place)
-        return [to for _, to in self.classes[self._id.unpack_from(self.dump.data, place)[0]].held]
+    def _held_by(self, step: str, places: array) -> Iterator[List[int]]:
+        """For each of the objects whose records stand there the codes of what it holds strongly."""
+        data, layouts, many = self.dump.data, self._layouts, self.codes.many
+        of_class, size = struct.Struct(">%sI" % self.dump.id_code).unpack_from, self._instance.size
+        to_class = self.dump.id_size + 4
+        for place in self._in_steps(step, places):
+            if data[place - 1] == INSTANCE:
+                class_id, length = of_class(data, place + to_class)
+                layout = layouts.get(class_id)
+                if layout is None or layout.unpack.size > length:
+                    layout = self._fields(place)[0]     # refuses one that is too short
+                found = layout.unpack.unpack_from(data, place + size)
+                if layout.has_weak:
+                    found = [to for to, weak in zip(found, layout.weak) if not weak]
+                yield many(found)
+            elif data[place - 1] == OBJECT_ARRAY:
+                yield many(self._elements(place))
+            else:
+                yield many([to for _, to in self.classes[self._id.unpack_from(data, place)[0]].held])
 
     def _fields(self, place: int) -> Tuple[Layout, Tuple[int, ...]]:
         _, _, class_id, size = self._instance.unpack_from(self.dump.data, place)
@@ -189,21 +199,15 @@ class Heap:
         left, kept = self.left, len(self.kept_places)
         if not len(left):
             return 0
-        holders = range(-1, -1 - len(left), -1)
-        left.take(self._references(zip(holders, self._in_steps("reading what is left out", self.left_places))))
-        left.take(self._references(zip(range(1, kept + 1), self._in_steps("reading what is kept", self.kept_places))))
+        for place, codes in enumerate(self._held_by("reading what is left out", self.left_places)):
+            left.hold(place, codes)
+        for codes in self._held_by("reading what is kept", self.kept_places):
+            left.take((1, code) for code in codes)
         for root in self.roots:
             left.take_root(self.codes.get(root.target))
         stay = left.settle(kept, self.progress.following)
         self.wishes.need_room(kept + stay, self._named_counts)
         return stay
-
-    def _references(self, holders: Iterable[Tuple[int, int]]) -> Iterator[Tuple[int, int]]:
-        """By codes who holds what strongly, for objects of which the code and the place are told."""
-        code_of = self.codes.get
-        for holder, place in holders:
-            for held in filter(None, map(code_of, self.references(place))):
-                yield holder, held
 
     def _in_steps(self, step: str, places: array) -> Iterator[int]:
         """The places, with progress told; what was read of the file needs no memory any longer."""

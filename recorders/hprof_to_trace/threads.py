@@ -9,6 +9,7 @@ _STRING = "java.lang.String"
 _CHAR, _BYTE = 5, 8
 _LONGEST_NAME = 200
 _MOST_THREADS = 2000
+_PIECE = 1 << 24
 
 
 def thread_names(dump: Dump, classes: Dict[int, ClassDump], threads: Dict[int, int]) -> Dict[int, str]:
@@ -35,7 +36,12 @@ def _records(dump: Dump, tag: int, numbers: Iterable[int]) -> List[Tuple[int, in
     if not wanted:
         return []
     pattern = re.compile(re.escape(bytes([tag])) + b"(?:" + b"|".join(map(re.escape, sorted(wanted))) + b")", re.DOTALL)
-    return [(struct.unpack_from(">" + dump.id_code, dump.data, found.start() + 1)[0], found.start() + 1) for found in pattern.finditer(dump.data)]
+    places = []
+    for start in range(0, dump.size, _PIECE):
+        end = start + _PIECE + dump.id_size     # one that begins in this piece
+        places += [found.start() + 1 for found in pattern.finditer(dump.data, start, end)]
+        dump.forget_read(start)
+    return [(struct.unpack_from(">" + dump.id_code, dump.data, place)[0], place) for place in places]
 
 
 def _text_fields(dump: Dump, classes: Dict[int, ClassDump], place: int) -> Optional[Tuple[int, int]]:
