@@ -6,6 +6,7 @@ import sys
 import time
 from typing import Any, Callable, Iterator, List, Optional
 
+from .names import printable
 from .writer import TraceError, WholeFile
 
 REFUSED = 2
@@ -32,7 +33,7 @@ class Progress:
         self.at("following references through what is left out")
 
     def say(self, text: str) -> None:
-        print("%s: %s" % (self._program, text), file=sys.stderr, flush=True)
+        print("%s: %s" % (self._program, printable(text)), file=sys.stderr, flush=True)
 
 
 def run(program: str, work: Callable[[], int], about: str = "") -> int:
@@ -67,7 +68,7 @@ def _refused(program: str, why: str) -> int:
 
 def _say(program: str, text: str) -> None:
     with contextlib.suppress(OSError):
-        print("%s: %s" % (program, text), file=sys.stderr, flush=True)
+        print("%s: %s" % (program, printable(text)), file=sys.stderr, flush=True)
 
 
 def _drop_output() -> None:

@@ -6,7 +6,7 @@ from typing import Dict, List, NamedTuple, Sequence, Tuple
 from . import command
 from .dominators import kept_alone, kept_by_type
 from .heap import Graph
-from .paths import Holder, Tree
+from .paths import Holder, Tree, is_between
 
 _PROGRAM = "gcaudit-growth"
 _SHOWN = 20
@@ -37,7 +37,8 @@ class Growth:
     def grown(self) -> List[Grown]:
         """What is more in the last heap than in the first and never became less.
 
-        What is held by objects that don't grow comes first: the others grow since their holders do. Then most objects first.
+        What is held by objects that don't grow comes first: the others grow since their holders do. Lists and what else only
+        stands in between comes behind the program's own objects. Then most objects first.
         """
         found = []
         steps = max(len(self._heaps) - 1, 1)
@@ -47,7 +48,8 @@ class Growth:
             if numbers[-1] > numbers[0] and all(before <= after for before, after in zip(numbers, numbers[1:])):
                 found.append(Grown(key[0], key[1], numbers, (numbers[-1] - numbers[0]) / steps, (counts[-1][1] - counts[0][1]) / steps))
         grown_types = {one.type_name for one in found}
-        return sorted(found, key=lambda one: (one.holder.type_name in grown_types, -one.more, -one.more_bytes, one.type_name, one.holder))
+        return sorted(found, key=lambda one: (one.holder.type_name in grown_types, is_between(one.type_name), -one.more, -one.more_bytes,
+                                              one.type_name, one.holder))
 
     def __str__(self) -> str:
         found = self.grown()

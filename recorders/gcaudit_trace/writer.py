@@ -120,7 +120,7 @@ class TraceWriter:
     def _quote(self, text: str) -> str:
         quoted = self._quoted.get(text)
         if quoted is None:
-            quoted = json.dumps(text)
+            quoted = json.dumps(text.encode("utf-8", "backslashreplace").decode("utf-8"))   # a lone surrogate is no JSON for gcaudit
             if len(self._quoted) < 200000:
                 self._quoted[text] = quoted
         return quoted

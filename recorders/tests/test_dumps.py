@@ -4,6 +4,7 @@ import gzip
 import io
 import json
 import os
+import random
 import re
 import resource
 import shutil
@@ -34,10 +35,10 @@ def run(command, *words):
     return status, said.getvalue()
 
 
-def dump_java(folder, name, *words):
-    """Runs SessionLeak in a JVM of its own, and dumps its heap."""
+def dump_java(folder, name, *words, main="SessionLeak"):
+    """Runs a program in a JVM of its own, and dumps its heap."""
     dump = os.path.join(folder, name + ".hprof")
-    process = subprocess.Popen(["java", "-Xmx256m", "-XX:+UseSerialGC", "-cp", folder, "SessionLeak", *words], stdin=subprocess.PIPE, stdout=subprocess.PIPE)
+    process = subprocess.Popen(["java", "-Xmx512m", "-XX:+UseSerialGC", "-cp", folder, main, *words], stdin=subprocess.PIPE, stdout=subprocess.PIPE)
     try:
         if process.stdout.readline().strip() != b"ready":
             raise AssertionError("the program did not start")
@@ -259,6 +260,58 @@ class Node(DumpTests, InFolder):
         self.assertTrue([e for e in found if e["op"] == "store" and e["to"] == ended and (e["at"], e["slot"]) in weak])
 
 
+class ManyLeaks(InFolder):
+    """Each way to hold an object too long is found, and no object that was let go."""
+
+    def found(self, convert, dump, names):
+        words = [word for name in names for word in ("--dead", name)]
+        status, said = run(convert, dump, self.path("trace.jsonl"), *words)
+        self.assertEqual(status, 0, said)
+        self.done = audit(self.path("trace.jsonl"), PROGRAM)
+        return sorted(verdict.type_name for verdict in self.done.verdicts)
+
+    @needs_program
+    @needs_commands("java", "javac", "jcmd")
+    def test_twelve_on_a_jvm(self):
+        with open(os.path.join(PROGRAMS, "Leaks.java")) as file:
+            names = ["Leaks$" + name for name in re.findall(r"static class (\w+) extends (?:Held|OfInnerClass) ", file.read())]
+        leaked = [name for name in names if "Released" not in name]
+        self.assertEqual((len(leaked), len(names)), (12, 24))
+        subprocess.run(["javac", "-d", self.folder, os.path.join(PROGRAMS, "Leaks.java")], check=True, timeout=300)
+        dump = dump_java(self.folder, "many", main="Leaks")
+        self.assertEqual(self.found(hprof_to_trace, dump, names), sorted(leaked))
+        for name, path in (("InThreadLocal", r"\.threadLocals -> .* \.value -> "), ("InStaticField", r"class Leaks \.field -> "),
+                           ("OfInnerClass", r"\.this\$0 -> "), ("InWeakMapOfItself", r"class Leaks \.WEAK -> .* \.value -> \d+ java\.lang\.Object\[\] \[0\] -> ")):
+            self.assertRegex(self.done.named, r"dead \d+ Leaks\$%s: root .*%s\d+ Leaks\$%s\n" % (name, path, name))
+        self.assertRegex(self.done.named, r"dead \d+ Leaks\$OnStack: root frame Leaks\.\S+ \(thread Thread-\d+\) -> ")
+
+    @needs_program
+    @needs_commands("node")
+    def test_fourteen_on_node(self):
+        with open(os.path.join(PROGRAMS, "leaks.js")) as file:
+            leaked = re.findall(r"'((?:Of|In)\w+)'", re.search(r"const NAMES = \[(.*?)\]", file.read(), re.DOTALL).group(1))
+        self.assertEqual(len(leaked), 14)
+        subprocess.run(["node", os.path.join(PROGRAMS, "leaks.js"), self.path("many.heapsnapshot")], check=True, timeout=300, stdout=subprocess.PIPE)
+        names = leaked + ["Released" + name for name in leaked]
+        self.assertEqual(self.found(heapsnapshot_to_trace, self.path("many.heapsnapshot"), names), sorted(leaked))
+
+    @needs_program
+    @needs_commands("java", "javac", "jcmd")
+    def test_the_heap_of_a_compiler(self):
+        """Left out are hundreds of thousands of objects that hold one another in circles: few joints stay."""
+        subprocess.run(["javac", "-d", self.folder, os.path.join(PROGRAMS, "HoldsCompiler.java")], check=True, timeout=300)
+        dump = dump_java(self.folder, "compiler", "60", main="HoldsCompiler")
+        status, said = run(hprof_to_trace, dump, self.path("trace.jsonl"), "--only", "HoldsCompiler$", "--dead", "HoldsCompiler$EndedBig")
+        self.assertEqual(status, 0, said)
+        left_out = int(re.search(r"left out: (\d+) objects", said).group(1))
+        joints, stand_for = map(int, re.search(r": (\d+), which stand for (\d+) of them", said).groups())
+        self.assertGreater(left_out, 100000)
+        self.assertLess(joints, 200)
+        self.assertGreater(stand_for, 50000)
+        done = audit(self.path("trace.jsonl"), PROGRAM)
+        self.assertEqual([verdict.type_name for verdict in done.verdicts], ["HoldsCompiler$EndedBig"])
+
+
 def written_hprof(id_code, names, control="\n"):
     """A dump as the format describes it: one root, a chain of objects of the classes named, and a circle at its end."""
     def one(number):
@@ -387,6 +440,17 @@ class WrittenDumps(InFolder):
                         traces.add(file.read())
         self.assertEqual(len(traces), 1)
 
+    @needs_program
+    def test_a_label_with_half_a_character(self):
+        snapshot = written_snapshot()
+        snapshot["strings"][3] = "half \ud800"
+        snapshot["edges"][4] = 3
+        with open(self.path("dump"), "w") as file:
+            json.dump(snapshot, file)
+        status, said = run(heapsnapshot_to_trace, self.path("dump"), self.path("trace.jsonl"), "--dead", "half \\ud800", "--may-be-missing")
+        self.assertEqual(status, 0, said)
+        self.assertEqual(audit(self.path("trace.jsonl"), PROGRAM).status, 0)
+
     def test_long_names_in_a_snapshot(self):
         for letter in ("x", "é", "\U0001f600", '"'):
             for differ_at in (100, 399, 450, 3000):
@@ -430,6 +494,52 @@ class WrittenDumps(InFolder):
         status, said = run(heapsnapshot_to_trace, self.path("dump"), self.path("none.jsonl"))
         self.assertEqual((status, os.listdir(self.folder)), (2, ["dump"]), said)
         self.assertRegex(said, r"^heapsnapshot_to_trace: [^\n]+\n$")
+
+
+class Damaged(InFolder):
+    """1,000 damaged dumps: each is refused in a sentence with the status 2, or the trace is one that gcaudit takes."""
+
+    def damaged(self, whole, chance):
+        """Some bytes changed, taken away, doubled or put in, or the end cut off."""
+        made = bytearray(whole)
+        for _ in range(chance.choice((1, 1, 1, 2, 5))):
+            at, length = chance.randrange(len(made) + 1), chance.choice((1, 1, 2, 4, 8, 30))
+            what = chance.randrange(6)
+            if what == 0:
+                made[at:at + length] = bytes(chance.randrange(256) for _ in range(length))
+            elif what == 1:
+                del made[at:at + length]
+            elif what == 2:
+                made[at:at] = made[at:at + length]
+            elif what == 3:
+                made[at:at + length] = chance.choice((b"\0", b"\xff", b"9", b"-", b"]", b'"', b"\\")) * length
+            elif what == 4:
+                del made[at:]
+            else:
+                made[at:at] = bytes(chance.randrange(256) for _ in range(length))
+        return bytes(made)
+
+    def test_1000(self):
+        chance = random.Random(5)
+        wholes = [(hprof_to_trace, written_hprof("I", ["kept/A", "out/B", "out/C", "kept/D"])), (hprof_to_trace, written_hprof("Q", ["A", "B" * 50, "java/lang/String"])),
+                  (heapsnapshot_to_trace, json.dumps(written_snapshot()).encode()), (heapsnapshot_to_trace, json.dumps(written_snapshot(), indent=1).encode())]
+        taken = 0
+        for number in range(1000):
+            convert, whole = wholes[number % len(wholes)]
+            with open(self.path("dump"), "wb") as file:
+                file.write(self.damaged(whole, chance))
+            words = chance.choice(([], ["--without", "out."], ["--only", "kept."], ["--may-be-missing", "--dead", "A", "--unshared", "kept.D"]))
+            status, said = run(convert, self.path("dump"), self.path("trace.jsonl"), *words)
+            self.assertIn(status, (0, 2), (number, said))
+            self.assertRegex(said, r"^(\w+: [^\n]+\n)+$")
+            self.assertEqual(os.path.exists(self.path("trace.jsonl")), status == 0)
+            if status == 0:
+                taken += 1
+                if PROGRAM:
+                    self.assertIn(audit(self.path("trace.jsonl"), PROGRAM).status, (0, 1))
+                os.unlink(self.path("trace.jsonl"))
+        self.assertEqual(os.listdir(self.folder), ["dump"])
+        self.assertTrue(100 < taken < 900, taken)
 
 
 class ProgressLines(unittest.TestCase):
