@@ -29,6 +29,7 @@ _UNCHANGING = frozenset({tuple, frozenset})
 _HAS_GC = 1 << 14       # a type's objects have a head for Python's collector
 _IS_HEAP_TYPE = 1 << 9
 _GC_HEAD = 16
+_DICT_AND_WEAK = 16     # the bytes of an object's references to its __dict__ and to its weak references
 _LONG_TEXT = 256        # a text or bytes of more than this count for the object that holds them
 _OPTIMIZED = 1          # code whose variables don't stand in a dict
 _class_dict = type.__dict__["__dict__"].__get__
@@ -138,7 +139,19 @@ def _reader(kind: type) -> Callable[[Any, Shape], List[Content]]:
         return _of_module
     if kind is types.TracebackType:
         return lambda obj, shape: [(".tb_frame", obj.tb_frame), (".tb_next", obj.tb_next)]
-    return _of_any
+    return _of_instance if _holds_by_its_dict(kind) else _of_any
+
+
+def _holds_by_its_dict(kind: type) -> bool:
+    """Whether objects of the type hold nothing but what stands in their __dict__: classes of a program, without slots and built-in bases."""
+    bases = [base for base in _order(kind) or (kind,) if base is not object]
+    return (all(_flags(base) & _IS_HEAP_TYPE and type(_class_dict(base).get("__dict__")) in (types.GetSetDescriptorType, type(None)) for base in bases)
+            and kind.__dictoffset__ != 0 and kind.__itemsize__ == 0 and kind.__basicsize__ <= object.__basicsize__ + _DICT_AND_WEAK
+            and "__slots__" not in _class_dict(kind))
+
+
+def _of_instance(obj: Any, shape: Shape) -> List[Content]:
+    return _attributes(shape.own_dict.__get__(obj))
 
 
 def contents(obj: Any, shape: Shape, deep: bool = False) -> List[Content]:
@@ -215,7 +228,17 @@ def _items(obj: dict) -> List[Content]:
 
 
 def _attributes(names: Dict[str, Any]) -> List[Content]:
-    return [("." + name, held) for name, held in list(names.items()) if type(name) is str]
+    return [(_ATTRIBUTE_LABELS.get(name) or _attribute_label(name), held) for name, held in list(names.items()) if type(name) is str]
+
+
+_ATTRIBUTE_LABELS: Dict[str, str] = {}
+
+
+def _attribute_label(name: str) -> str:
+    label = "." + name
+    if len(_ATTRIBUTE_LABELS) < 10000:
+        _ATTRIBUTE_LABELS[name] = label
+    return label
 
 
 def _of_any(obj: Any, shape: Shape) -> List[Content]:

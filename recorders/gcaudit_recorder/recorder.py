@@ -447,13 +447,15 @@ class Recorder:
         walk.find_proxied()
         now, known = walk.now, self._known
         old_places = {number: place for place, number in enumerate(known.numbers) if number}
+        text, starts = self._labels.text, now.starts
         for place, number in enumerate(now.numbers):
-            slots = now.slots(place)
             old = old_places.get(number)
+            if old is None and starts[place] == starts[place + 1] and number not in now.proxied:
+                continue
+            slots = now.slots(place)
             if old is None:
                 if len(slots) <= now.rooms[place]:
-                    text = self._labels.text
-                    self._trace.fill(number, ((text(label) if to else "", to, label == WEAK_LABEL) for to, label in slots))
+                    self._trace.fill(number, [(text(label) if to else "", to, label == WEAK_LABEL) for to, label in slots])
                 else:
                     self._write_slots(now, place, [], slots)
                 continue

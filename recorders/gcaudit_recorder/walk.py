@@ -1,4 +1,5 @@
 """One walk over what the roots of a program reach, and what the trace has of it afterwards."""
+import itertools
 import weakref
 from array import array
 from bisect import bisect_right
@@ -36,6 +37,8 @@ class Labels:
     def text(self, number: int) -> str:
         if number >= 0:
             return self.texts[number]
+        if -number <= len(self._indexes):
+            return self._indexes[-1 - number]
         indexes = self._indexes
         while len(indexes) < -number:
             indexes.append("[%d]" % len(indexes))
@@ -121,7 +124,7 @@ class Walk:
         found = self.now.place_of.get(id(obj))
         if found is None:
             found = self._put(obj, traced)
-            self._end_object([])
+            self._end_object([], shape_of(obj))
         return found
 
     def has(self, obj: Any) -> bool:
@@ -159,18 +162,20 @@ class Walk:
     # ---- what each holds
 
     def _go_on(self) -> None:
-        objects = self.objects
-        while self._read < len(objects):
-            obj = objects[self._read]
-            shape = shape_of(obj)
-            deep = self._deep or id(obj) in self._inner_roots
-            self._end_object(contents(obj, shape, self._deep) if deep or not shape.inner else [])
+        shapes: Dict[type, Shape] = {}
+        for obj in itertools.islice(self.objects, self._read, None):    # they become more meanwhile
+            shape = shapes.get(type(obj))
+            if shape is None:
+                shape = shapes[type(obj)] = shape_of(obj)
+            if shape.inner and not self._deep and id(obj) not in self._inner_roots:
+                self._end_object([], shape)
+            else:
+                self._end_object(contents(obj, shape, self._deep), shape)
 
-    def _end_object(self, found: List[Tuple[Label, Any]]) -> None:
+    def _end_object(self, found: List[Tuple[Label, Any]], shape: Shape) -> None:
         """Notes what the next object holds: what was met for the first time is put behind the others."""
         place = self._read
         obj, now, place_of = self.objects[place], self.now, self.now.place_of
-        shape = shape_of(obj)
         targets, labels, number_of, recorded_of, is_traced = now.targets, now.labels, self._labels.number, self._recorded, self.is_traced
         for label, held in found:
             kind = type(held)

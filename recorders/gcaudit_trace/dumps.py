@@ -118,6 +118,7 @@ class DumpTrace:
     """
 
     def __init__(self, path: str, wishes: Wishes) -> None:
+        self._path = path
         self._whole = WholeFile(path)
         try:
             self._waiting = tempfile.TemporaryFile("w+", encoding="utf-8", newline="\n", dir=self._whole.folder, buffering=1 << 20)
@@ -173,7 +174,7 @@ class DumpTrace:
         self.trace.collect()
         self._lines.flush()
         self._whole.finish()
-        progress.say("%d objects and %d roots in %s" % (self.trace.objects, len(seen), self._whole.path))
+        progress.say("%d objects and %d roots in %s" % (self.trace.objects, len(seen), self._path))
 
     def _copy_stores(self) -> None:
         try:

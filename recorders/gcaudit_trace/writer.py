@@ -133,7 +133,8 @@ class TraceWriter:
 
     def alloc(self, type_name: str, slots: int, thread: int = 0, size: Optional[int] = None) -> int:
         """A new object; the answer is its id. Its size in bytes stands there for other readers; gcaudit ignores it."""
-        self._see_type(type_name)
+        if type_name not in self._types:
+            self._see_type(type_name)
         if self.objects >= MOST_OBJECTS and self._limited:
             raise TraceError("the trace would have more than %d live objects, which gcaudit doesn't take" % MOST_OBJECTS)
         if self.slots + slots > MOST_SLOTS and self._limited:
@@ -145,7 +146,7 @@ class TraceWriter:
         self.slots += slots
         on_thread = ',"thread":%d' % thread if thread else ""
         sized = "" if size is None else ',"bytes":%d' % size
-        self._write(f'{{"op":"alloc","id":{self.last_id},"type":{self._quote(type_name)},"slots":{slots}{on_thread}{sized}}}\n')
+        self._write(f'{{"op":"alloc","id":{self.last_id},"type":{self._quoted.get(type_name) or self._quote(type_name)},"slots":{slots}{on_thread}{sized}}}\n')
         return self.last_id
 
     def freed(self, objects: int, slots: int) -> None:
@@ -161,12 +162,14 @@ class TraceWriter:
 
     def fill(self, at: int, contents: Iterable[Tuple[str, int, bool]]) -> None:
         """Fills the slots of a new object from the first on: label, the object that is held or 0, whether weakly."""
-        write, quoted, quote = self._write, self._quoted.get, self._quote
+        quoted, quote, lines = self._quoted.get, self._quote, []
         for slot, (label, to, weak) in enumerate(contents):
             if weak:
-                self.set_weak(at, slot, True)
+                lines.append(f'{{"op":"set-weak","at":{at},"slot":{slot},"weak":true}}\n')
             if to:
-                write(f'{{"op":"store","at":{at},"slot":{slot},"to":{to},"label":{quoted(label) or quote(label)}}}\n')
+                lines.append(f'{{"op":"store","at":{at},"slot":{slot},"to":{to},"label":{quoted(label) or quote(label)}}}\n')
+        if lines:
+            self._write("".join(lines))
 
     def set_weak(self, at: int, slot: int, weak: bool) -> None:
         self._write('{"op":"set-weak","at":%d,"slot":%d,"weak":%s}\n' % (at, slot, "true" if weak else "false"))
