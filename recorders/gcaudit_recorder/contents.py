@@ -29,7 +29,6 @@ _UNCHANGING = frozenset({tuple, frozenset})
 _HAS_GC = 1 << 14       # a type's objects have a head for Python's collector
 _IS_HEAP_TYPE = 1 << 9
 _GC_HEAD = 16
-_DICT_AND_WEAK = 16     # the bytes of an object's references to its __dict__ and to its weak references
 _LONG_TEXT = 256        # a text or bytes of more than this count for the object that holds them
 _OPTIMIZED = 1          # code whose variables don't stand in a dict
 _class_dict = type.__dict__["__dict__"].__get__
@@ -142,12 +141,15 @@ def _reader(kind: type) -> Callable[[Any, Shape], List[Content]]:
     return _of_instance if _holds_by_its_dict(kind) else _of_any
 
 
+class _Plain:
+    """A class of a program without anything of its own."""
+
+
 def _holds_by_its_dict(kind: type) -> bool:
     """Whether objects of the type hold nothing but what stands in their __dict__: classes of a program, without slots and built-in bases."""
     bases = [base for base in _order(kind) or (kind,) if base is not object]
-    return (all(_flags(base) & _IS_HEAP_TYPE and type(_class_dict(base).get("__dict__")) in (types.GetSetDescriptorType, type(None)) for base in bases)
-            and kind.__dictoffset__ != 0 and kind.__itemsize__ == 0 and kind.__basicsize__ <= object.__basicsize__ + _DICT_AND_WEAK
-            and "__slots__" not in _class_dict(kind))
+    return (kind.__basicsize__ == _Plain.__basicsize__ and kind.__dictoffset__ == _Plain.__dictoffset__ and kind.__itemsize__ == 0
+            and all(_flags(base) & _IS_HEAP_TYPE and "__slots__" not in _class_dict(base) for base in bases))
 
 
 def _of_instance(obj: Any, shape: Shape) -> List[Content]:

@@ -430,6 +430,20 @@ class Traces(InFolder):
         self.clean(recorder)
         self.assertEqual(len(self.ids_of("Touchy")), 1)
 
+    def test_slots_and_attributes_of_one_object(self):
+        class Base:
+            __slots__ = ("slot",)
+        class Derived(Base):
+            pass
+        class Further(Derived):
+            def __init__(self):
+                self.slot, self.attribute = Entry(), Entry()
+        app = App(further=Further())
+        recorder = self.recorder(app=app)
+        recorder.collect()
+        self.clean(recorder)
+        self.assertEqual(sorted(e["label"] for e in events(self.trace) if e["op"] == "store"), [".attribute", ".further", ".slot"])
+
     def test_other_containers(self):
         import collections, functools, threading, itertools
         entry = Entry()
