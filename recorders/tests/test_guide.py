@@ -5,6 +5,7 @@ import re
 import signal
 import subprocess
 import sys
+import time
 import unittest
 
 from tests.support import PROGRAM, RECORDERS, InFolder, needs_commands, needs_program, python_with
@@ -48,12 +49,13 @@ class Guide(InFolder):
     def run_section(self, section):
         """Writes the files, mends them, and runs the commands, in the order of the page."""
         os.mkdir(self.path("work"))
-        script, expected = [], []
+        script, expected, slowness = [], [], self.slowness()
         for language, lines in blocks_of(section):
             if language == "console":
                 for line in lines:
                     if line.startswith("$ "):
-                        script += [line[2:], "echo; echo '%s'" % END]
+                        waits = re.sub(r"sleep (\d+)", lambda found: "sleep %d" % (int(found.group(1)) * slowness), line[2:])
+                        script += [waits, "echo; echo '%s'" % END]
                         expected.append([])
                     else:
                         expected[-1].append(line)
@@ -80,6 +82,13 @@ class Guide(InFolder):
         for found, lines in zip(said, expected):
             found = "\n".join(line for line in found.split("\n") if line and not re.match(r"\[\d+\]", line))
             self.assertEqual(without_numbers(found), without_numbers("\n".join(lines)))
+
+    @staticmethod
+    def slowness():
+        """How many times longer than on a free machine the commands wait for one another."""
+        start = time.monotonic()
+        subprocess.run([sys.executable, "-c", "pass"], check=True)
+        return min(8, max(1, round((time.monotonic() - start) / 0.1)))
 
     @staticmethod
     def mended(lines):
