@@ -1,7 +1,7 @@
 #!/usr/bin/env python3
-"""Times a whole `rt ci --anew`: processor time by crate and by kind, and the dearest checks of each kind.
+"""Times a whole `rt ci` from nothing: processor time by crate and by kind, and the dearest checks of each kind.
 
-Usage: bench/gate.py [WORDS OF rt ci]     (--anew where nothing is said)
+Usage: bench/gate.py [WORDS OF rt ci]     (where nothing is said: --anew, if the kit's rt ci keeps work from run to run and has that word)
 What rt ci prints comes first, as it is. Then stands for each crate the processor time, user and system together, of its own proof, of the
 proof of it with its tests, and of its edits that must be refused. A check is a process `rattle` below rt ci, and is looked at five times a second,
 so what it does after the last look is missed. The whole time is that of the kernel: what it has more than the table is rt ci itself, programs and tests
@@ -80,13 +80,23 @@ def check_of(pid, words):
     return Check(crate, kind, what, time.monotonic())
 
 
+# How many checks of edits were seen over each folder of kept work.
+TRIED = collections.Counter()
+
+
 def edit_of(crate, kept):
-    """Which edit a check tries: rt ci gives each a folder of its number, over the one named seed of the crate as it stands."""
-    name = os.path.basename(kept)
+    """Which edit a check tries. Some kits give each a folder of its number, over one named seed of the crate as it stands; others try
+    them in order over one folder, and the crate as it stands behind them."""
     edits = sorted(path.name for path in (TOP / "crates" / crate / "must-fail").glob("*.edit"))
-    if name.isdigit() and int(name) < len(edits):
-        return edits[int(name)]
-    return "the crate as it stands" if name == "seed" else "an edit, from nothing"
+    name = os.path.basename(kept)
+    if not kept:
+        return "an edit, from nothing"
+    if name.isdigit() or name == "seed":
+        number = int(name) if name.isdigit() else len(edits)
+    else:
+        number = TRIED[kept]
+        TRIED[kept] += 1
+    return edits[number] if number < len(edits) else "the crate as it stands"
 
 
 class Watch(threading.Thread):
@@ -163,8 +173,13 @@ def dearest(checks):
         yield f"The longest single check: {clock(longest.last - longest.first)}, {longest.crate}, {longest.kind} ({longest.what})"
 
 
+def words_for_all():
+    help_text = subprocess.run(["rt", "help"], stdin=subprocess.DEVNULL, stdout=subprocess.PIPE, stderr=subprocess.STDOUT, text=True).stdout
+    return ["--anew"] if "--anew" in help_text else []
+
+
 def main():
-    words = sys.argv[1:] or ["--anew"]
+    words = sys.argv[1:] or words_for_all()
     begun = time.monotonic()
     child = subprocess.Popen(["rt", "ci", *words], cwd=TOP, stdin=subprocess.DEVNULL)
     watch = Watch(child.pid)
@@ -176,7 +191,7 @@ def main():
     used = resource.getrusage(resource.RUSAGE_CHILDREN)
     checks = list(watch.checks.values())
     print("\n".join(["", *table(checks), "", *dearest(checks), ""]))
-    print(f"rt ci {' '.join(words)} ended with status {status} after {clock(took)} on {len(os.sched_getaffinity(0))} processors;")
+    print(f"{' '.join(['rt', 'ci', *words])} ended with status {status} after {clock(took)} on {len(os.sched_getaffinity(0))} processors;")
     print(f"processor time {clock(used.ru_utime + used.ru_stime)} (user {clock(used.ru_utime)}, system {clock(used.ru_stime)})")
     sys.exit(status)
 
