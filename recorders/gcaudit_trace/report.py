@@ -1,13 +1,17 @@
 """The report of gcaudit line by line, with the slots named by the labels that the trace has."""
 import json
 import re
-from typing import Callable, Dict, Iterator, List, NamedTuple, Optional, Set, Tuple
+from typing import Any, Callable, Dict, Iterable, Iterator, List, NamedTuple, Optional, Set, Tuple
 
 from .names import cut
 
 MORE = "(more)"  # the label of a slot that leads to further slots of the same object
 _LONGEST_LABEL = 120
+_READ_AT_A_TIME = 1 << 16
 _NUMBERS = re.compile(r"\d+")
+_MOST_IN_EXPRESSION = 4096                              # of more numbers an expression takes long to make
+_OF_OBJECT = r'(?:store","at|alloc","id)":'             # how lines begin that tell of one object, behind the word for the operation
+_NEVER_NAMED = r'set-weak"|assert-|start-region"'       # and those that tell no type, no label and no root
 _HEADS = (
     ("dead", re.compile(r"gc (?P<collection>\d+) dead (?P<number>\d+) (?P<type>.*)", re.DOTALL)),
     ("unshared", re.compile(r"gc (?P<collection>\d+) unshared (?P<number>\d+) (?P<type>.*) refs (?P<count>\d+)", re.DOTALL)),
@@ -77,30 +81,61 @@ def read_report(report: str, trace: str, at: Callable[[int], None] = lambda done
     verdicts: List[Verdict] = []
     if of_collection:
         wanted = {int(n) for places in of_collection.values() for place in places for n in _NUMBERS.findall(lines[place]) if len(n) < 11}
-        heap, collection = _Labels(wanted), 0
+        heap, collection, last = _Labels(wanted), 0, max(of_collection)
         for line in _lines_about(trace, wanted, at):
-            if not line.isspace() and heap.read(line):
+            if heap.read(line):
                 collection += 1
                 for place in of_collection.get(collection, ()):
                     verdict = _verdict(lines[place], heap)
                     lines[place] = verdict.line
                     verdicts.append(verdict)
+                if collection == last:
+                    break
     return Report("\n".join(lines), verdicts)
 
 
 def _lines_about(trace: str, wanted: Set[int], at: Callable[[int], None]) -> Iterator[bytes]:
-    """The lines of a trace but for those of objects that aren't wanted, as far as these are told apart at a glance."""
-    keys = {b'"at":%d' % number for number in wanted} | {b'"id":%d' % number for number in wanted}
-    of_objects = {b'{"op":"' + op for op in (b"store", b"alloc", b"set-w", b"asser")}
-    done = 0
-    with open(trace, "rb", buffering=1 << 20) as lines:
+    """The lines of a trace that aren't empty, but for the plain ones of which an expression tells that they are about another object."""
+    found, done, rest = _lines_finder(wanted), 0, b"\n"
+    with open(trace, "rb", buffering=0) as file:
         while True:
-            some = lines.readlines(1 << 20)
+            some = file.read(_READ_AT_A_TIME)
+            block = rest + some
+            end = block.rfind(b"\n") if some else len(block)
+            yield from filter(bytes.strip, found(block, 0, end))
             if not some:
                 return
-            yield from [line for line in some if line[:12] not in of_objects or line.split(b",", 2)[1] in keys]
-            done += sum(map(len, some))
+            rest = block[end:]
+            done += len(some)
             at(done)
+
+
+def _lines_finder(wanted: Set[int]) -> Callable[[bytes, int, int], Iterable[bytes]]:
+    """Finds between two places of a text, where each line comes behind a line end, those that may be about one of the objects, or a root or a collection.
+
+    An object has millions of neighbours in a trace, and a step of Python for each of their lines would take longer than gcaudit itself.
+    """
+    if len(wanted) <= _MOST_IN_EXPRESSION:
+        other = r'%s(?!(?:%s)(?![0-9]))[0-9]' % (_OF_OBJECT, _one_of(wanted))
+        return re.compile((r'\n(?!\{"op":"(?:%s|%s))[^\n]*' % (other, _NEVER_NAMED)).encode()).findall
+    split = re.compile((r'\n(?!\{"op":"(?:%s))(?=(?:\{"op":"%s([0-9]+))?)([^\n]*)' % (_NEVER_NAMED, _OF_OBJECT)).encode()).findall
+    numbers = {b"%d" % number for number in wanted}
+    return lambda text, start, end: [line for number, line in split(text, start, end) if not number or number in numbers]
+
+
+def _one_of(numbers: Iterable[int]) -> str:
+    """An expression for the numbers, in which each digit is looked at once."""
+    by_digit: Dict[str, Any] = {}
+    for number in numbers:
+        at = by_digit
+        for digit in str(number):
+            at = at.setdefault(digit, {})
+        at[""] = {}
+
+    def expression(at: Dict[str, Any]) -> str:
+        further = "|".join(digit + expression(more) for digit, more in at.items() if digit)
+        return "(?:%s)%s" % (further, "?" if "" in at else "") if further else ""
+    return expression(by_digit)
 
 
 class _Labels:

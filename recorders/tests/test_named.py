@@ -1,6 +1,7 @@
 """gcaudit-named: the words it passes on, what it reads and writes, and how it ends where something goes wrong."""
 import gzip
 import io
+import json
 import os
 import resource
 import signal
@@ -15,6 +16,7 @@ from tests.support import PROGRAM, RECORDERS, InFolder, needs_program
 
 from gcaudit_trace import TraceError, audit
 from gcaudit_trace.command import Progress
+from gcaudit_trace.report import read_report
 
 LEAK = ('{"op":"alloc","id":1,"type":"App","slots":2}\n{"op":"alloc","id":2,"type":"Config"}\n{"op":"alloc","id":3,"type":"Config"}\n'
         '{"op":"store","at":1,"slot":0,"to":2,"label":".config"}\n{"op":"store","at":1,"slot":1,"to":3,"label":".other"}\n'
@@ -108,11 +110,72 @@ class Named(InFolder):
                 progress.at("naming the slots", 1 << 20, 3 << 20)
         self.assertEqual(said.getvalue(), "gcaudit-named: naming the slots: 1 of 3 MB\n" * 2)
 
+    def test_other_ways_to_write_a_line(self):
+        """Spaces, another order and escapes: the lines mean the same, and the names are found."""
+        report = self.run_named(self.trace).stdout
+        with open(self.trace) as file:
+            found = [json.loads(line) for line in file]
+        backwards = [dict(reversed(list(event.items()))) for event in found]
+        for shown in ([json.dumps(event) for event in found], [json.dumps(event, separators=(",", ":")) for event in backwards],
+                      ["\n \t" + json.dumps(event, separators=(" ,", ": ")) + "\r" for event in found],
+                      [json.dumps(event, separators=(",", ":")).replace('"at":', '"\\u0061t":').replace('"id":', '"i\\u0064":') for event in found]):
+            for paths in ("100", "10000"):
+                with mock.patch("gcaudit_trace.report._MOST_IN_EXPRESSION", int(paths) % 10000):
+                    with open(self.trace, "w") as file:
+                        file.write("\n".join(shown))
+                    self.assertEqual(audit(self.trace, PROGRAM, ["--paths", paths]).named.encode(), report)
+
+    def test_what_follows_a_halt_is_not_read(self):
+        with open(self.trace, "a") as file:
+            file.write("this is no line of a trace\n")
+        self.assertEqual(audit(self.trace, PROGRAM, ["--react", "halt"]).named, NAMED + "halt gc 1 violations 2\n")
+
     def test_what_gcaudit_refuses(self):
         with open(self.trace, "a") as file:
             file.write('{"op":"store","at":9,"slot":0,"to":null}\n')
         with self.assertRaisesRegex(TraceError, "status 2.*fault line 11: NotLive 9"):
             audit(self.trace, PROGRAM)
+
+
+class LargeTraces(InFolder):
+    """Most lines of a large trace are of objects that no path meets."""
+
+    def setUp(self):
+        super().setUp()
+        self.trace = self.path("trace.jsonl")
+        with open(self.trace, "w") as file:
+            file.writelines('{"op":"alloc","id":%d,"type":"com.shop.Node%d","slots":2,"bytes":24}\n' % (number, number % 7) for number in range(1, 50001))
+            for slot in range(2):
+                file.writelines('{"op":"store","at":%d,"slot":%d,"to":%d,"label":".next%d"}\n' % (number, slot, number + 1, slot) for number in range(1, 50000))
+            file.write('{"op":"root","name":"top","to":1}\n{"op":"collect"}\n')
+        line = "gc 1 dead %d com.shop.Node%d: root top -> 1 com.shop.Node1 [0] -> 2 com.shop.Node2 ... %d steps ... [1] -> %d com.shop.Node%d"
+        dead = [number for number in range(4, 50000, 499)]
+        self.report = "\n".join(line % (number, number % 7, number - 3, number, number % 7) for number in dead)
+        self.named = self.report.replace("[0]", ".next0").replace("[1]", "[slot 1]")
+
+    def test_the_names(self):
+        self.assertEqual(read_report(self.report, self.trace).named, self.named)
+        with mock.patch("gcaudit_trace.report._MOST_IN_EXPRESSION", 50):
+            self.assertEqual(read_report(self.report, self.trace).named, self.named)
+
+    def test_lines_of_other_objects_are_not_read(self):
+        for most in (4096, 50):
+            with mock.patch("gcaudit_trace.report._MOST_IN_EXPRESSION", most), mock.patch("gcaudit_trace.report.json.loads", side_effect=json.loads) as loads:
+                read_report(self.report, self.trace)
+            self.assertLess(loads.call_count, 1000)
+
+    def test_its_time(self):
+        """It takes about as long as to split each line at its first commas."""
+        def seconds(work):
+            start = time.process_time()
+            work()
+            return time.process_time() - start
+
+        def split():
+            with open(self.trace, "rb") as lines:
+                return [line for line in lines if line.split(b",", 2)[0] == b"{}"]
+        shares = [seconds(lambda: read_report(self.report, self.trace)) / seconds(split) for _ in range(7)]
+        self.assertLess(min(shares), 1.4)
 
 
 if __name__ == "__main__":
