@@ -86,7 +86,12 @@ def module_of(kind: type) -> str:
 
 def is_own_frame(frame: types.FrameType) -> bool:
     """Whether a frame runs a function of the recorder."""
-    name = frame.f_globals.get("__name__")
+    return _is_own(frame.f_globals)
+
+
+def _is_own(names: Dict[str, Any]) -> bool:
+    """Whether these are the globals of a module of the recorder, whose tables no program fills."""
+    name = names.get("__name__")
     return type(name) is str and (name + ".").startswith(OWN_MODULES)
 
 
@@ -172,7 +177,7 @@ def contents(obj: Any, shape: Shape, deep: bool = False) -> List[Content]:
     if deep:
         if shape.of_program:
             found.append(("(class)", type(obj)))
-        if type(obj) is types.FunctionType:
+        if type(obj) is types.FunctionType and not _is_own(obj.__globals__):
             found.append(("(globals)", _module_with(obj.__globals__)))
     return found
 
@@ -355,5 +360,7 @@ def _of_class(obj: type, shape: Shape) -> List[Content]:
 
 
 def _of_module(obj: types.ModuleType, shape: Shape) -> List[Content]:
+    if _is_own(_module_dict(obj)):
+        return []
     found = _attributes(_module_dict(obj))
     return found + _unnamed(gc.get_referents(obj), found, _module_dict(obj))
