@@ -202,7 +202,9 @@ class Recorder:
         self._need_open()
         if isinstance(ignore, str):
             raise TraceError("ignore takes a list of patterns; write [%r]" % ignore)
-        patterns = list(ignore)
+        patterns = list(ignore) if isinstance(ignore, Iterable) else [ignore]
+        if not all(isinstance(pattern, str) for pattern in patterns):
+            raise TraceError("ignore takes a list of patterns, which are texts; not %r" % (ignore,))
         with _NoAutomaticCollection():
             region = self._regions.begin()
         try:

@@ -24,6 +24,7 @@ def main(words=None) -> int:
     asked = parser().parse_args(words)
 
     def work() -> int:
+        command.keep_apart([asked.trace], [asked.output])
         progress = command.Progress(_PROGRAM, 2.0)
         with trace_file(asked.trace) as trace:
             done = audit(trace, asked.gcaudit, command.gcaudit_options(asked), progress)

@@ -2,15 +2,16 @@
 import argparse
 import contextlib
 import os
+import signal
 import sys
 import time
-from typing import Any, Callable, Iterator, List, Optional
+from typing import Any, Callable, Iterable, Iterator, List, Optional
 
 from .names import printable
 from .writer import TraceError, WholeFile
 
 REFUSED = 2
-STOPPED = 130
+_STOPPED = 128  # and the number of the signal
 
 
 class Progress:
@@ -42,9 +43,10 @@ def run(program: str, work: Callable[[], int], about: str = "") -> int:
     `about` names the file in question where an error of the system doesn't.
     """
     try:
-        status = work()
-        sys.stdout.flush()
-        return status
+        with _stoppable():
+            status = work()
+            sys.stdout.flush()
+            return status
     except TraceError as error:
         return _refused(program, str(error))
     except BrokenPipeError:
@@ -58,7 +60,56 @@ def run(program: str, work: Callable[[], int], about: str = "") -> int:
         return _refused(program, "out of memory")
     except KeyboardInterrupt:
         _say(program, "stopped")
-        return STOPPED
+        return _STOPPED + signal.SIGINT
+    except _Stopped as stopped:
+        _say(program, "stopped")
+        return _STOPPED + stopped.number
+
+
+class _Stopped(BaseException):
+    """A signal came that ends the program."""
+
+    def __init__(self, number: int) -> None:
+        super().__init__(number)
+        self.number = number
+
+
+def _stop(number: int, _: Any) -> None:
+    raise _Stopped(number)
+
+
+@contextlib.contextmanager
+def _stoppable() -> Iterator[None]:
+    """While it lasts the signals that end a program raise, so that temporary files and gcaudit itself are ended too."""
+    before = {}
+    for name in ("SIGTERM", "SIGHUP"):
+        with contextlib.suppress(AttributeError, ValueError):   # a system without the signal; not the first thread
+            number = getattr(signal, name)
+            if signal.getsignal(number) == signal.SIG_DFL:
+                before[number] = signal.signal(number, _stop)
+    try:
+        yield
+    finally:
+        for number, handler in before.items():
+            signal.signal(number, handler)
+
+
+def keep_apart(read: Iterable[str], written: Iterable[Optional[str]]) -> None:
+    """Refuses to write a file over one that is read, or over another that is written."""
+    places = {os.path.realpath(path) for path in read if path != "-"}
+    for path in written:
+        if path is not None:
+            place = os.path.realpath(path)
+            if place in places:
+                raise TraceError("%s would be replaced: it is read, or something else is written there" % path)
+            places.add(place)
+
+
+def count(text: str) -> int:
+    """A word of the command line that is a number from 0 on."""
+    if not (text.isascii() and text.isdigit()):
+        raise argparse.ArgumentTypeError("a number from 0 on is wanted, not %s" % text)
+    return int(text)
 
 
 def _refused(program: str, why: str) -> int:

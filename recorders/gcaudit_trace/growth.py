@@ -106,6 +106,7 @@ def main(words=None) -> int:
     asked = parser().parse_args(words)
 
     def work() -> int:
+        command.keep_apart(asked.heaps, [asked.output])
         progress = command.Progress(_PROGRAM, 2.0)
         if len(asked.heaps) == 1:
             graphs, step = every_graph(asked.heaps[0], progress), "collection"

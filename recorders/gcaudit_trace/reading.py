@@ -64,8 +64,12 @@ def trace_file(path: str) -> Iterator[str]:
                 if os.path.samestat(os.fstat(source.fileno()), os.stat(path)):
                     yield path
                     return
-        handle, copy = tempfile.mkstemp(prefix="gcaudit-", suffix=".jsonl")
-        stack.callback(os.unlink, copy)
-        with os.fdopen(handle, "wb") as file:
-            shutil.copyfileobj(source, file, 1 << 20)
+        try:
+            handle, copy = tempfile.mkstemp(prefix="gcaudit-", suffix=".jsonl")
+            stack.callback(os.unlink, copy)
+            with os.fdopen(handle, "wb") as file:
+                shutil.copyfileobj(source, file, 1 << 20)
+        except OSError as error:
+            name = "standard input" if path == "-" else path
+            raise TraceError("%s can't be copied into the folder for temporary files: %s" % (name, error.strerror or error)) from None
         yield copy

@@ -127,6 +127,7 @@ def main(words=None) -> int:
     asked = parser().parse_args(words)
 
     def work() -> int:
+        command.keep_apart([asked.trace], [asked.html, asked.junit, asked.sarif])
         with trace_file(asked.trace) as trace:
             done = audit(trace, asked.gcaudit, command.gcaudit_options(asked), command.Progress(_PROGRAM, 2.0))
             view = view_of(done, trace, "standard input" if asked.trace == "-" else asked.trace)

@@ -30,8 +30,8 @@ class WholeFile:
             self.path = os.path.abspath(os.fsdecode(path))
         except TypeError:
             raise TraceError("a trace is written to a path or to an open text file, not to a %s" % type(path).__name__) from None
-        if "\0" in self.path:
-            raise TraceError("a path has no zero byte in it")
+        if "\0" in self.path or not path:
+            raise TraceError("a path is not empty, and has no zero byte in it")
         self._place = os.path.realpath(self.path)   # a link stays, and what it leads to is replaced
         self.folder, base = os.path.split(self._place)
         if os.path.exists(self._place) and not os.path.isfile(self._place):

@@ -24,7 +24,15 @@ LEAK = ('{"op":"alloc","id":1,"type":"App","slots":2}\n{"op":"alloc","id":2,"typ
         '{"op":"collect"}\n')
 NAMED = ('gc 1 live 3 traced 3 freed 0\ngc 1 dead 3 Config: root app -> 1 App .other -> 3 Config\n'
          'gc 1 instances Config limit 1 found 2: root app -> 1 App .other -> 3 Config\n')
-ENDLESS = "#!%s\nimport time\nwhile True:\n    time.sleep(1)\n" % sys.executable
+ENDLESS = "#!%s\nimport os, time\nwith open(%%r, 'w') as file:\n    file.write(str(os.getpid()))\nwhile True:\n    time.sleep(1)\n" % sys.executable
+
+
+def is_running(process):
+    try:
+        os.kill(process, 0)
+    except ProcessLookupError:
+        return False
+    return True
 
 
 @needs_program
@@ -89,16 +97,48 @@ class Named(InFolder):
             done = self.run_named(self.trace, stdout=gone)
         self.assertEqual((done.returncode, done.stderr.decode()), (2, "gcaudit-named: nobody reads the output any longer\n"))
 
-    def test_ctrl_c(self):
-        with open(self.path("endless"), "w") as file:
-            file.write(ENDLESS)
-        os.chmod(self.path("endless"), 0o755)
-        process = subprocess.Popen([sys.executable, "-B", "-m", "gcaudit_trace", "--gcaudit", self.path("endless"), self.trace], stderr=subprocess.PIPE,
-                                   env=dict(os.environ, PYTHONPATH=RECORDERS))
-        time.sleep(1.5)
-        process.send_signal(signal.SIGINT)
-        self.assertEqual(process.communicate(timeout=60)[1], b"gcaudit-named: stopped\n")
-        self.assertEqual(process.returncode, 130)
+    def test_ctrl_c_and_other_ends(self):
+        """A word, the status of the signal, and nothing is left: no temporary file, and no gcaudit that goes on."""
+        for number, status in ((signal.SIGINT, 130), (signal.SIGTERM, 143), (signal.SIGHUP, 129)):
+            folder, begun = self.path("temporary%d" % number), self.path("begun%d" % number)
+            os.mkdir(folder)
+            with open(self.path("endless"), "w") as file:
+                file.write(ENDLESS % begun)
+            os.chmod(self.path("endless"), 0o755)
+            process = subprocess.Popen([sys.executable, "-B", "-m", "gcaudit_trace", "--gcaudit", self.path("endless")], stdin=subprocess.PIPE,
+                                       stderr=subprocess.PIPE, env=dict(os.environ, PYTHONPATH=RECORDERS, TMPDIR=folder))
+            process.stdin.write(LEAK.encode())
+            process.stdin.close()
+            process.stdin = None
+            self.await_that(lambda: os.path.exists(begun) and os.path.getsize(begun))
+            process.send_signal(number)
+            self.assertEqual(process.communicate(timeout=60)[1], b"gcaudit-named: stopped\n")
+            self.assertEqual((process.returncode, os.listdir(folder)), (status, []))
+            with open(begun) as file:
+                child = int(file.read())
+            self.await_that(lambda: not is_running(child))
+
+    def await_that(self, holds):
+        end = time.monotonic() + 120
+        while not holds():
+            self.assertLess(time.monotonic(), end)
+            time.sleep(0.02)
+
+    def test_no_room_for_a_copy_of_standard_input(self):
+        def limited():
+            resource.setrlimit(resource.RLIMIT_FSIZE, (100, 100))
+        done = self.run_named("-", input=LEAK.encode(), preexec_fn=limited)
+        self.assertEqual((done.returncode, done.stderr.decode()),
+                         (2, "gcaudit-named: standard input can't be copied into the folder for temporary files: File too large\n"))
+
+    def test_what_is_read_is_not_replaced(self):
+        os.symlink(self.trace, self.path("link"))
+        for place in (self.trace, self.path("link"), os.path.join(self.folder, ".", "trace.jsonl")):
+            done = self.run_named(self.trace, "--output", place)
+            self.assertEqual((done.returncode, done.stdout), (2, b""))
+            self.assertIn("%s would be replaced" % place, done.stderr.decode())
+        with open(self.trace) as file:
+            self.assertEqual(file.read(), LEAK)
 
     def test_progress_after_two_seconds(self):
         said, now = io.StringIO(), [100.0]

@@ -549,7 +549,8 @@ class Traces(InFolder):
                       lambda: recorder.assert_instances(Entry, True), lambda: recorder.assert_instances(Entry, "1"), lambda: recorder.assert_owned_by(5, entry),
                       lambda: Recorder(5), lambda: Recorder(None), lambda: Recorder(self.path("a"), [entry]), lambda: Recorder(self.path("a"), "every"),
                       lambda: Recorder(self.path("a"), {"a": 5}), lambda: Recorder("a\0b"), lambda: recorder.growth(0, list), lambda: recorder.growth(2, 5),
-                      lambda: recorder.region("Entry").__enter__()):
+                      lambda: recorder.region("Entry").__enter__(), lambda: recorder.region(5).__enter__(), lambda: recorder.region([5]).__enter__(),
+                      lambda: Recorder("")):
             self.assertRaises(TraceError, wrong)
         self.assertEqual([name for name in os.listdir(self.folder) if "trace.jsonl" not in name], [])
         recorder.close()

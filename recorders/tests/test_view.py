@@ -2,6 +2,7 @@
 import html.parser
 import json
 import os
+import re
 import shutil
 import subprocess
 import sys
@@ -77,6 +78,17 @@ class Summary(Commands):
         lines = [{name: value for name, value in line.items() if name != "bytes"} for line in LEAK]
         said = self.said("summary", self.write(*lines, COLLECT))
         self.assertTrue(said.startswith("7 objects\n\nobjects  kept alone  type\n      3           4  Session\n"), said)
+
+    def test_what_would_be_replaced(self):
+        trace = self.write(*LEAK, COLLECT)
+        for words in (["view", trace, "--sarif", trace], ["view", trace, "--html", self.path("out"), "--junit", self.path("out")],
+                      ["summary", trace, "--output", trace], ["growth", trace, trace, "--output", trace]):
+            done = self.run_module(*words)
+            self.assertEqual((done.returncode, done.stdout), (2, b""))
+            self.assertRegex(done.stderr.decode(), r"^gcaudit-\w+: %s would be replaced: [^\n]+\n$" % re.escape(words[-1]))
+        self.assertEqual(os.listdir(self.folder), ["trace.jsonl"])
+        done = self.run_module("summary", trace, "--top", "-3")
+        self.assertIn(b"argument --top: a number from 0 on is wanted, not -3\n", done.stderr)
 
     def test_what_is_refused(self):
         for text in ("", "hello", "{}", '{"op":"alloc","id":1,"type":"A"}\n', '{"snapshot":{}}', "JAVA PROFILE 9"):
