@@ -1,0 +1,13 @@
+//! What a program and a person say to each other beside the report: the words of the command line, what is wrong with them, and why a
+//! stream failed. No statement about a run rests on this crate.
+#![tactic(auto)]
+
+mod ending;
+mod options;
+mod stream;
+mod words;
+
+pub use ending::{NO_WORDS, exit_code, tell, tell_no_words};
+pub use options::{Fault, OptionRule, Takes, first_fault};
+pub use stream::Remembering;
+pub use words::{NoWords, borrowed_words, owned_words};

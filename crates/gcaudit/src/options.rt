@@ -1,0 +1,28 @@
+use console::{OptionRule, Takes};
+use generator::{LEAST_SIZE, MOST_NUMBER, MOST_SIZE};
+use heap_base::MOST_WORKERS;
+use settings::{LEAST_WORKERS, MOST_PATHS};
+
+/// The options, for whoever wrote a word that is refused. Which words are taken is for `audit` to say.
+pub const OPTIONS: [OptionRule; 5] = [
+    OptionRule {
+        name: "workers",
+        takes: Takes::Number(LEAST_WORKERS, MOST_WORKERS),
+    },
+    OptionRule {
+        name: "paths",
+        takes: Takes::Number(0, MOST_PATHS),
+    },
+    OptionRule {
+        name: "react",
+        takes: Takes::OneOf(&["report", "halt", "force"]),
+    },
+    OptionRule {
+        name: "gen",
+        takes: Takes::Number(0, MOST_NUMBER),
+    },
+    OptionRule {
+        name: "size",
+        takes: Takes::Number(LEAST_SIZE, MOST_SIZE),
+    },
+];
