@@ -19,4 +19,3 @@ pub mod Searches
 pub mod Shown
 pub mod Sound
 pub mod Tables
-pub mod TestEdges

@@ -15,8 +15,6 @@ mod root;
 mod roots;
 mod slot;
 mod table;
-#[cfg(test)]
-mod tests;
 mod views;
 
 pub use table::ObjectTable;

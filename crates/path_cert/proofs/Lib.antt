@@ -11,4 +11,3 @@ pub mod CellsLeft
 pub mod QuestSteps
 pub mod Walking
 pub mod ShownPaths
-pub mod TestOwners

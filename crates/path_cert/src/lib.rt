@@ -9,8 +9,6 @@ mod objects;
 mod references;
 mod searching;
 mod start;
-#[cfg(test)]
-mod tests;
 mod trail;
 
 pub use finding::finds;
