@@ -6,8 +6,6 @@ mod ids;
 mod laws;
 mod registry;
 mod roles;
-#[cfg(test)]
-mod tests;
 
 pub use laws::{
     a_limit_by_number_is_a_limit_by_name, a_new_type_has_no_limit, more_room_changes_no_limit,

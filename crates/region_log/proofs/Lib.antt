@@ -1,6 +1,5 @@
 pub mod Above
 pub mod Fronts
-pub mod Noted
 pub mod Stacks
 pub mod Steps
 pub mod Tables

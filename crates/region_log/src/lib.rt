@@ -4,7 +4,5 @@
 mod log;
 mod region;
 mod stack;
-#[cfg(test)]
-mod tests;
 
 pub use log::RegionLog;

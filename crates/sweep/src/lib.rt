@@ -2,7 +2,5 @@
 #![tactic(auto)]
 
 mod sweeping;
-#[cfg(test)]
-mod tests;
 
 pub use sweeping::sweep;

@@ -1,11 +1,10 @@
 //! Sample heaps: a table, a registry of what is asserted, and the roles of the table's cells.
-ghost use Rattle.std.specs.Prelude.{◌≡◌, ◌<◌, length, IfOk, IfSome};
+ghost use Rattle.std.specs.Prelude.{length, IfOk};
 ghost use Rattle.graph_meaning.specs.Roles.{AreRolesOf};
 
 use crate::names::{id, name};
 use assert_registry::AssertRegistry;
 use graph_meaning::Roles;
-use heap_base::ObjId;
 use object_table::ObjectTable;
 use std::alloc::Global;
 use std::test::Fail;
@@ -53,7 +52,7 @@ fn add_objects(
     Ok(())
 }
 
-fn fill_slots(table: &mut ObjectTable, stores: &[(u32, u32, u32)]) -> Result<(), Fail> {
+pub(crate) fn fill_slots(table: &mut ObjectTable, stores: &[(u32, u32, u32)]) -> Result<(), Fail> {
     for (at, slot, to) in stores {
         table.store(id(*at)?, *slot, Some(id(*to)?))?;
     }
@@ -111,14 +110,10 @@ pub fn roles_of(registry: &mut AssertRegistry, table: &ObjectTable) -> Result<Ro
     Ok(registry.roles(table)?)
 }
 
-/// The cell of the object with this id, and `None` where it isn't live.
-pub fn cell(table: &ObjectTable, object: u32) -> Option<u32>
-    ensures { IfSome result (λ c. c < length table.now.cells) }
+/// The roles that what is asserted of the heap gives the table.
+pub fn roles_in(alloc: Global, table: &ObjectTable, heap: SampleHeap<'_>) -> Result<Roles, Fail>
+    ensures { IfOk result (λ r. AreRolesOf table.now.cells (length table.now.table.kinds) r) }
 {
-    let cell = table.cell_of(ObjId::of(object)?)?;
-    if cell < table.cells() {
-        Some(cell)
-    } else {
-        None
-    }
+    let mut registry = registry_of(alloc, heap)?;
+    roles_of(&mut registry, table)
 }

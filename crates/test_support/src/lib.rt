@@ -1,10 +1,14 @@
 //! What tests of several crates set up in the same way: names, ids, sample heaps and gates. No program stands on it.
 #![tactic(auto)]
 
+mod apart;
+mod cells;
 mod gates;
 mod heaps;
 mod names;
 
+pub use apart::{cells_used_again, table_apart};
+pub use cells::{cell, flags, id_or_zero};
 pub use gates::{Hold, Holding, UNTIL_BOTH_BEGIN, UntilOneIsStolen, Watch, until_many_are_begun};
-pub use heaps::{SampleHeap, cell, registry_of, roles_of, table_of};
+pub use heaps::{SampleHeap, registry_of, roles_in, roles_of, table_of};
 pub use names::{id, name};

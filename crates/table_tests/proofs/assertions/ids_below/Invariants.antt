@@ -1,6 +1,6 @@
 use Rattle.std.proofs.Common.{◌<◌}
 use Rattle.std.specs.List.{All, AllPairs}
-use Rattle.assert_registry.proofs.tests.ids_below.Given as goal
+use Rattle.table_tests.proofs.assertions.ids_below.Given as goal
 
 abbrev pub invariant-loop-n : goal.invariant-loop-n
 invariant-loop-n l = record {

@@ -1,8 +1,8 @@
 use Rattle.std.proofs.Common.{◌≡◌, ◌<◌, List, ℕ, sym, ap, ◌∙◌, subst, arith}
 use Rattle.graph_meaning.specs.Step.{with_member}
 use Rattle.region_log.specs.Regions.{RegionTable}
-use Rattle.region_log.proofs.Noted.{AreUpTo, upto-note}
-use Rattle.region_log.proofs.tests.Run.note.Goals as goal
+use Rattle.table_tests.proofs.Noted.{AreUpTo, upto-note}
+use Rattle.table_tests.proofs.regions.Run.note.Goals as goal
 
 pub invariant_of-self-2 : goal.invariant_of-self-2
 invariant_of-self-2 g c =

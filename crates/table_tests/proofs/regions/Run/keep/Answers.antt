@@ -1,8 +1,8 @@
 use Rattle.std.proofs.Common.{sym, ap, subst}
 use Rattle.graph_meaning.specs.Heap.{is_live}
 use Rattle.region_log.specs.Regions.{RegionTable}
-use Rattle.region_log.proofs.Noted.{AreUpTo, upto-keep}
-use Rattle.region_log.proofs.tests.Run.keep.Goals as goal
+use Rattle.table_tests.proofs.Noted.{AreUpTo, upto-keep}
+use Rattle.table_tests.proofs.regions.Run.keep.Goals as goal
 
 pub invariant_of-self : goal.invariant_of-self
 invariant_of-self c =

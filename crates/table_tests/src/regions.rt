@@ -1,0 +1,267 @@
+//! The regions that threads have open.
+ghost use Rattle.std.specs.Prelude.{◌≤◌};
+ghost use Rattle.std.specs.List.{All};
+
+use graph_meaning::{Refusal, Stop};
+use heap_base::ThreadNo;
+use object_table::ObjectTable;
+use region_log::RegionLog;
+use std::alloc::Global;
+use std::process::Abort;
+use std::test::Fail;
+use test_support::{id, table_apart};
+
+/// The thread with this number.
+pub(crate) fn thread(n: u32) -> Result<ThreadNo, Fail> {
+    Ok(ThreadNo::of(n).ok_or("not a thread")?)
+}
+
+// A log, and the last id that was noted in it.
+#[derive(Drop)]
+struct Run {
+    log: RegionLog,
+    last: u32,
+    ghost below: { All (All (All (λ id. id ≤ last))) log.regions },
+}
+
+impl Run {
+    fn make(alloc: Global) -> Result<Run, Fail> {
+        let log = RegionLog::make(alloc)?;
+        Ok(Run { log, last: 0 })
+    }
+
+    fn start(&mut self, n: u32) -> Result<(), Fail> {
+        let thread = thread(n)?;
+        Ok(self.log.start(thread)?)
+    }
+
+    // Adds an object, whose id must be above all before it.
+    fn note(&mut self, rt: &impl Abort, n: u32, object: u32) -> Result<(), Fail> {
+        assert!(rt; self.last < object);
+        let id = id(object)?;
+        let thread = thread(n)?;
+        self.log.reserve(thread)?;
+        self.log.note(thread, id);
+        self.last = object;
+        Ok(())
+    }
+
+    fn finish(&mut self, n: u32) -> Result<(), Fail> {
+        let thread = thread(n)?;
+        Ok(self.log.finish(thread)?)
+    }
+
+    fn keep(&mut self, table: &ObjectTable) {
+        self.log.keep(table);
+    }
+
+    fn take(&mut self, rt: &impl Abort, step: Step) -> Result<(), Fail> {
+        match step {
+            Step::Start(n) => self.start(n),
+            Step::Note(n, object) => self.note(rt, n, object),
+            Step::Finish(n) => self.finish(n),
+        }
+    }
+
+    fn take_all(&mut self, rt: &impl Abort, steps: &[Step]) -> Result<(), Fail> {
+        for step in steps {
+            self.take(rt, *step)?;
+        }
+        Ok(())
+    }
+
+    // Whether these are the ids in the innermost region of the thread.
+    fn has(&self, n: u32, numbers: &[u32]) -> Result<bool, Fail> {
+        let ids = self.log.members(thread(n)?)?;
+        Ok(ids.len() == numbers.len() && ids.iter().zip(numbers).all(|(id, n)| id.number() == *n))
+    }
+
+    // Whether the innermost region has the members of the case after its steps.
+    fn holds(&mut self, rt: &impl Abort, case: &Case) -> Result<bool, Fail> {
+        self.take_all(rt, case.steps)?;
+        self.has(case.thread, case.members)
+    }
+
+    // Whether the thread has no region that could end.
+    fn has_none(&mut self, n: u32) -> Result<bool, Fail> {
+        let thread = thread(n)?;
+        let none = Refusal::NoRegion(n);
+        Ok(
+            self.log.depth(thread) == 0
+                && self.log.members(thread).err() == Some(Stop::Refused(none))
+                && self.log.finish(thread) == Err(none),
+        )
+    }
+}
+
+// A thread's first region or one more, an object that it allocates, or the end of its innermost region.
+#[derive(Clone, Copy)]
+enum Step {
+    Start(u32),
+    Note(u32, u32),
+    Finish(u32),
+}
+
+// What a thread's innermost region has after these steps.
+struct Case {
+    steps: &'static [Step],
+    thread: u32,
+    members: &'static [u32],
+}
+
+const CASES: [Case; 6] = [
+    Case {
+        steps: &[
+            Step::Start(7),
+            Step::Note(7, 5),
+            Step::Start(7),
+            Step::Note(7, 4_294_967_295),
+        ],
+        thread: 7,
+        members: &[4_294_967_295],
+    },
+    // an object belongs to the outer regions too
+    Case {
+        steps: &[
+            Step::Start(7),
+            Step::Note(7, 5),
+            Step::Start(7),
+            Step::Start(7),
+            Step::Note(7, 8),
+            Step::Finish(7),
+            Step::Finish(7),
+        ],
+        thread: 7,
+        members: &[5, 8],
+    },
+    // and to none that comes later
+    Case {
+        steps: &[
+            Step::Note(0, 1),
+            Step::Start(0),
+            Step::Note(0, 2),
+            Step::Finish(0),
+            Step::Note(0, 3),
+            Step::Start(0),
+        ],
+        thread: 0,
+        members: &[],
+    },
+    // threads are apart
+    Case {
+        steps: &[
+            Step::Start(1_023),
+            Step::Note(1_023, 1),
+            Step::Note(0, 2),
+            Step::Note(1_023, 3),
+        ],
+        thread: 1_023,
+        members: &[1, 3],
+    },
+    Case {
+        steps: &[
+            Step::Start(1_023),
+            Step::Note(1_023, 1),
+            Step::Start(0),
+            Step::Note(0, 4),
+        ],
+        thread: 1_023,
+        members: &[1],
+    },
+    Case {
+        steps: &[
+            Step::Start(1_023),
+            Step::Note(1_023, 1),
+            Step::Start(0),
+            Step::Note(0, 4),
+        ],
+        thread: 0,
+        members: &[4],
+    },
+];
+
+fn holds(rt: &impl Abort, alloc: Global, case: &Case) -> Result<bool, Fail> {
+    let mut run = Run::make(alloc)?;
+    run.holds(rt, case)
+}
+
+#[test]
+fn a_region_has_what_its_thread_allocates_until_it_ends(rt: HostRuntime) -> Result<(), Fail> {
+    for case in &CASES {
+        assert!(rt; holds(&rt, rt.alloc(), case)?, "{:?}", case.members);
+    }
+    Ok(())
+}
+
+fn check_none(rt: &impl Abort, run: &mut Run) -> Result<(), Fail> {
+    run.start(1)?;
+    assert!(rt; run.has_none(0)?);
+    run.finish(1)?;
+    assert!(rt; run.has_none(1)?);
+    Ok(())
+}
+
+#[test]
+fn a_thread_without_a_region_is_refused(rt: HostRuntime) -> Result<(), Fail> {
+    let mut run = Run::make(rt.alloc())?;
+    check_none(&rt, &mut run)
+}
+
+// Two regions of thread 0: the outer one has the objects from 1 to 4, the inner one 3 and 4.
+const NESTED: [Step; 6] = [
+    Step::Start(0),
+    Step::Note(0, 1),
+    Step::Note(0, 2),
+    Step::Start(0),
+    Step::Note(0, 3),
+    Step::Note(0, 4),
+];
+
+fn check_ends(rt: &impl Abort, run: &mut Run, live: &ObjectTable) -> Result<(), Fail> {
+    run.take_all(rt, &NESTED)?;
+    run.keep(live);
+    assert!(rt; run.has(0, &[4])?);
+    run.finish(0)?;
+    run.note(rt, 0, 9)?;
+    assert!(rt; run.has(0, &[2, 4, 9])?);
+    Ok(())
+}
+
+#[test]
+fn a_region_ends_after_some_of_its_members_were_freed(rt: HostRuntime) -> Result<(), Fail> {
+    let live = table_apart(rt.alloc(), &[(2, "A", 0), (4, "A", 0), (9, "A", 0)])?;
+    let mut run = Run::make(rt.alloc())?;
+    check_ends(&rt, &mut run, &live)
+}
+
+// Opens 64 regions of thread 0, adds 20,000 objects, and ends all but the first.
+fn nest(run: &mut Run, rt: &impl Abort) -> Result<(), Fail> {
+    for _ in 0..64u32 {
+        run.start(0)?;
+    }
+    for object in 0..20_000u32 {
+        run.note(rt, 0, object + 1)?;
+    }
+    for _ in 0..63u32 {
+        run.finish(0)?;
+    }
+    Ok(())
+}
+
+// How many objects are in the innermost region of thread 0, and the number of the last.
+fn last_member(run: &Run) -> Result<(usize, Option<u32>), Fail> {
+    let ids = run.log.members(thread(0)?)?;
+    Ok((ids.len(), ids.last().map(|id| id.number())))
+}
+
+fn check_nest(rt: &impl Abort, run: &mut Run) -> Result<(), Fail> {
+    nest(run, rt)?;
+    assert_eq!(rt; last_member(run)?, (20_000, Some(20_000)));
+    Ok(())
+}
+
+#[test]
+fn many_objects_belong_to_all_open_regions(rt: HostRuntime) -> Result<(), Fail> {
+    let mut run = Run::make(rt.alloc())?;
+    check_nest(&rt, &mut run)
+}
