@@ -61,6 +61,25 @@ impl Roles {
         })
     }
 
+    /// Equal roles.
+    pub fn copy(&self) -> Result<Roles, OutOfMemory>
+        ensures { IfOk result (λ r. r ≡ self.now) }
+    {
+        let alloc = *self.owners.allocator();
+        let mut owners = Vec::with_capacity(alloc, self.owners.capacity())?;
+        for owner in &self.owners {
+            owners.push_reserved(*owner);
+        }
+        Ok(Roles {
+            dead: self.dead.to_vec(alloc)?,
+            unshared: self.unshared.to_vec(alloc)?,
+            ownees: self.ownees.to_vec(alloc)?,
+            limits: self.limits.to_vec(alloc)?,
+            owners,
+            is_owner: self.is_owner.to_vec(alloc)?,
+        })
+    }
+
     /// The object in the cell is asserted dead.
     pub fn set_dead(&mut self, cell: u32)
         requires { cell < cells_of self.old }

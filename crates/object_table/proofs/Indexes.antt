@@ -1,9 +1,12 @@
 -- One more name in a list whose places a map finds.
-use Rattle.std.proofs.Common.{◌≡◌, ℕ, ◌<◌, List, [], ◌∷◌, ◌++◌, length, Some, None, refl, arith}
+use Rattle.std.proofs.Common.{◌≡◌, ℕ, ◌<◌, List, [], ◌∷◌, ◌++◌, length, Some, None, Bool, refl, ap, arith, ◌∙◌}
 use Rattle.std.specs.declared.string.String.{String}
-use Rattle.std.specs.BTreeMap.{BTreeMap, get_by_text}
-use Rattle.std.specs.Map.{update}
-use Rattle.std.specs.List.{position}
+use Rattle.std.specs.BTreeMap.{BTreeMap, get_by_text, IsClone}
+use Rattle.std.specs.Map.{update, lookup}
+use Rattle.std.specs.List.{position, AllZip}
+use Rattle.std.specs.Ordering.{is_eq, nat_cmp}
+use Rattle.std.specs.String.{string_bytes}
+use Rattle.std.specs.Cmp.Lexicographic.{slice_cmp}
 use Rattle.std.specs.Str.{bytes_eq}
 use Rattle.std.proofs.lemmas.List.{length_push}
 use Rattle.std.proofs.lemmas.Slice.Eq.{bytes_eq-Decides}
@@ -21,3 +24,20 @@ IsIndexed-add names numbers later name key place is new room same last updates =
 -- the name that is put last is at the place that the list's length was
 pub position-added : (names later : List (List ℕ)) (name : List ℕ) → later ≡ names ++ name ∷ [] → position (bytes_eq name) names ≡ None → position (bytes_eq name) later ≡ Some (length names)
 position-added names later name is new = rw is (position_push_new (bytes_eq name) names name new ((bytes_eq-Decides name name).1 refl))
+
+-- equal entries at each place give equal values
+lookup_zip : {K X : Type 0} (test : K → Bool) (R : K × X → K × X → Type 0) (es fs : List (K × X)) → ((e f : K × X) → R e f → (test f.0 ≡ test e.0) × (f.1 ≡ e.1)) → AllZip R es fs → lookup test fs ≡ lookup test es
+lookup_zip test R [] [] same _ = refl
+lookup_zip test R [] (f ∷ fs) same zs = absurd zs
+lookup_zip test R (e ∷ es) [] same zs = absurd zs
+lookup_zip test R (e ∷ es) (f ∷ fs) same zs =
+    let s = same e f zs.0 in
+    let rest = lookup_zip test R es fs same zs.1 in
+    grind (arith, s.0, s.1, rest)
+
+-- a map whose texts and places are those of this one
+pub IsIndexed-clone : {Y : Type 0} (names : List (List ℕ)) (numbers copy : BTreeMap (String Y) ℕ) → IsIndexed names numbers → IsClone (λ s t. string_bytes t ≡ string_bytes s) (λ x y. y ≡ x) numbers copy → IsIndexed names copy
+IsIndexed-clone names numbers copy is same = record {
+  few = is.few;
+  finds = λ bytes. lookup_zip _ _ numbers.entries copy.entries (λ e f z. (ap (λ b. is_eq (slice_cmp nat_cmp bytes b)) z.0, z.1)) same ∙ is.finds bytes;
+}

@@ -48,6 +48,20 @@ impl Block {
         Ok(Block { start: 0, roots })
     }
 
+    /// An equal block.
+    pub fn copy(&self) -> Result<Block, OutOfMemory>
+        ensures { IfOk result (λ b. b ≡ self.now) }
+    {
+        let mut roots = Vec::with_capacity(*self.roots.allocator(), self.roots.len())?;
+        for root in &self.roots {
+            roots.push(root.copy()?)?;
+        }
+        Ok(Block {
+            start: self.start,
+            roots,
+        })
+    }
+
     /// The place of its first root in the list.
     pub fn start(&self) -> usize
         ensures { result ≡ self.now.start }

@@ -49,6 +49,17 @@ impl Blocks {
         }
     }
 
+    /// An equal list, in equal blocks.
+    pub fn copy(&self) -> Result<Blocks, OutOfMemory>
+        ensures { IfOk result (λ b. b ≡ self.now) }
+    {
+        let mut blocks = Vec::with_capacity(*self.blocks.allocator(), self.blocks.len())?;
+        for block in &self.blocks {
+            blocks.push(block.copy()?)?;
+        }
+        Ok(Blocks { blocks })
+    }
+
     /// How many roots there are.
     pub fn len(&self) -> usize
         requires { length self.now ≤ MOST_ROOTS }

@@ -1,7 +1,8 @@
-ghost use Rattle.std.specs.Prelude.{◌≡◌};
+ghost use Rattle.std.specs.Prelude.{◌≡◌, IfOk};
 ghost use Rattle.object_table.specs.Chains.{next_in};
 
 use crate::object::Object;
+use heap_base::OutOfMemory;
 
 /// A cell of a table: it holds an object, or it is empty and leads to the next empty cell, if there is one.
 #[derive(Drop)]
@@ -11,6 +12,16 @@ pub enum Cell {
 }
 
 impl Cell {
+    /// An equal cell.
+    pub fn copy(&self) -> Result<Cell, OutOfMemory>
+        ensures { IfOk result (λ c. c ≡ self.now) }
+    {
+        match self {
+            Cell::Taken(object) => Ok(Cell::Taken(object.copy()?)),
+            Cell::Empty(next) => Ok(Cell::Empty(*next)),
+        }
+    }
+
     /// The empty cell that it leads to.
     pub fn next(&self) -> Option<u32>
         ensures { result ≡ next_in self.now }

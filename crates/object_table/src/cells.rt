@@ -1,4 +1,4 @@
-ghost use Rattle.std.specs.Prelude.{◌≡◌, ℕ, ◌<◌, ◌≤◌, [], length, map, sum_by, IsTrue, Some, IsSome, IfSome, OnOk, slice_get, slice_set};
+ghost use Rattle.std.specs.Prelude.{◌≡◌, ℕ, ◌<◌, ◌≤◌, [], length, map, sum_by, IsTrue, Some, IsSome, IfSome, OnOk, slice_get, slice_set, IfOk};
 ghost use Rattle.std.specs.Option.{option_map};
 ghost use Rattle.heap_base.specs.declared.limits.TheConstants.{MOST_OBJECTS, MOST_SLOTS};
 ghost use Rattle.object_table.specs.Residents.{held_at, held_after, id_held, is_flagged, next_cell, with_resident, resident_cleared, holders_held};
@@ -43,6 +43,16 @@ impl Cells {
             pages: Pages::make(alloc),
             first_empty: None,
         }
+    }
+
+    /// Equal cells, with memory for as many more.
+    pub fn copy(&self) -> Result<Cells, OutOfMemory>
+        ensures { IfOk result (λ c. c ≡ self.now) }
+    {
+        Ok(Cells {
+            pages: self.pages.copy()?,
+            first_empty: self.first_empty,
+        })
     }
 
     /// How many cells there are.

@@ -27,6 +27,15 @@ impl Directory {
         }
     }
 
+    /// An equal directory.
+    pub fn copy(&self) -> Result<Directory, OutOfMemory> {
+        Ok(Directory {
+            first: self.first,
+            shift: self.shift,
+            starts: self.starts.clone()?,
+        })
+    }
+
     /// Where an id may stand in a list of `count`: from the first place on, and before the second.
     pub fn guess(&self, id: ObjId, count: usize) -> (usize, usize)
         ensures { (result.0 ≤ result.1) × (result.1 ≤ count) }

@@ -1,4 +1,4 @@
-ghost use Rattle.std.specs.Prelude.{◌≡◌, ◌-◌, ◌<◌, ◌≤◌, ◌++◌, ◌∷◌, [], All, length, take, drop, filter, Some, OnOk, OnErr, IfSome, slice_get};
+ghost use Rattle.std.specs.Prelude.{◌≡◌, ◌-◌, ◌<◌, ◌≤◌, ◌++◌, ◌∷◌, [], All, length, take, drop, filter, Some, OnOk, OnErr, IfSome, slice_get, IfOk};
 ghost use Rattle.std.specs.Map.{lookup};
 ghost use Rattle.std.specs.Ordering.{nat_cmp};
 ghost use Rattle.std.specs.BTreeMap.{is_at};
@@ -35,6 +35,16 @@ impl Ids {
             entries: Vec::new(alloc),
             directory: Directory::make(alloc),
         }
+    }
+
+    /// Equal ids, with equal cells.
+    pub fn copy(&self) -> Result<Ids, OutOfMemory>
+        ensures { IfOk result (λ i. i ≡ self.now) }
+    {
+        Ok(Ids {
+            entries: self.entries.to_vec(*self.entries.allocator())?,
+            directory: self.directory.copy()?,
+        })
     }
 
     /// How many ids there are.

@@ -43,6 +43,21 @@ impl Kinds {
         }
     }
 
+    /// Equal names, in the same order.
+    pub fn copy(&self) -> Result<Kinds, OutOfMemory>
+        ensures { IfOk result (λ k. k ≡ self.now) }
+    {
+        let mut names = Vec::with_capacity(self.alloc, self.names.len())?;
+        for name in &self.names {
+            names.push(name.copy()?)?;
+        }
+        Ok(Kinds {
+            names,
+            numbers: self.numbers.clone()?,
+            alloc: self.alloc,
+        })
+    }
+
     /// The place of the name, from 0, and `None` where it was not seen.
     pub fn find(&self, name: &Name) -> Option<u32>
         ensures { result ≡ position (bytes_eq name.now) self.now }

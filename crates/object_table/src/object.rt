@@ -41,6 +41,17 @@ impl Object {
         Ok(Object { id, kind, slots })
     }
 
+    /// An equal object, with slots of its own.
+    pub fn copy(&self) -> Result<Object, OutOfMemory>
+        ensures { IfOk result (λ o. o ≡ self.now) }
+    {
+        Ok(Object {
+            id: self.id,
+            kind: self.kind,
+            slots: self.slots.to_vec(*self.slots.allocator())?,
+        })
+    }
+
     /// Its id.
     pub fn id(&self) -> ObjId
         ensures { result ≡ self.now.id }

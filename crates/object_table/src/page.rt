@@ -37,6 +37,17 @@ impl Page {
         Ok(Page { cells })
     }
 
+    /// An equal page.
+    pub fn copy(&self) -> Result<Page, OutOfMemory>
+        ensures { IfOk result (λ p. p ≡ self.now) }
+    {
+        let mut cells = Vec::with_capacity(*self.cells.allocator(), self.cells.len())?;
+        for cell in &self.cells {
+            cells.push(cell.copy()?)?;
+        }
+        Ok(Page { cells })
+    }
+
     /// The cell at a place of the page.
     pub fn at(&self, place: usize) -> &Cell
         requires { place < length self.now }

@@ -1,4 +1,4 @@
-ghost use Rattle.std.specs.Prelude.{◌≡◌, ◌-◌, ◌<◌, ◌≤◌, ◌++◌, ◌∷◌, [], length, slice_get, slice_set, Some, IfSome, OnOk};
+ghost use Rattle.std.specs.Prelude.{◌≡◌, ◌-◌, ◌<◌, ◌≤◌, ◌++◌, ◌∷◌, [], length, slice_get, slice_set, Some, IfSome, OnOk, IfOk};
 ghost use Rattle.heap_base.specs.declared.limits.TheConstants.{MOST_OBJECTS};
 ghost use Rattle.object_table.specs.Chains.{HasSlot, with_slot_put, with_slots_after, with_slots_cleared, holders_at};
 
@@ -38,6 +38,20 @@ impl Pages {
             pages: Vec::new(alloc),
             count: 0,
         }
+    }
+
+    /// Equal cells, with memory for as many more.
+    pub fn copy(&self) -> Result<Pages, OutOfMemory>
+        ensures { IfOk result (λ p. p ≡ self.now) }
+    {
+        let mut pages = Vec::with_capacity(*self.pages.allocator(), self.pages.len())?;
+        for page in &self.pages {
+            pages.push(page.copy()?)?;
+        }
+        Ok(Pages {
+            pages,
+            count: self.count,
+        })
     }
 
     /// How many cells there are.

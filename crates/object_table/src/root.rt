@@ -1,6 +1,6 @@
-ghost use Rattle.std.specs.Prelude.{◌≡◌};
+ghost use Rattle.std.specs.Prelude.{◌≡◌, IfOk};
 
-use heap_base::{Name, ObjId};
+use heap_base::{Name, ObjId, OutOfMemory};
 use std::marker::Model;
 
 /// A root: its name, with the object that it holds. Contracts see that pair.
@@ -24,6 +24,16 @@ impl Root {
         ensures { result ≡ (name, id) }
     {
         Root { name, id }
+    }
+
+    /// An equal root.
+    pub fn copy(&self) -> Result<Root, OutOfMemory>
+        ensures { IfOk result (λ r. r ≡ self.now) }
+    {
+        Ok(Root {
+            name: self.name.copy()?,
+            id: self.id,
+        })
     }
 
     /// The name.

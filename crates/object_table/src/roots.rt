@@ -44,6 +44,15 @@ impl Roots {
         }
     }
 
+    /// Equal roots.
+    pub fn copy(&self) -> Result<Roots, OutOfMemory>
+        ensures { IfOk result (λ r. r ≡ self.now) }
+    {
+        Ok(Roots {
+            blocks: self.blocks.copy()?,
+        })
+    }
+
     /// How many there are.
     pub fn len(&self) -> u32
         ensures count { result ≡ length self.now }

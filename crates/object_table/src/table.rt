@@ -66,6 +66,21 @@ impl ObjectTable {
         })
     }
 
+    /// An equal table: the same objects in the same cells, with the same slots, roots and types.
+    pub fn copy(&self) -> Result<ObjectTable, OutOfMemory>
+        ensures { IfOk result (λ t. t ≡ self.now) }
+    {
+        Ok(ObjectTable {
+            cells: self.cells.copy()?,
+            ids: self.ids.copy()?,
+            roots: self.roots.copy()?,
+            kinds: self.kinds.copy()?,
+            greatest: self.greatest,
+            slots: self.slots,
+            alloc: self.alloc,
+        })
+    }
+
     /// Why `alloc_object` would refuse this object, and `None` where it would not.
     pub fn alloc_refusal(&self, id: ObjId, kind: &Name, slots: u32) -> Option<Refusal>
         ensures refusal { result ≡ alloc_refusal self.now.table id kind.now slots }
