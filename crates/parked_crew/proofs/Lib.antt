@@ -1,0 +1,4 @@
+pub mod Turns
+pub mod Holds
+pub mod Sendable
+pub mod Zips

@@ -1,0 +1,359 @@
+-- Each step keeps the rule of a round.
+use Rattle.std.proofs.Common.{◌≡◌, ◌≢◌, ℕ, zero, suc, ◌<◌, Option, Some, None, Bool, true, false, List, [], ◌∷◌, ◌++◌, length, get_or, set, sym, refl, ap, ◌∙◌, subst, ⊎_elim, ◌⊎◌, inl, inr, arith, length-set}
+use mathlib.Core.Option.{some, none, some-injective, some-ne-none}
+use mathlib.Core.Option as maybe
+use lib.ListN.{get_elem?}
+use Rattle.atomic_table.specs.Table.{State, step, Act, keeps, takes, gives, carried_after, Valid, stepped, Allows, Splits, opening}
+use Rattle.atomic_table.proofs.Lists.{at_set, set_here, set_else, set_again, at_longer, at_last}
+use Rattle.parked_crew.specs.Errands.{Errand}
+use Rattle.parked_crew.specs.declared.rule.View.{View}
+use Rattle.parked_crew.specs.declared.rule.Role.{Role}
+use Rattle.parked_crew.specs.declared.rule.Role.TheVariants.{Nobody, Unsent, Sent, Served, Fresh, AtWork, Ended}
+use Rattle.parked_crew.specs.Rounds.{Stage, shut, opened, laid, seated, begun, finished, fetched, opening_word, phase, MayBe, Knows, hired, caller_role, worker_role, seen, IsHome, Slot, At, Turned, Sat, Opens, Sends, Takes, Finishes, Looks, without_right, the_worker}
+
+-- Which stage a role shows
+is_opened : (st : Stage) → MayBe Unsent st → st ≡ opened
+is_opened shut m = absurd m
+is_opened opened m = refl
+is_opened laid m = absurd m
+is_opened seated m = absurd m
+is_opened begun m = absurd m
+is_opened finished m = absurd m
+is_opened fetched m = absurd m
+
+is_laid : (st : Stage) → MayBe (Sent true) st → st ≡ laid
+is_laid shut m = absurd m
+is_laid opened m = absurd m
+is_laid laid m = refl
+is_laid seated m = absurd m
+is_laid begun m = absurd m
+is_laid finished m = absurd m
+is_laid fetched m = absurd m
+
+is_seated : (st : Stage) → MayBe Fresh st → st ≡ seated
+is_seated shut m = absurd m
+is_seated opened m = absurd m
+is_seated laid m = absurd m
+is_seated seated m = refl
+is_seated begun m = absurd m
+is_seated finished m = absurd m
+is_seated fetched m = absurd m
+
+is_begun : (st : Stage) → MayBe AtWork st → st ≡ begun
+is_begun shut m = absurd m
+is_begun opened m = absurd m
+is_begun laid m = absurd m
+is_begun seated m = absurd m
+is_begun begun m = refl
+is_begun finished m = absurd m
+is_begun fetched m = absurd m
+
+-- the caller, without the worker's right and before it is served, finds 3 where the errand is done, else another number
+is_finished : (st : Stage) → MayBe (Sent false) st → (st ≡ finished) ⊎ (phase st ≢ 3)
+is_finished shut m = absurd m
+is_finished opened m = absurd m
+is_finished laid m = absurd m
+is_finished seated m = inr (λ e. omega arith)
+is_finished begun m = inr (λ e. omega arith)
+is_finished finished m = inl refl
+is_finished fetched m = absurd m
+
+-- before the round is opened no seat has a part in it
+none_yet : (role : Role) → MayBe role shut → role ≡ Nobody
+none_yet Nobody m = refl
+none_yet Unsent m = absurd m
+none_yet (Sent true) m = absurd m
+none_yet (Sent false) m = absurd m
+none_yet Served m = absurd m
+none_yet Fresh m = absurd m
+none_yet AtWork m = absurd m
+none_yet Ended m = absurd m
+
+-- A step of the caller: no other seat is the caller's
+caller_steps : (st st' : Stage) (c w w' id j : ℕ) (role : Role) → id ≡ c → (Knows st c w j Fresh → Knows st' c w' j Fresh) → (Knows st c w j AtWork → Knows st' c w' j AtWork) → (Knows st c w j Ended → Knows st' c w' j Ended)
+    → j ≢ id → Knows st c w j role → Knows st' c w' j role
+caller_steps st st' c w w' id j Nobody mine f a e apart k = (tt, tt)
+caller_steps st st' c w w' id j Unsent mine f a e apart k = absurd (apart (k.1 ∙ sym mine))
+caller_steps st st' c w w' id j (Sent b) mine f a e apart k = absurd (apart (k.1 ∙ sym mine))
+caller_steps st st' c w w' id j Served mine f a e apart k = absurd (apart (k.1 ∙ sym mine))
+caller_steps st st' c w w' id j Fresh mine f a e apart k = f k
+caller_steps st st' c w w' id j AtWork mine f a e apart k = a k
+caller_steps st st' c w w' id j Ended mine f a e apart k = e k
+
+-- A step of the worker: no other seat is the worker's
+worker_steps : (st st' : Stage) (c w id j : ℕ) (role : Role) → id ≡ w → (MayBe Unsent st → MayBe Unsent st') → ((b : Bool) → MayBe (Sent b) st → MayBe (Sent b) st') → (MayBe Served st → MayBe Served st')
+    → j ≢ id → Knows st c w j role → Knows st' c w j role
+worker_steps st st' c w id j Nobody mine u s v apart k = (tt, tt)
+worker_steps st st' c w id j Unsent mine u s v apart k = (u k.0, k.1)
+worker_steps st st' c w id j (Sent b) mine u s v apart k = (s b k.0, k.1)
+worker_steps st st' c w id j Served mine u s v apart k = (v k.0, k.1)
+worker_steps st st' c w id j Fresh mine u s v apart k = absurd (apart (k.1 ∙ sym mine))
+worker_steps st st' c w id j AtWork mine u s v apart k = absurd (apart (k.1 ∙ sym mine))
+worker_steps st st' c w id j Ended mine u s v apart k = absurd (apart (k.1 ∙ sym mine))
+
+-- the caller's view stays sent, where it does with the right and without it
+stays_sent : (st st' : Stage) → (MayBe (Sent true) st → MayBe (Sent true) st') → (MayBe (Sent false) st → MayBe (Sent false) st') → (b : Bool) → MayBe (Sent b) st → MayBe (Sent b) st'
+stays_sent st st' held bare true m = held m
+stays_sent st st' held bare false m = bare m
+
+at_lone : {A : Type 0} (a b : A) (j : ℕ) → get_elem? (a ∷ []) j ≡ some b → a ≡ b
+at_lone a b zero e = some-injective a b e
+at_lone a b (suc j) e = absurd (some-ne-none b (sym e))
+
+at_lt : {A : Type 0} (l : List A) (i : ℕ) (a : A) → get_elem? l i ≡ some a → i < length l
+at_lt [] i a e = absurd (some-ne-none a (sym e))
+at_lt (x ∷ xs) zero a e = omega arith
+at_lt (x ∷ xs) (suc i) a e = let r = at_lt xs i a e in omega arith
+
+-- 1 of a role of the caller's, 2 of one of the worker's
+abbrev kind : Role → ℕ
+kind Nobody = 0
+kind Unsent = 1
+kind (Sent b) = 1
+kind Served = 1
+kind Fresh = 2
+kind AtWork = 2
+kind Ended = 2
+
+-- the last of a list stands at its old length
+at_end : {A : Type 0} (l : List A) (a b : A) (j : ℕ) → get_elem? (l ++ a ∷ []) j ≡ some b → ((j ≢ length l) × (get_elem? l j ≡ some b)) ⊎ ((j ≡ length l) × (a ≡ b))
+at_end [] a b zero e = inr (refl, some-injective a b e)
+at_end [] a b (suc j) e = absurd (some-ne-none b (sym e))
+at_end (x ∷ xs) a b zero e = inl ((λ h. omega arith), e)
+at_end (x ∷ xs) a b (suc j) e = ⊎_elim (λ t. let n = t.0 in inl ((λ h. n (omega arith)), t.1)) (λ t. inr (ap suc t.0, t.1)) (at_end xs a b j e)
+
+module _ {C : Type 0} (n : C) where
+  abbrev It : Type 0
+  It = Option (Errand C)
+
+  abbrev Homes : Type 0
+  Homes = List (maybe.Option It)
+
+  abbrev St : Type 0
+  St = State It (View C)
+
+  -- what a step owes, over the parts of the table
+  abbrev Goes : List ℕ → Homes → List (View C) → ℕ → Sat C → ℕ → (ℕ → ℕ) → (ℕ → Sat C → Type 0) → Type 0
+  Goes ws hs vs id me i f then = (u : View C) × (a : Act It) × Valid hs me.1 a × Turned n (stepped (record { words = ws; homes = hs; views = vs }) i (f (get_or ws i 0)) id me.1 u a) × then (get_or ws i 0) (u, carried_after me.1 a)
+
+  at_words : (st : Stage) (c w : ℕ) (s : St) → At n st c w s → (id : ℕ) (me : Sat C) (i : ℕ) (f : ℕ → ℕ) (then : ℕ → Sat C → Type 0)
+      → Goes (opening_word st ∷ phase st ∷ []) s.homes s.views id me i f then → Goes s.words s.homes s.views id me i f then
+  at_words st c w s k id me i f then g = subst (λ (ws : List ℕ). Goes ws s.homes s.views id me i f then) (sym k.words) g
+
+  -- the seat id has the view u now, and the round is at the stage st'
+  moved_at : (st st' : Stage) (c w c' w' : ℕ) (s : St) → At n st c w s → (id : ℕ) (u : View C) (homes' : Homes) → length homes' ≡ 1 → Slot n homes' st' → Knows st' c' w' id u.role → u.start ≡ n
+      → ((j : ℕ) (role : Role) → j ≢ id → Knows st c w j role → Knows st' c' w' j role)
+      → (opening_word st' ≡ 1 → get_elem? (set s.views id u) c' ≡ some (seen (caller_role st') n)) → (hired st' ≡ 1 → get_elem? (set s.views id u) w' ≡ some (seen (worker_role st') n))
+      → At n st' c' w' record { words = opening_word st' ∷ phase st' ∷ []; homes = homes'; views = set s.views id u }
+  moved_at st st' c w c' w' s k id u homes' deep slot mine noted others ct wt = record {
+    words = refl;
+    deep = deep;
+    slot = slot;
+    each_seat = λ j v e. ⊎_elim (λ (t : (j ≡ id) × (u ≡ v)). subst (λ (x : ℕ × View C). Knows st' c' w' x.0 x.1.role) (λ i. (sym t.0 i, t.1 i)) mine)
+        (λ (t : (j ≢ id) × (get_elem? s.views j ≡ some v)). others j v.role t.0 (k.each_seat j v t.1)) (at_set s.views id j u v e);
+    noted = λ j v e. ⊎_elim (λ (t : (j ≡ id) × (u ≡ v)). subst (λ (x : View C). x.start ≡ n) t.1 noted)
+        (λ (t : (j ≢ id) × (get_elem? s.views j ≡ some v)). k.noted j v t.1) (at_set s.views id j u v e);
+    caller_there = ct;
+    worker_there = wt;
+  }
+
+  -- two seats of different kinds are two
+  two_seats : (vs : List (View C)) (i j : ℕ) (v u : View C) → get_elem? vs i ≡ some v → get_elem? vs j ≡ some u → kind v.role ≢ kind u.role → i ≢ j
+  two_seats vs i j v u a b other e = other (ap (λ (x : View C). kind x.role) (some-injective v u (sym a ∙ (ap (λ (z : ℕ). get_elem? vs z) e ∙ b))))
+
+  -- where the seat's view stays as it was
+  same_there : (vs : List (View C)) (id i : ℕ) (v u : View C) → get_elem? vs id ≡ some v → get_elem? vs i ≡ some u → get_elem? (set vs id v) i ≡ some u
+  same_there vs id i v u at there = ap (λ (z : List (View C)). get_elem? z i) (set_again vs id v at) ∙ there
+
+  -- the new view of the seat, where that is the seat i
+  new_there : (vs : List (View C)) (id i : ℕ) (v : View C) (role : Role) (m : C) → get_elem? vs id ≡ some v → id ≡ i → m ≡ n → get_elem? (set vs id (seen role m)) i ≡ some (seen role n)
+  new_there vs id i v role m at is same = ap (λ (z : ℕ). get_elem? (set vs id (seen role m)) z) (sym is) ∙ (set_here vs id (seen role m) (at_lt vs id v at) ∙ ap (λ (z : C). some (seen role z)) same)
+
+  -- the view of another seat stays
+  other_there : (vs : List (View C)) (id i : ℕ) (v u w : View C) → get_elem? vs id ≡ some v → get_elem? vs i ≡ some u → kind u.role ≢ kind v.role → get_elem? (set vs id w) i ≡ some u
+  other_there vs id i v u w at there other = set_else vs id i w (two_seats vs i id u v there at other) ∙ there
+
+  moved : (st st' : Stage) (c w c' w' : ℕ) (s : St) → At n st c w s → (id : ℕ) (u : View C) (homes' : Homes) → length homes' ≡ 1 → Slot n homes' st' → Knows st' c' w' id u.role → u.start ≡ n
+      → ((j : ℕ) (role : Role) → j ≢ id → Knows st c w j role → Knows st' c' w' j role)
+      → (opening_word st' ≡ 1 → get_elem? (set s.views id u) c' ≡ some (seen (caller_role st') n)) → (hired st' ≡ 1 → get_elem? (set s.views id u) w' ≡ some (seen (worker_role st') n))
+      → Turned n record { words = opening_word st' ∷ phase st' ∷ []; homes = homes'; views = set s.views id u }
+  moved st st' c w c' w' s k id u homes' deep slot mine noted others ct wt = record { stage = st'; caller = c'; worker = w'; at = moved_at st st' c w c' w' s k id u homes' deep slot mine noted others ct wt }
+
+  -- the table when it is made
+  pub makes : Turned n (opening (0 ∷ 0 ∷ []) (None ∷ []) (seen Nobody n))
+  makes = record {
+    stage = shut;
+    caller = 0;
+    worker = 0;
+    at = record {
+      words = refl;
+      deep = refl;
+      slot = refl;
+      each_seat = λ j v e. subst (λ (x : View C). Knows shut 0 0 j x.role) (at_lone (seen Nobody n) v j e) (tt, tt);
+      noted = λ j v e. sym (ap (λ (x : View C). x.start) (at_lone (seen Nobody n) v j e));
+      caller_there = λ e. absurd (omega arith);
+      worker_there = λ e. absurd (omega arith);
+    };
+  }
+
+  opens_at : (st : Stage) (c w slots id : ℕ) (s : St) (m : C) → At n st c w s → get_elem? s.views id ≡ some (seen Nobody m)
+      → Goes (opening_word st ∷ phase st ∷ []) s.homes s.views id (seen Nobody m, []) 0 (λ _. 1) (Opens (step slots 0 1 0 none) (seen Nobody m, []))
+  opens_at shut c w slots id s m k at = (
+    seen Unsent m,
+    takes 0 None,
+    k.slot,
+    moved shut opened c w id w s k id (seen Unsent m) (set s.homes 0 none) (length-set s.homes 0 none ∙ k.deep) (set_here s.homes 0 none (let d = k.deep in omega arith)) (tt, refl) (k.noted id (seen Nobody m) at)
+        (λ j role apart h. subst (λ (r : Role). Knows opened id w j r) (sym (none_yet role h.0)) (tt, tt))
+        (λ _. new_there s.views id id (seen Nobody m) Unsent m at refl (k.noted id (seen Nobody m) at)) (λ e. absurd (omega arith)),
+    refl,
+  )
+  opens_at opened c w slots id s m k at = (seen Nobody m, keeps, tt, moved opened opened c w c w s k id (seen Nobody m) s.homes k.deep k.slot (tt, tt) (k.noted id (seen Nobody m) at) (λ j role _ h. h) (λ e. same_there s.views id c (seen Nobody m) (seen (caller_role opened) n) at (k.caller_there e)) (λ e. same_there s.views id w (seen Nobody m) (seen (worker_role opened) n) at (k.worker_there e)), refl)
+  opens_at laid c w slots id s m k at = (seen Nobody m, keeps, tt, moved laid laid c w c w s k id (seen Nobody m) s.homes k.deep k.slot (tt, tt) (k.noted id (seen Nobody m) at) (λ j role _ h. h) (λ e. same_there s.views id c (seen Nobody m) (seen (caller_role laid) n) at (k.caller_there e)) (λ e. same_there s.views id w (seen Nobody m) (seen (worker_role laid) n) at (k.worker_there e)), refl)
+  opens_at seated c w slots id s m k at = (seen Nobody m, keeps, tt, moved seated seated c w c w s k id (seen Nobody m) s.homes k.deep k.slot (tt, tt) (k.noted id (seen Nobody m) at) (λ j role _ h. h) (λ e. same_there s.views id c (seen Nobody m) (seen (caller_role seated) n) at (k.caller_there e)) (λ e. same_there s.views id w (seen Nobody m) (seen (worker_role seated) n) at (k.worker_there e)), refl)
+  opens_at begun c w slots id s m k at = (seen Nobody m, keeps, tt, moved begun begun c w c w s k id (seen Nobody m) s.homes k.deep k.slot (tt, tt) (k.noted id (seen Nobody m) at) (λ j role _ h. h) (λ e. same_there s.views id c (seen Nobody m) (seen (caller_role begun) n) at (k.caller_there e)) (λ e. same_there s.views id w (seen Nobody m) (seen (worker_role begun) n) at (k.worker_there e)), refl)
+  opens_at finished c w slots id s m k at = (seen Nobody m, keeps, tt, moved finished finished c w c w s k id (seen Nobody m) s.homes k.deep k.slot (tt, tt) (k.noted id (seen Nobody m) at) (λ j role _ h. h) (λ e. same_there s.views id c (seen Nobody m) (seen (caller_role finished) n) at (k.caller_there e)) (λ e. same_there s.views id w (seen Nobody m) (seen (worker_role finished) n) at (k.worker_there e)), refl)
+  opens_at fetched c w slots id s m k at = (seen Nobody m, keeps, tt, moved fetched fetched c w c w s k id (seen Nobody m) s.homes k.deep k.slot (tt, tt) (k.noted id (seen Nobody m) at) (λ j role _ h. h) (λ e. same_there s.views id c (seen Nobody m) (seen (caller_role fetched) n) at (k.caller_there e)) (λ e. same_there s.views id w (seen Nobody m) (seen (worker_role fetched) n) at (k.worker_there e)), refl)
+
+  pub opens : (slots id : ℕ) (m : C) → Allows (Turned n) slots id (seen Nobody m, []) 0 (λ _. 1) (Opens (step slots 0 1 0 none) (seen Nobody m, []))
+  opens slots id m s r _ at _ = at_words r.stage r.caller r.worker s r.at id (seen Nobody m, []) 0 (λ _. 1) (Opens (step slots 0 1 0 none) (seen Nobody m, [])) (opens_at r.stage r.caller r.worker slots id s m r.at at)
+
+  -- the caller's seat lays down an errand that is not done
+  pub sends : (slots id : ℕ) (m : C) (e : Errand C) → e.is_done ≡ false → e.start ≡ m → Allows (Turned n) slots id (seen Unsent m, (0, Some e) ∷ []) 1 (λ _. 1) (Sends (step slots 1 1 0 none) (seen Unsent m, (0, Some e) ∷ []))
+  sends slots id m e fresh about s r _ at _ =
+      let known : Knows r.stage r.caller r.worker id Unsent = r.at.each_seat id (seen Unsent m) at in
+      let k : At n opened r.caller r.worker s = subst (λ (z : Stage). At n z r.caller r.worker s) (is_opened r.stage known.0) r.at in
+      let same : m ≡ n = k.noted id (seen Unsent m) at in
+      at_words opened r.caller r.worker s k id (seen Unsent m, (0, Some e) ∷ []) 1 (λ _. 1) (Sends (step slots 1 1 0 none) (seen Unsent m, (0, Some e) ∷ [])) (
+        seen (Sent true) m,
+        gives,
+        tt,
+        moved opened laid r.caller r.worker r.caller r.worker s k id (seen (Sent true) m) (set s.homes 0 (some (Some e))) (length-set s.homes 0 (some (Some e)) ∙ k.deep)
+            (e, set_here s.homes 0 (some (Some e)) (let d = k.deep in omega arith), fresh, subst (λ (z : C). e.start ≡ z) same about) (tt, known.1) same
+            (λ j role. caller_steps opened laid r.caller r.worker r.worker id j role known.1 (λ h. absurd h.0) (λ h. absurd h.0) (λ h. absurd h.0))
+            (λ _. new_there s.views id r.caller (seen Unsent m) (Sent true) m at known.1 same) (λ e. absurd (omega arith)),
+        refl,
+      )
+
+  -- the worker's right goes from the caller's seat to a new one
+  pub splits : (id : ℕ) (m : C) → Splits (Turned n) id (seen (Sent true) m) (without_right (seen (Sent true) m)) (the_worker (seen (Sent true) m))
+  splits id m s r at =
+      let known : Knows r.stage r.caller r.worker id (Sent true) = r.at.each_seat id (seen (Sent true) m) at in
+      let k : At n laid r.caller r.worker s = subst (λ (z : Stage). At n z r.caller r.worker s) (is_laid r.stage known.0) r.at in
+      let same : m ≡ n = k.noted id (seen (Sent true) m) at in
+      let old : List (View C) = set s.views id (seen (Sent false) m) in
+      let new : ℕ = length old in
+      let others : (j : ℕ) (role : Role) → j ≢ id → Knows laid r.caller r.worker j role → Knows seated r.caller new j role =
+      λ j role. caller_steps laid seated r.caller r.worker new id j role known.1 (λ h. absurd h.0) (λ h. absurd h.0) (λ h. absurd h.0) in
+      let each : (j : ℕ) (v : View C) → get_elem? old j ≡ some v → Knows seated r.caller new j v.role =
+      λ j v e. ⊎_elim (λ (q : (j ≡ id) × (seen (Sent false) m ≡ v)). subst (λ (x : View C). Knows seated r.caller new j x.role) q.1 (tt, q.0 ∙ known.1))
+      (λ (q : (j ≢ id) × (get_elem? s.views j ≡ some v)). others j v.role q.0 (k.each_seat j v q.1)) (at_set s.views id j (seen (Sent false) m) v e) in
+      let noted : (j : ℕ) (v : View C) → get_elem? old j ≡ some v → v.start ≡ n =
+      λ j v e. ⊎_elim (λ (q : (j ≡ id) × (seen (Sent false) m ≡ v)). subst (λ (x : View C). x.start ≡ n) q.1 same)
+      (λ (q : (j ≢ id) × (get_elem? s.views j ≡ some v)). k.noted j v q.1) (at_set s.views id j (seen (Sent false) m) v e) in
+      record {
+        stage = seated;
+        caller = r.caller;
+        worker = new;
+        at = record {
+          words = k.words;
+          deep = k.deep;
+          slot = k.slot;
+          each_seat = λ j v e. ⊎_elim (λ (q : (j ≢ new) × (get_elem? old j ≡ some v)). each j v q.1)
+              (λ (q : (j ≡ new) × (seen Fresh m ≡ v)). subst (λ (x : View C). Knows seated r.caller new j x.role) q.1 (tt, q.0)) (at_end old (seen Fresh m) v j e);
+          noted = λ j v e. ⊎_elim (λ (q : (j ≢ new) × (get_elem? old j ≡ some v)). noted j v q.1)
+              (λ (q : (j ≡ new) × (seen Fresh m ≡ v)). subst (λ (x : View C). x.start ≡ n) q.1 same) (at_end old (seen Fresh m) v j e);
+          caller_there = λ _. at_longer old (seen Fresh m ∷ []) r.caller (seen (Sent false) n) (new_there s.views id r.caller (seen (Sent true) m) (Sent false) m at known.1 same);
+          worker_there = λ _. at_last old (seen Fresh m) new refl ∙ ap (λ (z : C). some (seen Fresh z)) same;
+        };
+      }
+
+  -- the worker takes the errand
+  pub begins : (slots id : ℕ) (m : C) → Allows (Turned n) slots id (seen Fresh m, []) 1 (λ _. 2) (Takes (step slots 1 2 0 none) (seen Fresh m, []))
+  begins slots id m s r _ at _ =
+      let known : Knows r.stage r.caller r.worker id Fresh = r.at.each_seat id (seen Fresh m) at in
+      let k : At n seated r.caller r.worker s = subst (λ (z : Stage). At n z r.caller r.worker s) (is_seated r.stage known.0) r.at in
+      let same : m ≡ n = k.noted id (seen Fresh m) at in
+      let lies : IsHome n false s.homes = k.slot in
+      at_words seated r.caller r.worker s k id (seen Fresh m, []) 1 (λ _. 2) (Takes (step slots 1 2 0 none) (seen Fresh m, [])) (
+        seen AtWork m,
+        takes 0 (Some lies.0),
+        lies.1,
+        moved seated begun r.caller r.worker r.caller r.worker s k id (seen AtWork m) (set s.homes 0 none) (length-set s.homes 0 none ∙ k.deep)
+            (set_here s.homes 0 none (let d = k.deep in omega arith)) (tt, known.1) same
+            (λ j role. worker_steps seated begun r.caller r.worker id j role known.1 (λ h. h) (stays_sent seated begun (λ h. h) (λ h. h)) (λ h. h))
+            (λ _. other_there s.views id r.caller (seen Fresh m) (seen (Sent false) n) (seen AtWork m) at (k.caller_there refl) (λ e. omega arith)) (λ _. new_there s.views id r.worker (seen Fresh m) AtWork m at known.1 same),
+        (lies.0, refl, lies.2, subst (λ (z : C). let e : Errand C = lies.0 in e.start ≡ z) (sym same) lies.3),
+      )
+
+  -- the worker lays down the errand that is done
+  pub ends : (slots id : ℕ) (m : C) (e : Errand C) → e.is_done ≡ true → e.start ≡ m → Allows (Turned n) slots id (seen AtWork m, (0, Some e) ∷ []) 1 (λ _. 3) (Finishes (step slots 1 3 0 none) (seen AtWork m, (0, Some e) ∷ []))
+  ends slots id m e done about s r _ at _ =
+      let known : Knows r.stage r.caller r.worker id AtWork = r.at.each_seat id (seen AtWork m) at in
+      let k : At n begun r.caller r.worker s = subst (λ (z : Stage). At n z r.caller r.worker s) (is_begun r.stage known.0) r.at in
+      let same : m ≡ n = k.noted id (seen AtWork m) at in
+      at_words begun r.caller r.worker s k id (seen AtWork m, (0, Some e) ∷ []) 1 (λ _. 3) (Finishes (step slots 1 3 0 none) (seen AtWork m, (0, Some e) ∷ [])) (
+        seen Ended m,
+        gives,
+        tt,
+        moved begun finished r.caller r.worker r.caller r.worker s k id (seen Ended m) (set s.homes 0 (some (Some e))) (length-set s.homes 0 (some (Some e)) ∙ k.deep)
+            (e, set_here s.homes 0 (some (Some e)) (let d = k.deep in omega arith), done, subst (λ (z : C). e.start ≡ z) same about) (tt, known.1) same
+            (λ j role. worker_steps begun finished r.caller r.worker id j role known.1 (λ h. h) (stays_sent begun finished (λ h. h) (λ h. h)) (λ h. absurd h))
+            (λ _. other_there s.views id r.caller (seen AtWork m) (seen (Sent false) n) (seen Ended m) at (k.caller_there refl) (λ e. omega arith)) (λ _. new_there s.views id r.worker (seen AtWork m) Ended m at known.1 same),
+        refl,
+      )
+
+  -- the caller finds the errand done
+  fetches : (c w slots id : ℕ) (m : C) (s : St) → At n finished c w s → get_elem? s.views id ≡ some (seen (Sent false) m) → id ≡ c
+      → Goes (1 ∷ 3 ∷ []) s.homes s.views id (seen (Sent false) m, []) 1 (λ x. x) (Looks (step slots 1 0 0 none) (seen (Sent false) m, []))
+  fetches c w slots id m s k at mine =
+      let same : m ≡ n = k.noted id (seen (Sent false) m) at in
+      let lies : IsHome n true s.homes = k.slot in (
+        seen Served m,
+        takes 0 (Some lies.0),
+        lies.1,
+        moved finished fetched c w c w s k id (seen Served m) (set s.homes 0 none) (length-set s.homes 0 none ∙ k.deep)
+            (set_here s.homes 0 none (let d = k.deep in omega arith)) (tt, mine) same
+            (λ j role. caller_steps finished fetched c w w id j role mine (λ h. absurd h.0) (λ h. absurd h.0) (λ h. h))
+            (λ _. new_there s.views id c (seen (Sent false) m) Served m at mine same) (λ _. other_there s.views id w (seen (Sent false) m) (seen Ended n) (seen Served m) at (k.worker_there refl) (λ e. omega arith)),
+        ((λ _. (lies.0, refl, lies.2, subst (λ (z : C). let e : Errand C = lies.0 in e.start ≡ z) (sym same) lies.3)), (λ other. absurd (other refl))),
+      )
+
+  -- it finds that the errand is not done
+  waits : (st : Stage) (c w slots id : ℕ) (m : C) (s : St) → At n st c w s → get_elem? s.views id ≡ some (seen (Sent false) m) → phase st ≢ 3
+      → Goes (opening_word st ∷ phase st ∷ []) s.homes s.views id (seen (Sent false) m, []) 1 (λ x. x) (Looks (step slots 1 0 0 none) (seen (Sent false) m, []))
+  waits st c w slots id m s k at early = (
+    seen (Sent false) m,
+    keeps,
+    tt,
+    moved st st c w c w s k id (seen (Sent false) m) s.homes k.deep k.slot (k.each_seat id (seen (Sent false) m) at) (k.noted id (seen (Sent false) m) at) (λ j role _ h. h)
+        (λ e. same_there s.views id c (seen (Sent false) m) (seen (caller_role st) n) at (k.caller_there e)) (λ e. same_there s.views id w (seen (Sent false) m) (seen (worker_role st) n) at (k.worker_there e)),
+    ((λ e. absurd (early e)), (λ _. refl)),
+  )
+
+  pub looks : (slots id : ℕ) (m : C) → Allows (Turned n) slots id (seen (Sent false) m, []) 1 (λ x. x) (Looks (step slots 1 0 0 none) (seen (Sent false) m, []))
+  looks slots id m s r _ at _ =
+      let known : Knows r.stage r.caller r.worker id (Sent false) = r.at.each_seat id (seen (Sent false) m) at in
+      ⊎_elim
+      (λ (e : r.stage ≡ finished). let k : At n finished r.caller r.worker s = subst (λ (z : Stage). At n z r.caller r.worker s) e r.at in
+      at_words finished r.caller r.worker s k id (seen (Sent false) m, []) 1 (λ x. x) (Looks (step slots 1 0 0 none) (seen (Sent false) m, [])) (fetches r.caller r.worker slots id m s k at known.1))
+      (λ (e : phase r.stage ≢ 3). at_words r.stage r.caller r.worker s r.at id (seen (Sent false) m, []) 1 (λ x. x) (Looks (step slots 1 0 0 none) (seen (Sent false) m, [])) (waits r.stage r.caller r.worker slots id m s r.at at e))
+      (is_finished r.stage known.0)
+
+  -- The same of a seat whose view and slots are known by an equation
+  pub can_send : (slots id : ℕ) (me : Sat C) (e : Errand C) → me ≡ (seen Unsent me.0.start, (0, Some e) ∷ []) → e.is_done ≡ false → e.start ≡ me.0.start → Allows (Turned n) slots id me 1 (λ _. 1) (Sends (step slots 1 1 0 none) me)
+  can_send slots id me e is fresh about = subst (λ (z : Sat C). Allows (Turned n) slots id z 1 (λ _. 1) (Sends (step slots 1 1 0 none) z)) (sym is) (sends slots id me.0.start e fresh about)
+
+  pub can_split : (id : ℕ) (v : View C) → v ≡ seen (Sent true) v.start → Splits (Turned n) id v (without_right v) (the_worker v)
+  can_split id v is = subst (λ (z : View C). Splits (Turned n) id z (without_right z) (the_worker z)) (sym is) (splits id v.start)
+
+  pub can_begin : (slots id : ℕ) (me : Sat C) → me ≡ (seen Fresh me.0.start, []) → Allows (Turned n) slots id me 1 (λ _. 2) (Takes (step slots 1 2 0 none) me)
+  can_begin slots id me is = subst (λ (z : Sat C). Allows (Turned n) slots id z 1 (λ _. 2) (Takes (step slots 1 2 0 none) z)) (sym is) (begins slots id me.0.start)
+
+  pub can_end : (slots id : ℕ) (me : Sat C) (e : Errand C) → me ≡ (seen AtWork me.0.start, (0, Some e) ∷ []) → e.is_done ≡ true → e.start ≡ me.0.start → Allows (Turned n) slots id me 1 (λ _. 3) (Finishes (step slots 1 3 0 none) me)
+  can_end slots id me e is done about = subst (λ (z : Sat C). Allows (Turned n) slots id z 1 (λ _. 3) (Finishes (step slots 1 3 0 none) z)) (sym is) (ends slots id me.0.start e done about)
+
+  pub can_look : (slots id : ℕ) (me : Sat C) → me ≡ (seen (Sent false) me.0.start, []) → Allows (Turned n) slots id me 1 (λ x. x) (Looks (step slots 1 0 0 none) me)
+  can_look slots id me is = subst (λ (z : Sat C). Allows (Turned n) slots id z 1 (λ x. x) (Looks (step slots 1 0 0 none) z)) (sym is) (looks slots id me.0.start)
+
+  pub can_open : (slots id : ℕ) (me : Sat C) → me ≡ (seen Nobody me.0.start, []) → Allows (Turned n) slots id me 0 (λ _. 1) (Opens (step slots 0 1 0 none) me)
+  can_open slots id me is = subst (λ (z : Sat C). Allows (Turned n) slots id z 0 (λ _. 1) (Opens (step slots 0 1 0 none) z)) (sym is) (opens slots id me.0.start)

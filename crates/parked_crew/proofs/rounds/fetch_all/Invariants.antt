@@ -1,0 +1,14 @@
+use Rattle.std.proofs.Common.{◌≡◌, ◌++◌, ◌+◌, ◌≤◌, length}
+use Rattle.std.specs.Prelude.{vec_len, vec_capacity}
+use Rattle.std.specs.Vec.Iter.{into_iter_items, into_iter_len}
+use Rattle.std.specs.List.{AllZip}
+use Rattle.parked_crew.proofs.rounds.fetch_all.Given as goal
+
+abbrev pub invariant-loop-round : goal.invariant-loop-round
+invariant-loop-round g l = record {
+  all : l.yielded ++ into_iter_items l.round-iterator ≡ into_iter_items l.initial.round-iterator;
+  left : into_iter_len l.round-iterator ≡ length (into_iter_items l.round-iterator);
+  made : AllZip g.C.Share.worked l.yielded l.shares.items;
+  count : vec_len l.shares + length (into_iter_items l.round-iterator) ≡ length l.workers;
+  room : length l.workers ≤ vec_capacity l.shares;
+}

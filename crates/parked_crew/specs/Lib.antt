@@ -1,0 +1,4 @@
+pub mod Errands
+pub mod Rounds
+pub mod Seats
+pub mod Crews

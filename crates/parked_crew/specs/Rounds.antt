@@ -1,0 +1,169 @@
+-- The rule of a round, and what each step on its table tells. Word 0 is the opening word, word 1 the phase, and slot 0
+-- has the errand.
+use Rattle.std.specs.Prelude.{◌≡◌, ◌≢◌, ℕ, ◌==◌, Option, Some, None, Bool, true, false, cond, List, [], ◌∷◌, length}
+use mathlib.Core.Option.{some, none}
+use mathlib.Core.Option as maybe
+use lib.ListN.{get_elem?}
+use Rattle.atomic_table.specs.Table.{State, Me, Step, rest}
+use Rattle.parked_crew.specs.Errands.{Errand}
+use Rattle.parked_crew.specs.declared.rule.View.{View}
+use Rattle.parked_crew.specs.declared.rule.Role.{Role}
+use Rattle.parked_crew.specs.declared.rule.Role.TheVariants.{Nobody, Unsent, Sent, Served, Fresh, AtWork, Ended}
+
+-- How far a round is: nobody has opened it; the caller has the errand; the errand lies in the slot, and the caller has the
+-- worker's right; the worker has a seat; the worker has the errand; the errand lies there and is done; the caller has it.
+pub data Stage : Type 0 where
+  shut : Stage
+  opened : Stage
+  laid : Stage
+  seated : Stage
+  begun : Stage
+  finished : Stage
+  fetched : Stage
+
+abbrev pub opening_word : Stage → ℕ
+opening_word shut = 0
+opening_word opened = 1
+opening_word laid = 1
+opening_word seated = 1
+opening_word begun = 1
+opening_word finished = 1
+opening_word fetched = 1
+
+abbrev pub phase : Stage → ℕ
+phase shut = 0
+phase opened = 0
+phase laid = 1
+phase seated = 1
+phase begun = 2
+phase finished = 3
+phase fetched = 3
+
+-- 1 from when the worker has a seat
+abbrev pub hired : Stage → ℕ
+hired shut = 0
+hired opened = 0
+hired laid = 0
+hired seated = 1
+hired begun = 1
+hired finished = 1
+hired fetched = 1
+
+abbrev pub caller_role : Stage → Role
+caller_role shut = Nobody
+caller_role opened = Unsent
+caller_role laid = Sent true
+caller_role seated = Sent false
+caller_role begun = Sent false
+caller_role finished = Sent false
+caller_role fetched = Served
+
+abbrev pub worker_role : Stage → Role
+worker_role shut = Nobody
+worker_role opened = Nobody
+worker_role laid = Nobody
+worker_role seated = Fresh
+worker_role begun = AtWork
+worker_role finished = Ended
+worker_role fetched = Ended
+
+-- a seat of this role may be there at the stage
+abbrev pub MayBe : Role → Stage → Type 0
+MayBe Nobody st = Unit {0}
+MayBe Unsent opened = Unit {0}
+MayBe Unsent _ = ⊥
+MayBe (Sent true) laid = Unit {0}
+MayBe (Sent true) _ = ⊥
+MayBe (Sent false) seated = Unit {0}
+MayBe (Sent false) begun = Unit {0}
+MayBe (Sent false) finished = Unit {0}
+MayBe (Sent false) _ = ⊥
+MayBe Served fetched = Unit {0}
+MayBe Served _ = ⊥
+MayBe Fresh seated = Unit {0}
+MayBe Fresh _ = ⊥
+MayBe AtWork begun = Unit {0}
+MayBe AtWork _ = ⊥
+MayBe Ended finished = Unit {0}
+MayBe Ended fetched = Unit {0}
+MayBe Ended _ = ⊥
+
+-- the seat j has this role only where it is the caller's or the worker's
+abbrev pub IsAt : Role → ℕ → ℕ → ℕ → Type 0
+IsAt Nobody caller worker j = Unit {0}
+IsAt Unsent caller worker j = j ≡ caller
+IsAt (Sent b) caller worker j = j ≡ caller
+IsAt Served caller worker j = j ≡ caller
+IsAt Fresh caller worker j = j ≡ worker
+IsAt AtWork caller worker j = j ≡ worker
+IsAt Ended caller worker j = j ≡ worker
+
+abbrev pub Knows : Stage → ℕ → ℕ → ℕ → Role → Type 0
+Knows st caller worker j role = MayBe role st × IsAt role caller worker j
+
+abbrev pub Sat : Type 0 → Type 0
+Sat C = Me (Option (Errand C)) (View C)
+
+abbrev pub Asked : Type 0 → Type 0
+Asked C = Step (Option (Errand C))
+
+module _ {C : Type 0} where
+  abbrev pub seen : Role → C → View C
+  seen role n = record { role = role; start = n }
+
+  -- the slot is at home, with an errand about this share
+  abbrev pub IsHome : C → Bool → List (maybe.Option (Option (Errand C))) → Type 0
+  IsHome n is_done homes = (e : Errand C) × (get_elem? homes 0 ≡ some (some (Some e))) × (e.is_done ≡ is_done) × (e.start ≡ n)
+
+  abbrev pub Slot : C → List (maybe.Option (Option (Errand C))) → Stage → Type 0
+  Slot n homes shut = get_elem? homes 0 ≡ some (some None)
+  Slot n homes opened = get_elem? homes 0 ≡ some none
+  Slot n homes laid = IsHome n false homes
+  Slot n homes seated = IsHome n false homes
+  Slot n homes begun = get_elem? homes 0 ≡ some none
+  Slot n homes finished = IsHome n true homes
+  Slot n homes fetched = get_elem? homes 0 ≡ some none
+
+  -- The table at a stage, where these seats are the caller's and the worker's.
+  pub record At (n : C) (st : Stage) (caller worker : ℕ) (s : State (Option (Errand C)) (View C)) : Type 0 where
+    pub words : s.words ≡ opening_word st ∷ phase st ∷ []
+    pub deep : length s.homes ≡ 1
+    pub slot : Slot n s.homes st
+    pub each_seat : (j : ℕ) (v : View C) → get_elem? s.views j ≡ some v → Knows st caller worker j v.role
+    pub noted : (j : ℕ) (v : View C) → get_elem? s.views j ≡ some v → v.start ≡ n
+    pub caller_there : opening_word st ≡ 1 → get_elem? s.views caller ≡ some (seen (caller_role st) n)
+    pub worker_there : hired st ≡ 1 → get_elem? s.views worker ≡ some (seen (worker_role st) n)
+
+  -- the rule of a round about the share n
+  pub record Turned (n : C) (s : State (Option (Errand C)) (View C)) : Type 0 where
+    pub stage : Stage
+    pub caller : ℕ
+    pub worker : ℕ
+    pub at : At n stage caller worker s
+
+  -- the first seat to open it is the caller's, and takes the empty slot
+  abbrev pub Opens : Asked C → Sat C → ℕ → Sat C → Type 0
+  Opens st m found m' = m' ≡ cond (found == 0) (seen Unsent m.0.start, (0, None) ∷ m.1) m
+
+  abbrev pub Sends : Asked C → Sat C → ℕ → Sat C → Type 0
+  Sends st m found m' = m' ≡ (seen (Sent true) m.0.start, rest m.1)
+
+  -- the seat has this role now, and out with it an errand about its share that is done, or not
+  abbrev pub Has : Role → Bool → Sat C → Sat C → Type 0
+  Has role is_done m m' = (e : Errand C) × (m' ≡ (seen role m.0.start, (0, Some e) ∷ m.1)) × (e.is_done ≡ is_done) × (e.start ≡ m.0.start)
+
+  abbrev pub Takes : Asked C → Sat C → ℕ → Sat C → Type 0
+  Takes st m found m' = Has AtWork false m m'
+
+  abbrev pub Finishes : Asked C → Sat C → ℕ → Sat C → Type 0
+  Finishes st m found m' = m' ≡ (seen Ended m.0.start, rest m.1)
+
+  abbrev pub Looks : Asked C → Sat C → ℕ → Sat C → Type 0
+  Looks st m found m' = (found ≡ 3 → Has Served true m m') × (found ≢ 3 → m' ≡ m)
+
+  -- a split: the worker's right goes to a seat of its own
+  abbrev pub without_right : View C → View C
+  without_right v = seen (Sent false) v.start
+
+  abbrev pub the_worker : View C → View C
+  the_worker v = seen Fresh v.start
