@@ -109,6 +109,11 @@ is_halted end_of_trace = false
 is_halted (refused_line line r) = false
 is_halted (halted collection violations) = true
 
+abbrev pub is_at_end : Ending → Bool
+is_at_end end_of_trace = true
+is_at_end (refused_line line r) = false
+is_at_end (halted collection violations) = false
+
 -- What a run did: the collections that it made, in order, and how it ended.
 pub record Ran : Type 0 where
   pub collections : List Collection

@@ -1,0 +1,5 @@
+pub mod Facts
+pub mod Lines
+pub mod Outcome
+pub mod Program
+pub mod Turn

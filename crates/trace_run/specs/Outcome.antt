@@ -1,0 +1,89 @@
+-- What stands when a run over a trace has returned, by the status that it answers. The trace has at most `limit` bytes,
+-- and `of` is the report on its items.
+use Rattle.std.specs.Prelude.{◌≡◌, ◌⊎◌, ℕ, ◌+◌, ◌≤◌, List, length, IsTrue, Some, IfSome}
+use Rattle.std.specs.Io.KnownBytes.{Appends, Consumes, Keeps}
+use Rattle.heap_base.specs.Causes.{Rose}
+use Rattle.heap_base.specs.Sinks.{AppendsPart}
+use Rattle.heap_base.specs.Streams.{Stream}
+use Rattle.heap_base.specs.declared.limits.TheConstants.{LONGEST_LINE}
+use Rattle.heap_base.specs.declared.status.Status.{Status}
+use Rattle.heap_base.specs.declared.status.Status.TheVariants.{Clean, Violated, TraceFault, ReadFault, WriteFault, NoMemory, Usage}
+use Rattle.trace_reader.specs.Meaning.{Item}
+use Rattle.trace_reader.specs.Items.{items_of}
+use Rattle.trace_run.specs.Lines.{whole_lines}
+use Rattle.trace_run.specs.Program.{Report}
+
+-- What can be seen of the source and of the sink at a moment.
+pub record Outside : Type 0 where
+  pub source : Stream
+  pub sink : Stream
+
+abbrev pub seen : Stream → Stream → Outside
+seen source sink = record { source = source; sink = sink }
+
+-- the same sink, and a source that tells these bytes and of which no read has failed
+abbrev pub reading : List ℕ → Outside → Outside
+reading bytes o = record o { source = record { bytes = Some bytes; faults = 0 } }
+
+-- The bytes are a trace that the source may hold: all that it has left, where it tells them.
+abbrev pub IsTrace : Outside → List ℕ → Type 0
+IsTrace old bytes = IfSome old.source.bytes (λ left. left ≡ bytes)
+
+-- The whole report on the trace was appended, and the status is the trace's. All bytes of it were read, or the run halted.
+pub record ReportsTrace (limit : ℕ) (of : List Item → Report) (old new : Outside) (answer : Status) : Type 0 where
+  pub bytes : List ℕ
+  pub trace : IsTrace old bytes
+  pub read : Consumes old.source.bytes new.source.bytes bytes ⊎ IsTrue (of (items_of limit bytes)).is_halted
+  pub report : Appends old.sink.bytes new.sink.bytes (of (items_of limit bytes)).text
+  pub status : answer ≡ (of (items_of limit bytes)).status
+
+-- A line of the trace is refused, and the whole report, whose last line says so, was appended.
+pub record RefusesLine (limit : ℕ) (of : List Item → Report) (old new : Outside) : Type 0 where
+  pub bytes : List ℕ
+  pub trace : IsTrace old bytes
+  pub refused : (of (items_of limit bytes)).status ≡ TraceFault
+  pub report : Appends old.sink.bytes new.sink.bytes (of (items_of limit bytes)).text
+
+-- A read failed after these bytes of the trace: no whole line of them is refused or halts the run, at most as many bytes
+-- as a line may have stand behind the last whole line, they are within the limit of the trace, and the texts of the whole
+-- lines were appended.
+pub record IsCutShort (limit : ℕ) (of : List Item → Report) (old new : Outside) : Type 0 where
+  pub bytes : List ℕ
+  pub read : Consumes old.source.bytes new.source.bytes bytes
+  pub goes_on : IsTrue (of (items_of limit (whole_lines bytes))).is_at_end
+  pub tail : length bytes ≤ length (whole_lines bytes) + LONGEST_LINE
+  pub within : length bytes ≤ limit
+  pub part : Appends old.sink.bytes new.sink.bytes (of (items_of limit (whole_lines bytes))).part
+
+-- A beginning of the report was appended.
+pub record AppendsPartOfReport (limit : ℕ) (of : List Item → Report) (old new : Outside) : Type 0 where
+  pub bytes : List ℕ
+  pub trace : IsTrace old bytes
+  pub part : AppendsPart old.sink.bytes new.sink.bytes (of (items_of limit bytes)).text
+
+-- What stands after a run, by its status. A failure is answered only where the count of faults of the object that it
+-- speaks of rose in the call.
+abbrev pub Ended : ℕ → (List Item → Report) → Outside → Outside → Status → Type 0
+Ended limit of old new Clean = ReportsTrace limit of old new Clean
+Ended limit of old new Violated = ReportsTrace limit of old new Violated
+Ended limit of old new TraceFault = RefusesLine limit of old new
+Ended limit of old new ReadFault = Rose old.source.faults new.source.faults × IsCutShort limit of old new
+Ended limit of old new WriteFault = Rose old.sink.faults new.sink.faults × AppendsPartOfReport limit of old new
+Ended limit of old new NoMemory = AppendsPartOfReport limit of old new
+Ended limit of old new Usage = ⊥
+
+-- One text was written and this status is answered; or the sink failed in it, and a beginning of it was appended.
+abbrev pub WritesOnce : List ℕ → Status → Stream → Stream → Status → Type 0
+WritesOnce text status sink sink' answer =
+    ((answer ≡ status) × Appends sink.bytes sink'.bytes text)
+    ⊎ ((answer ≡ WriteFault) × Rose sink.faults sink'.faults × AppendsPart sink.bytes sink'.bytes text)
+
+-- What was appended where the words of the command line are refused, by the status.
+abbrev pub RefusesWords : List ℕ → Outside → Outside → Status → Type 0
+RefusesWords usage old new Usage = Appends old.sink.bytes new.sink.bytes usage
+RefusesWords usage old new WriteFault = Rose old.sink.faults new.sink.faults × AppendsPart old.sink.bytes new.sink.bytes usage
+RefusesWords usage old new NoMemory = Keeps old.sink.bytes new.sink.bytes
+RefusesWords usage old new Clean = ⊥
+RefusesWords usage old new Violated = ⊥
+RefusesWords usage old new TraceFault = ⊥
+RefusesWords usage old new ReadFault = ⊥

@@ -1,0 +1,19 @@
+//! A run over a trace, whatever a program makes of it: lines are cut and read one after another, what they make due is
+//! written, a refused line ends the report with its fault line, and the status says what stands.
+#![tactic(auto)]
+
+mod ending;
+mod laws;
+mod once;
+mod program;
+mod running;
+mod taken;
+mod turn;
+
+pub use laws::{
+    equal_reports_have_equal_runs, no_read_without_faults_fails, the_facts_of_a_run_follow,
+};
+pub use once::{refuse_words, write_once};
+pub use program::Program;
+pub use running::run;
+pub use taken::{LastText, Taken};

@@ -1,0 +1,80 @@
+ghost use Rattle.std.specs.Prelude.{◌<◌, ◌≤◌, ◌+◌};
+ghost use Rattle.heap_base.specs.declared.limits.TheConstants.{LONGEST_TRACE};
+ghost use Rattle.heap_base.specs.Streams.{stream_of};
+ghost use Rattle.trace_reader.specs.Meaning.{item_of_line};
+ghost use Rattle.trace_run.specs.Program.{CountsEvents, MayTake, TakesEvents, takes_item};
+ghost use Rattle.trace_run.specs.Turn.{TakesLine};
+
+use crate::ending::{put_last, refuse};
+use crate::program::Program;
+use crate::taken::Taken;
+use graph_meaning::{Event, Stop};
+use heap_base::{LONGEST_TRACE, Sink, Status, put_all};
+use std::alloc::Global;
+use trace_reader::LineReader;
+
+/// Whether a run goes on after a line, or how it ends.
+#[derive(Drop)]
+pub enum Flow {
+    GoesOn,
+    Ends(Status),
+}
+
+/// Takes one line of the trace, which this many lines stand before.
+pub fn take_line<P: Program, T: FnMut(&mut P, &Event) -> Result<Taken, Stop>, K: Sink>(
+    alloc: Global,
+    reader: &mut LineReader,
+    program: &mut P,
+    take: &mut T,
+    line: &[u8],
+    lines: u64,
+    sink: &mut K,
+) -> Flow
+    requires few_lines { lines < LONGEST_TRACE }
+    requires few_events { P.events program.old ≤ lines }
+    requires may_take { MayTake P.events T.pre }
+    requires takes { TakesEvents P.meaning P.state T.step }
+    requires counts { CountsEvents P.events T.step }
+    ensures takes { TakesLine (takes_item P.meaning (P.state program.old) (item_of_line line.now)) lines (P.state program.new) (stream_of K.held K.faults sink.old) (stream_of K.held K.faults sink.new) result }
+    ensures few { P.events program.new ≤ P.events program.old + 1 }
+    ensures later { K.faults sink.old ≤ K.faults sink.new }
+{
+    match reader.event_of(line) {
+        Ok(None) => Flow::GoesOn,
+        Ok(Some(event)) => take_event(alloc, program, take, &event, lines, sink),
+        Err(Stop::Refused(refusal)) => Flow::Ends(refuse(alloc, lines + 1, refusal, sink)),
+        Err(Stop::OutOfMemory) => Flow::Ends(Status::NoMemory),
+    }
+}
+
+/// Takes an event, and writes at once what it makes due.
+fn take_event<P: Program, T: FnMut(&mut P, &Event) -> Result<Taken, Stop>, K: Sink>(
+    alloc: Global,
+    program: &mut P,
+    take: &mut T,
+    event: &Event,
+    lines: u64,
+    sink: &mut K,
+) -> Flow
+    requires few_lines { lines < LONGEST_TRACE }
+    requires few_events { P.events program.old ≤ lines }
+    requires may_take { MayTake P.events T.pre }
+    requires takes { TakesEvents P.meaning P.state T.step }
+    requires counts { CountsEvents P.events T.step }
+    ensures takes { TakesLine (P.meaning.takes (P.state program.old) event.now) lines (P.state program.new) (stream_of K.held K.faults sink.old) (stream_of K.held K.faults sink.new) result }
+    ensures few { P.events program.new ≤ P.events program.old + 1 }
+    ensures later { K.faults sink.old ≤ K.faults sink.new }
+{
+    match take(program, event) {
+        Ok(Taken::GoesOn(text)) => match put_all(sink, &text) {
+            Ok(()) => Flow::GoesOn,
+            Err(_) => Flow::Ends(Status::WriteFault),
+        },
+        Ok(Taken::Halts(text, last)) => match put_all(sink, &text) {
+            Ok(()) => Flow::Ends(put_last(&last, sink)),
+            Err(_) => Flow::Ends(Status::WriteFault),
+        },
+        Err(Stop::Refused(refusal)) => Flow::Ends(refuse(alloc, lines + 1, refusal, sink)),
+        Err(Stop::OutOfMemory) => Flow::Ends(Status::NoMemory),
+    }
+}
