@@ -1,0 +1,2 @@
+pub mod Auditors
+pub mod State

@@ -1,0 +1,70 @@
+//! The audit of a whole trace.
+ghost use Rattle.std.specs.Prelude.{◌≡◌, ◌+◌, ◌<◌, ◌≤◌};
+ghost use Rattle.heap_base.specs.Streams.{stream_of};
+ghost use Rattle.heap_base.specs.declared.limits.TheConstants.{LONGEST_TRACE, MOST_WORKERS};
+ghost use Rattle.run_meaning.specs.Run.{is_force};
+ghost use Rattle.trace_run.specs.Outcome.{Ended, seen};
+ghost use Rattle.trace_run.specs.Program.{Takes};
+ghost use Rattle.audit_program.specs.Audits.{audit_meaning, audit_report, rules_by};
+ghost use Rattle.trace_audit.specs.Auditors.{MakesCollections, MayCollect};
+ghost use Rattle.trace_audit.specs.State.{state_in};
+
+use crate::program::TraceAudit;
+use crate::taking::take_event;
+use audit_core::Auditor;
+use graph_meaning::{Collection, Event, React, Stop};
+use heap_base::{LONGEST_TRACE, OutOfMemory, Sink, Source, Status};
+use std::alloc::Global;
+use trace_run::{Taken, run};
+
+/// What an audit goes by: its allocator, how many workers trace a heap, how many paths of each collection are shown, and
+/// what is done about violations.
+#[derive(Clone, Copy)]
+pub struct Plan {
+    pub alloc: Global,
+    pub workers: u32,
+    pub paths: u32,
+    pub react: React,
+}
+
+/// Audits the trace that the source has left, and writes its report. `collect` makes the auditor's collections. The text of
+/// each is written before the next line is cut.
+pub fn audit_trace<C: FnMut(&mut Auditor) -> Result<Collection, OutOfMemory>, S: Source, K: Sink>(
+    plan: Plan,
+    mut collect: C,
+    source: &mut S,
+    sink: &mut K,
+) -> Status
+    requires workers { (0 < plan.workers) × (plan.workers ≤ MOST_WORKERS) }
+    requires may_collect { MayCollect C.pre }
+    requires collects { MakesCollections C.step }
+    ensures { let old = seen (stream_of S.left S.faults source.old) (stream_of K.held K.faults sink.old) in
+        let new = seen (stream_of S.left S.faults source.new) (stream_of K.held K.faults sink.new) in
+        Ended LONGEST_TRACE (audit_report (rules_by plan.paths plan.react)) old new result }
+{
+    let alloc = plan.alloc;
+    let force = is_force(plan.react);
+    let Ok(auditor) = Auditor::make(alloc, plan.workers, plan.paths, force) else {
+        return Status::NoMemory;
+    };
+    let mut audit = TraceAudit {
+        alloc,
+        paths: plan.paths,
+        react: plan.react,
+        auditor,
+    };
+    let take = |audit: &mut TraceAudit, event: &Event| -> Result<Taken, Stop>
+        requires few { audit.now.auditor.collections < LONGEST_TRACE }
+        requires may_collect { MayCollect C.pre }
+        requires collects { MakesCollections C.step }
+        ensures takes { Takes (audit_meaning.takes (state_in audit.entry.now) event.now) result (state_in audit.exit.now) }
+        ensures few { audit.exit.now.auditor.collections ≤ audit.entry.now.auditor.collections + 1 }
+    { take_event(audit, event, &mut collect) };
+    run(alloc, LONGEST_TRACE, &mut audit, take, source, sink)
+}
+
+fn is_force(react: React) -> bool
+    ensures { result ≡ is_force react }
+{
+    matches!(react, React::Force)
+}
