@@ -1,3 +1,2 @@
 pub mod Facts
 pub mod Outcome
-pub mod Turn

@@ -1,12 +1,8 @@
 //! The top call of the auditor: from the bytes of a trace to the bytes of its report.
 #![tactic(auto)]
 
-mod ending;
-mod host;
 mod laws;
-mod run;
 mod top_call;
-mod turn;
 
 pub use generator::{GenPlan, GenSource};
 pub use laws::{no_read_of_a_generated_trace_fails, the_facts_of_a_run_follow};

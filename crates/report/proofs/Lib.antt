@@ -1,4 +1,3 @@
 mod Computed
 mod Ranges
 pub mod Runs
-pub mod WholeLines

@@ -1,4 +1,3 @@
 pub mod Examples
 pub mod Report
 pub mod Text
-pub mod Traces

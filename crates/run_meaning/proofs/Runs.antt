@@ -1,6 +1,6 @@
 -- What the items of a trace do to a run, one after another.
-use Rattle.std.proofs.Common.{◌≡◌, ℕ, ◌+◌, ◌≤◌, List, [], ◌∷◌, ◌++◌, length, true, false, cond, Result, Ok, Err, refl, sym, ◌∙◌, ap, subst, arith}
-use Rattle.std.proofs.lemmas.List.{append_assoc, append-nil, length-append}
+use Rattle.std.proofs.Common.{◌≡◌, ℕ, ◌+◌, List, [], ◌∷◌, ◌++◌, length, true, false, cond, Result, Ok, Err, refl, ◌∙◌, ap, subst, arith}
+use Rattle.std.proofs.lemmas.List.{length-append}
 use Rattle.heap_base.proofs.Counting.{total-append}
 use Rattle.graph_meaning.specs.declared.collection.Collection.{Collection}
 use Rattle.graph_meaning.specs.declared.event.Event.{Event}
@@ -12,7 +12,7 @@ use Rattle.graph_meaning.specs.Heap.{Heap}
 use Rattle.graph_meaning.specs.Step.{step}
 use Rattle.graph_meaning.specs.Collecting.{Rules, collection_of, after_collection}
 use Rattle.trace_reader.specs.Meaning.{Item, blank, event, refused}
-use Rattle.run_meaning.specs.Run.{RunRules, collection_rules, Totals, RunState, Turn, Ran, Ending, first_state, violations_of, with_collections, turn_to, turn_by_step, turn, turn_of_item, end_of_trace, refused_line, halted, empty_run, with_earlier, halts, after_turn, by_turn, run, last_status, run_status, ending_of}
+use Rattle.run_meaning.specs.Run.{RunRules, collection_rules, Totals, RunState, Turn, Ran, Ending, violations_of, with_collections, turn_to, turn_by_step, turn, turn_of_item, end_of_trace, refused_line, halted, empty_run, with_earlier, halts, after_turn, by_turn, run, last_status, run_status}
 
 -- ---- totals
 
@@ -35,13 +35,6 @@ with_collections-append t xs ys =
     Totals-equal (with_collections t (xs ++ ys)) (with_collections (with_collections t xs) ys) (omega (arith, length-append xs ys)) (omega (arith, violations_of-append xs ys))
 
 -- ---- collections before a run
-
-pub with_earlier-nil : (r : Ran) → with_earlier [] r ≡ r
-with_earlier-nil r = refl
-
-pub with_earlier-twice : (xs ys : List Collection) (r : Ran) → with_earlier xs (with_earlier ys r) ≡ with_earlier (xs ++ ys) r
-with_earlier-twice xs ys r =
-    ap (λ (cs : List Collection). let ran : Ran = record { collections = cs; ending = r.ending } in ran) (sym (append_assoc xs ys r.collections))
 
 pub run_status-with_earlier : (before : Totals) (made : List Collection) (r : Ran) → run_status before (with_earlier made r) ≡ run_status (with_collections before made) r
 unfolding run_status
@@ -79,27 +72,25 @@ pub turn-collect : (rules : Rules) (s : RunState) → turn rules s Collect ≡ O
 unfolding turn
 turn-collect rules s = refl
 
--- What each turn keeps: the totals are those of all collections so far, one line more was read, and at most one
--- collection was made.
+-- What each turn keeps: the totals are those of all collections so far, and one line more was read.
 pub record IsTurn (s : RunState) (t : Turn) : Type 0 where
   pub totals : t.state.totals ≡ with_collections s.totals t.collections
   pub lines : t.state.lines ≡ s.lines + 1
-  pub at_most_one : length t.collections ≤ 1
 
-IsTurn-turn_to : (s : RunState) (made : List Collection) (h : Heap) → length made ≤ 1 → IsTurn s (turn_to s made h)
-IsTurn-turn_to s made h few = record { totals = refl; lines = refl; at_most_one = few }
+IsTurn-turn_to : (s : RunState) (made : List Collection) (h : Heap) → IsTurn s (turn_to s made h)
+IsTurn-turn_to s made h = record { totals = refl; lines = refl }
 
 IsTurn-by_step : (s : RunState) (t : Turn) (result : Result Heap Refusal) → turn_by_step s result ≡ Ok t → IsTurn s t
-IsTurn-by_step s t (Ok h) is = subst (IsTurn s) (cc) (IsTurn-turn_to s [] h (omega arith))
+IsTurn-by_step s t (Ok h) is = subst (IsTurn s) (cc) (IsTurn-turn_to s [] h)
 IsTurn-by_step s t (Err r) is = absurd (cc)
 
 pub IsTurn-of_event : (rules : Rules) (s : RunState) (e : Event) (t : Turn) → turn rules s e ≡ Ok t → IsTurn s t
 unfolding turn
-IsTurn-of_event rules s Collect t is = subst (IsTurn s) (cc) (IsTurn-turn_to s (collection_of rules (s.totals.collections + 1) s.heap ∷ []) (after_collection rules s.heap) (omega arith))
+IsTurn-of_event rules s Collect t is = subst (IsTurn s) (cc) (IsTurn-turn_to s (collection_of rules (s.totals.collections + 1) s.heap ∷ []) (after_collection rules s.heap))
 IsTurn-of_event rules s e t is = IsTurn-by_step s t (step s.heap e) is
 
 pub IsTurn-of_item : (rules : Rules) (s : RunState) (item : Item) (t : Turn) → turn_of_item rules s item ≡ Ok t → IsTurn s t
-IsTurn-of_item rules s blank t is = subst (IsTurn s) (cc) (IsTurn-turn_to s [] s.heap (omega arith))
+IsTurn-of_item rules s blank t is = subst (IsTurn s) (cc) (IsTurn-turn_to s [] s.heap)
 IsTurn-of_item rules s (event e) t is = IsTurn-of_event rules s e t is
 IsTurn-of_item rules s (refused r) t is = absurd (cc)
 
@@ -140,62 +131,8 @@ pub run-ends : (rules : RunRules) (s : RunState) (item : Item) (r : Refusal) (it
 unfolding run
 run-ends rules s item r items is = ap (λ o. by_turn rules.react (s.lines + 1) o (λ next. run rules next items)) is
 
-pub run-refused : (rules : RunRules) (s : RunState) (r : Refusal) (items : List Item) → run rules s (refused r ∷ items) ≡ empty_run (refused_line (s.lines + 1) r)
-run-refused rules s r items = run-ends rules s (refused r) r items refl
-
 -- nothing halts a run where no collection was made
 pub halts-nothing : (react : React) → halts react [] ≡ false
 halts-nothing Report = refl
 halts-nothing Halt = refl
 halts-nothing Force = refl
-
--- a line with no operation changes the number of lines alone
-pub turn_of_item-blank : (rules : Rules) (s : RunState) → turn_of_item rules s blank ≡ Ok (record { collections = []; state = record s { lines = s.lines + 1 } })
-turn_of_item-blank rules s =
-    ap (λ (t : Totals). let turned : Result Turn Refusal = Ok (record { collections = []; state = record { heap = s.heap; totals = t; lines = s.lines + 1 } }) in turned) (with_collections-nil s.totals)
-
--- ---- the items so far
-
--- These items lead from a state to another and make these collections: whatever follows them goes on from there.
-pub record LeadsTo (rules : RunRules) (s : RunState) (items : List Item) (made : List Collection) (s' : RunState) : Type 0 where
-  pub on : (more : List Item) → run rules s (items ++ more) ≡ with_earlier made (run rules s' more)
-  pub totals : s'.totals ≡ with_collections s.totals made
-  pub lines : s'.lines ≡ s.lines + length items
-  pub few_collections : length made ≤ length items
-
-pub LeadsTo-nil : (rules : RunRules) (s : RunState) → LeadsTo rules s [] [] s
-LeadsTo-nil rules s = record { on = λ more. refl; totals = sym (with_collections-nil s.totals); lines = omega arith; few_collections = omega arith }
-
--- one item more
-pub LeadsTo-push : (rules : RunRules) (s s' : RunState) (items : List Item) (made : List Collection) (item : Item) (t : Turn) →
-    LeadsTo rules s items made s' → turn_of_item (collection_rules rules) s' item ≡ Ok t → halts rules.react t.collections ≡ false → LeadsTo rules s (items ++ item ∷ []) (made ++ t.collections) t.state
-LeadsTo-push rules s s' items made item t leads is goes_on =
-    let turned : IsTurn s' t = IsTurn-of_item (collection_rules rules) s' item t is in
-    record {
-      on = λ more.
-          ap (run rules s) (append_assoc items (item ∷ []) more)
-          ∙ leads.on (item ∷ more)
-          ∙ ap (with_earlier made) (run-goes_on rules s' item t more is goes_on)
-          ∙ with_earlier-twice made t.collections (run rules t.state more);
-      totals =
-          turned.totals
-          ∙ ap (λ (b : Totals). with_collections b t.collections) leads.totals
-          ∙ sym (with_collections-append s.totals made t.collections);
-      lines = omega (arith, turned.lines, leads.lines, length-append items (item ∷ []));
-      few_collections = omega (arith, turned.at_most_one, leads.few_collections, length-append items (item ∷ []), length-append made t.collections);
-    }
-
--- where nothing follows, the run comes to its end
-pub run-leads_to : (rules : RunRules) (s s' : RunState) (items : List Item) (made : List Collection) → LeadsTo rules s items made s' → run rules s items ≡ with_earlier made (empty_run end_of_trace)
-run-leads_to rules s s' items made leads =
-    ap (run rules s) (sym (append-nil items)) ∙ leads.on [] ∙ ap (with_earlier made) (run-nil rules s')
-
-pub ending_of-leads_to : (rules : RunRules) (s' : RunState) (items : List Item) (made : List Collection) → LeadsTo rules first_state items made s' → ending_of rules items ≡ end_of_trace
-ending_of-leads_to rules s' items made leads = ap (λ (r : Ran). r.ending) (run-leads_to rules first_state s' items made leads)
-
-pub run_status-leads_to : (rules : RunRules) (s s' : RunState) (items more : List Item) (made : List Collection) → LeadsTo rules s items made s' →
-    run_status s.totals (run rules s (items ++ more)) ≡ run_status s'.totals (run rules s' more)
-run_status-leads_to rules s s' items more made leads =
-    ap (run_status s.totals) (leads.on more)
-    ∙ run_status-with_earlier s.totals made (run rules s' more)
-    ∙ ap (λ (t : Totals). run_status t (run rules s' more)) (sym leads.totals)

@@ -1,0 +1,15 @@
+use Rattle.std.proofs.Common.{ℕ, List, subst, refl}
+use Rattle.heap_base.specs.Streams.{stream_of}
+use Rattle.generator.specs.Text.{gen_text}
+use Rattle.trace_run.specs.Outcome.{reading, seen}
+use Rattle.audit_program.specs.Audits.{rules_by}
+use Rattle.audit_run.specs.Outcome.{Ended}
+use Rattle.audit_run.proofs.top_call.audit_generated.Goals as goal
+
+pub returns : goal.returns
+returns g c =
+    λ stream.
+    let old = seen stream (stream_of g.K.Sink.held g.K.Sink.faults c.args.sink.now) in
+    let new = seen stream (stream_of g.K.Sink.held g.K.Sink.faults c.audit_trace.new.sink) in
+    let Reads : List ℕ → Type 0 = λ bytes. Ended (rules_by c.args.plan.paths c.args.plan.react) (reading bytes old) (reading c.audit_trace.new.source new) c.audit_trace.result in
+    (c.audit_trace.new.source, subst Reads c.in-Ok.ensures.left c.audit_trace.ensures)
