@@ -30,7 +30,7 @@ class Staying(NamedTuple):
 
 
 class LeftOut:
-    """The left-out objects that may hold something. First all are added, then all references told, then it is settled.
+    """The left-out objects that may hold something. First it is said how many they are, then all references are told, then it is settled.
 
     `label_of` answers by the place of a left-out object, of its reference and the code of what is held there the label of that
     reference. `unshared` has the codes of kept objects of which the references count: they stay as many as they were.
@@ -53,19 +53,20 @@ class LeftOut:
     def __len__(self) -> int:
         return len(self._counts)
 
-    def add(self) -> int:
-        """There is one more. The answer is its code."""
-        self._counts.append(0)
-        self._led_to.append(0)
-        return -len(self._counts)
+    def add(self, count: int) -> None:
+        """There are so many: their codes are -1, -2 and so on."""
+        self._counts = array("I", bytes(4 * count))
+        self._led_to = array("I", bytes(4 * count))
 
-    def hold(self, place: int, codes: Sequence[int]) -> None:
-        """What the left-out object at this place holds. They come in the order in which they were added."""
-        self._counts[place] = len(codes)
-        self._held.extend(codes)
+    def hold(self, held: Iterable[List[int]]) -> None:
+        """What each of the left-out objects holds, from the first on."""
+        counts, extend = self._counts, self._held.fromlist
+        for place, codes in enumerate(held):
+            counts[place] = len(codes)
+            extend(codes)
 
     def take(self, references: Iterable[Tuple[int, int]]) -> None:
-        """References by the codes of who holds and what is held; left-out holders in the order in which they were added."""
+        """References by the codes of who holds and what is held; left-out holders from the first on."""
         counts, led_to, add = self._counts, self._led_to, self._held.append
         for holder, held in references:
             if holder < 0:

@@ -184,7 +184,8 @@ class Snapshot:
                     self._unshared.add(codes[node])
             else:
                 self.left_nodes.append(node)
-                codes[node] = self.left.add()
+                codes[node] = -len(self.left_nodes)
+        self.left.add(len(self.left_nodes))
 
     def _count_left_out(self, name: str, count: int) -> None:
         if count:

@@ -29,11 +29,15 @@ class Codes:
         page_of, nothing = self._pages.get, self._nothing
         return [code for code in [page_of(number >> _PAGE_BITS, nothing)[number >> _STEP_BITS & _STEPS - 1] for number in numbers] if code]
 
-    def __setitem__(self, number: int, code: int) -> None:
+    def add(self, number: int, code: int) -> bool:
+        """Gives an object its code. The answer is whether it had none."""
         if number & 7:
-            self._others[number] = code
-            return
+            return self._others.setdefault(number, code) == code
         page = self._pages.get(number >> _PAGE_BITS)
         if page is None:
             page = self._pages[number >> _PAGE_BITS] = array("i", _NOTHING)
-        page[number >> _STEP_BITS & _STEPS - 1] = code
+        at = number >> _STEP_BITS & _STEPS - 1
+        if page[at]:
+            return False
+        page[at] = code
+        return True

@@ -54,39 +54,40 @@ class Heap:
 
     def find_objects(self) -> None:
         """Numbers the kept objects, and notes the roots and the classes."""
-        codes, places, keeps, keeps_class = self.codes, self.kept_places, self._keeps, self._keeps_class
-        code_of, unshared_classes = codes.get, self._unshared_classes
+        add, places, keeps, keeps_class = self.codes.add, self.kept_places, self._keeps, self._keeps_class
+        left_places, may_hold_of, unshared_classes = self.left_places, self._may_hold_of, self._unshared_classes
         counts: Dict[int, int] = {}
         primitive: Dict[int, int] = {}
         left_classes: Dict[int, int] = {}
         for tag, place, number, class_id in self.dump.records("reading the objects"):
-            if tag == PRIMITIVE_ARRAY:
-                if self.wishes.limited:
-                    primitive[number] = primitive.get(number, 0) + 1
-                else:
-                    places.append(place)
-                    codes[self._id.unpack_from(self.dump.data, place)[0]] = len(places)
-                continue
-            if tag in ROOTS:
-                self.roots.append(self.dump.root(tag, place))
-                continue
+            if tag != INSTANCE:
+                if tag == PRIMITIVE_ARRAY:
+                    if self.wishes.limited:
+                        primitive[number] = primitive.get(number, 0) + 1
+                    elif add(self._id.unpack_from(self.dump.data, place)[0], len(places) + 1):
+                        places.append(place)
+                    continue
+                if tag in ROOTS:
+                    self.roots.append(self.dump.root(tag, place))
+                    continue
+                if tag == CLASS and number not in self.classes:
+                    self.classes[number] = self.dump.class_dump(place)
             if not number:
                 raise TraceError("%s is damaged: an object has the identifier 0" % self.dump.name)
-            if code_of(number):
-                continue    # the same record again
-            if tag == CLASS:
-                self.classes[number] = self.dump.class_dump(place)
+            # What has a code already is the same record again.
             if keeps[class_id] if class_id in keeps else keeps_class(class_id):
-                places.append(place)
-                codes[number] = len(places)
-                counts[class_id] = counts.get(class_id, 0) + 1
-                if class_id in unshared_classes:
-                    self._unshared.add(len(places))
+                if add(number, len(places) + 1):
+                    places.append(place)
+                    counts[class_id] = counts.get(class_id, 0) + 1
+                    if class_id in unshared_classes:
+                        self._unshared.add(len(places))
+            elif tag != INSTANCE or (may_hold_of[class_id] if class_id in may_hold_of else self._may_hold(class_id)):
+                if add(number, -1 - len(left_places)):
+                    left_places.append(place)
+                    left_classes[class_id] = left_classes.get(class_id, 0) + 1
             else:
                 left_classes[class_id] = left_classes.get(class_id, 0) + 1
-                if tag != INSTANCE or self._may_hold(class_id):
-                    codes[number] = self.left.add()
-                    self.left_places.append(place)
+        self.left.add(len(left_places))
         for class_id, count in left_classes.items():
             name = self.dump.class_name(class_id)
             self.left_out[name] = self.left_out.get(name, 0) + count
@@ -98,14 +99,12 @@ class Heap:
 
     def _may_hold(self, class_id: int) -> bool:
         """Whether instances of the class have references to objects other than arrays of primitives, as far as is known by now."""
-        found = self._may_hold_of.get(class_id)
-        if found is None:
-            found = self.dump.class_name(class_id) not in _HOLD_PRIMITIVES_ALONE
-            try:
-                found = found and bool(self._layout(class_id).labels)
-            except TraceError:
-                return True  # a class of it comes later in the dump
-            self._may_hold_of[class_id] = found
+        found = self.dump.class_name(class_id) not in _HOLD_PRIMITIVES_ALONE
+        try:
+            found = found and bool(self._layout(class_id).labels)
+        except TraceError:
+            return True  # a class of it comes later in the dump
+        self._may_hold_of[class_id] = found
         return found
 
     def _keeps_class(self, class_id: int) -> bool:
@@ -199,8 +198,7 @@ class Heap:
         left, kept = self.left, len(self.kept_places)
         if not len(left):
             return 0
-        for place, codes in enumerate(self._held_by("reading what is left out", self.left_places)):
-            left.hold(place, codes)
+        left.hold(self._held_by("reading what is left out", self.left_places))
         for codes in self._held_by("reading what is kept", self.kept_places):
             left.take((1, code) for code in codes)
         for root in self.roots:
@@ -211,11 +209,10 @@ class Heap:
 
     def _in_steps(self, step: str, places: array) -> Iterator[int]:
         """The places, with progress told; what was read of the file needs no memory any longer."""
-        for count, place in enumerate(places):
-            yield place
-            if not count & 0xFFFF:
-                self.progress.at(step, place, self.dump.size)
-                self.dump.forget_read(place)
+        for start in range(0, len(places), 1 << 16):
+            self.progress.at(step, places[start], self.dump.size)
+            self.dump.forget_read(places[start])
+            yield from places[start:start + (1 << 16)]
 
     # ---- the trace
 

@@ -13,8 +13,7 @@ class Passing(unittest.TestCase):
     def settled(self, left_count, kept, of_left, of_kept, roots=(), unshared=()):
         """References of left-out objects by codes (-1 is the first), those of kept ones, and roots."""
         left = LeftOut(lambda place, edge, code: ".%d" % edge, frozenset(unshared))
-        for _ in range(left_count):
-            left.add()
+        left.add(left_count)
         left.take(sorted(of_left, key=lambda one: -one[0]))
         left.take(of_kept)
         for root in roots:
