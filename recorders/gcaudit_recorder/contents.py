@@ -69,8 +69,15 @@ def shape_of(obj: Any) -> Shape:
     return shape
 
 
+# Python 3.8 has other names for these. They are found by address, since a class may have a hash of its own.
+_REFERENCES = {id(kind): "weakref." + name for name, kind in
+               (("ReferenceType", weakref.ReferenceType), ("ProxyType", weakref.ProxyType), ("CallableProxyType", weakref.CallableProxyType))}
+
+
 def type_name(kind: type) -> str:
     """The qualified name of a type, with its module where that isn't builtins, as a trace may have it."""
+    if id(kind) in _REFERENCES:
+        return _REFERENCES[id(kind)]
     module, name = module_of(kind), _qualified(kind)
     return legal_name(name if module in ("", "builtins") else "%s.%s" % (module, name))
 

@@ -99,7 +99,6 @@ class Shop:
 
     def made_app(self):
         app = Flask("shop")
-        app.testing = False
 
         @app.before_request
         def begin():
