@@ -94,8 +94,9 @@ class Shop:
             job = self.jobs.get()
             if self.leaks:
                 done.append(job)
-            job.done.set()
+            said = job.done
             del job
+            said.set()
 
     def made_app(self):
         app = Flask("shop")
