@@ -10,6 +10,7 @@ mod plays;
 mod round;
 mod rounds;
 mod rule;
+mod running;
 mod share;
 mod taking;
 mod worker;

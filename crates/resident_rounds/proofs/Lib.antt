@@ -1,0 +1,4 @@
+pub mod Tasks
+pub mod Each
+pub mod Rounds
+pub mod Whole

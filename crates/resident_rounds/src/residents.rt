@@ -1,0 +1,12 @@
+use crate::share::JobShare;
+use heap_base::Gate;
+use parked_crew::ParkedCrew;
+use std::sync::Arc;
+use steal_pool::Job;
+
+/// Workers that do tasks at the same time, and stay parked between two runs. Their threads end when this is dropped.
+#[derive(Drop)]
+pub struct Residents<S: Sync + Drop, J: Job<S> + Drop, G: Gate + Drop> {
+    pub(crate) crew: ParkedCrew<JobShare<S, J, G>>,
+    pub(crate) gate: Arc<G>,
+}
