@@ -327,11 +327,11 @@ class Traces(InFolder):
 
     def test_addresses_used_again(self):
         # What holds an object that has weak references is told apart by it. Where nothing can tell, an old id comes back.
+        again = 0
         for make, ids_at_least in ((Entry, 12), (lambda: Slotted(Entry()), 12), (lambda: [Entry()], 12), (lambda: [1], 1), (dict, 1)):
             recorder = self.recorder()
             app = App()
             recorder.root("app", app)
-            again = 0
             for _ in range(6):
                 app.item = make()
                 address = id(app.item)
@@ -345,8 +345,8 @@ class Traces(InFolder):
             self.clean(recorder)
             ids = [e["to"] for e in events(self.trace) if e["op"] == "store" and e.get("label") == ".item" and e["to"]]
             self.assertGreaterEqual(len(set(ids)), ids_at_least)
-            if sys.implementation.name == "cpython":
-                self.assertGreater(again, 0)
+        if sys.implementation.name == "cpython":
+            self.assertGreater(again, 0)
 
     def test_address_used_again_under_an_assertion(self):
         app = App(item=Slotted())
