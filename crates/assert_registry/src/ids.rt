@@ -17,7 +17,7 @@ pub(crate) fn is_live(table: &ObjectTable, id: ObjId) -> bool
     table.cell_of(id).is_some()
 }
 
-/// Puts these ids into the set. Where memory is wanting, none is put in, and nothing has changed.
+/// Puts these ids into the set. When out of memory, none is put in, and nothing has changed.
 pub(crate) fn insert_all(
     alloc: Global,
     set: &mut BTreeSet<ObjId>,

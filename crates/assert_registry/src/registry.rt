@@ -55,7 +55,7 @@ impl AssertRegistry {
         })
     }
 
-    /// The object is asserted dead from now on. Where memory is wanting, nothing has changed.
+    /// The object is asserted dead from now on. When out of memory, nothing has changed.
     pub fn assert_dead(&mut self, id: ObjId) -> Result<(), OutOfMemory>
         ensures done { OnOk result (self.new ≡ record self.old { dead = insert_key nat_cmp self.old.dead id }) }
         ensures err { OnErr result (self.new ≡ self.old) }
@@ -64,7 +64,7 @@ impl AssertRegistry {
         Ok(())
     }
 
-    /// All these objects, whose ids rise, are asserted dead from now on. Where memory is wanting, none of them is, and
+    /// All these objects, whose ids rise, are asserted dead from now on. When out of memory, none of them is, and
     /// nothing has changed.
     pub fn assert_dead_all(&mut self, ids: &[ObjId]) -> Result<(), OutOfMemory>
         requires { AllPairs (λ x y. x < y) ids.now }
@@ -74,7 +74,7 @@ impl AssertRegistry {
         insert_all(self.alloc, &mut self.dead, ids)
     }
 
-    /// The object is asserted unshared from now on. Where memory is wanting, nothing has changed.
+    /// The object is asserted unshared from now on. When out of memory, nothing has changed.
     pub fn assert_unshared(&mut self, id: ObjId) -> Result<(), OutOfMemory>
         ensures done { OnOk result (self.new ≡ record self.old { unshared = insert_key nat_cmp self.old.unshared id }) }
         ensures err { OnErr result (self.new ≡ self.old) }
@@ -83,7 +83,7 @@ impl AssertRegistry {
         Ok(())
     }
 
-    /// Makes room for the limits of so many types, with the numbers from 0. Where memory is wanting, nothing has
+    /// Makes room for the limits of so many types, with the numbers from 0. When out of memory, nothing has
     /// changed.
     pub fn reserve_kinds(&mut self, kinds: u32) -> Result<(), OutOfMemory>
         ensures done { OnOk result (self.new ≡ record self.old { limits = with_room self.old.limits kinds }) }
@@ -113,7 +113,7 @@ impl AssertRegistry {
     }
 
     /// The ownee has this owner from now on, in place of an earlier one. It refuses an object that is to own itself
-    /// (`SelfOwned`). After a refusal, and where memory is wanting, nothing has changed.
+    /// (`SelfOwned`). After a refusal, and when out of memory, nothing has changed.
     pub fn assert_ownedby(&mut self, owner: ObjId, ownee: ObjId) -> Result<(), Stop>
         ensures refused { RefusesBy result (refusal_where (owner == ownee) (SelfOwned owner)) }
         ensures done { OnOk result (self.new ≡ record self.old { owners = insert_entry nat_cmp self.old.owners ownee owner }) }

@@ -45,7 +45,7 @@ impl Model for Auditor {
 impl Auditor {
     /// An auditor at the beginning of a trace. Each of its collections traces the heap with 1 to 16 workers, and shows
     /// the paths of so many of its first verdicts. With force a collection cuts off what is asserted dead and was
-    /// traced: no slot and no root holds it afterwards. Answers `OutOfMemory` where memory is wanting.
+    /// traced: no slot and no root holds it afterwards. Answers `OutOfMemory` when memory runs out.
     pub fn make(
         alloc: Global,
         workers: u32,
@@ -68,7 +68,7 @@ impl Auditor {
     }
 
     /// Applies an operation to the heap. It refuses what `step` of the definitions refuses, for the same
-    /// reason, before memory is asked. After a refusal, and where memory is wanting, nothing has changed.
+    /// reason, before memory is asked. After a refusal, and when out of memory, nothing has changed.
     pub fn apply(&mut self, event: &Event) -> Result<(), Stop>
         requires operation { IsTrue (is_operation event.now) }
         ensures refused { RefusesBy result (result_err (step self.old.heap event.now)) }

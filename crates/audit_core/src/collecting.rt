@@ -21,7 +21,7 @@ impl Auditor {
 
     /// Checks the assertions by these roles and this trace of the heap as it stands, and frees what was not reached.
     /// The verdict on an object that is asserted unshared shows the count of the trace. By force what is asserted dead
-    /// and was reached is cut off besides. All memory is taken before the sweep: where it is wanting, nothing has changed.
+    /// and was reached is cut off besides. All memory is taken before the sweep: when out of memory nothing has changed.
     pub fn finish_collect(
         &mut self,
         roles: &Roles,
@@ -66,7 +66,7 @@ impl Auditor {
     }
 
     /// Traces the heap by the auditor's workers, checks the assertions, and frees what was not reached; by force it cuts
-    /// off what is asserted dead and was reached. All memory is taken before the sweep: where it is wanting, nothing has
+    /// off what is asserted dead and was reached. All memory is taken before the sweep: when out of memory nothing has
     /// changed.
     pub fn collect<R: Threads + Sync, G: Gate>(
         &mut self,

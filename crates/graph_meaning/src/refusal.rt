@@ -57,7 +57,7 @@ pub enum Refusal {
     SelfOwned(u32),
 }
 
-/// Why a call did not do what it was asked: the request is refused, or memory was wanting.
+/// Why a call did not do what it was asked: the request is refused, or memory ran out.
 #[derive(Clone, Copy, Debug, PartialEq, Eq)]
 pub enum Stop {
     Refused(Refusal),

@@ -63,7 +63,7 @@ fn others(
 
 impl Headers {
     /// Words of zero for so many cells, and a pass for each of 1 to 16 workers, numbered from 0. A cell costs 8
-    /// bytes, and 8 more while `make` runs. Answers `OutOfMemory` where memory is wanting.
+    /// bytes, and 8 more while `make` runs. Answers `OutOfMemory` when memory runs out.
     pub fn make(
         alloc: Global,
         cells: u32,

@@ -31,7 +31,7 @@ impl Headers {
     }
 
     /// The words that `close` would give, of headers that stay: nobody meets any more, since it asks for all the
-    /// passes that `make` gave, in order. It reads each word once. Answers `OutOfMemory` where memory is wanting;
+    /// passes that `make` gave, in order. It reads each word once. Answers `OutOfMemory` when memory runs out;
     /// the passes are let go then.
     pub fn read_all(&self, alloc: Global, passes: Vec<Pass>) -> Result<Words, OutOfMemory>
         requires passes { ArePassesOf self.now passes.items }

@@ -11,7 +11,7 @@ pub enum Status {
     ReadFault,
     /// A write failed.
     WriteFault,
-    /// Memory was wanting.
+    /// Out of memory.
     NoMemory,
     /// The words of the command line were refused.
     Usage,

@@ -36,7 +36,7 @@ fn dead_and_traced(
 
 impl HeapParts {
     /// For each cell whether its object is asserted dead and traced, by the heap's roles and by what is kept. Answers
-    /// `OutOfMemory` where memory is wanting.
+    /// `OutOfMemory` when memory runs out.
     pub fn to_clear(
         &self,
         alloc: Global,

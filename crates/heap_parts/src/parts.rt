@@ -32,7 +32,7 @@ impl Model for HeapParts {
 }
 
 impl HeapParts {
-    /// The parts of the empty heap. Answers `OutOfMemory` where memory is wanting.
+    /// The parts of the empty heap. Answers `OutOfMemory` when memory runs out.
     pub fn make(alloc: Global) -> Result<HeapParts, OutOfMemory>
         ensures { IfOk result (λ a. a ≡ record { heap = empty_heap; cells = [] }) }
     {
@@ -47,7 +47,7 @@ impl HeapParts {
     }
 
     /// Applies an operation to the heap. It refuses what `step` of the definitions refuses, for the same reason, before
-    /// memory is asked. After a refusal, and where memory is wanting, nothing has changed.
+    /// memory is asked. After a refusal, and when out of memory, nothing has changed.
     pub fn apply(&mut self, event: &Event) -> Result<(), Stop>
         requires { IsTrue (is_operation event.now) }
         ensures { Steps self.old event.now result self.new }
@@ -79,7 +79,7 @@ impl HeapParts {
         &self.table
     }
 
-    /// The roles that the assertions make of the heap. Answers `OutOfMemory` where memory is wanting.
+    /// The roles that the assertions make of the heap. Answers `OutOfMemory` when memory runs out.
     pub fn roles(&self) -> Result<Roles, OutOfMemory>
         ensures of_table { IfOk result (AreRolesOf self.now.cells (length self.now.heap.table.kinds)) }
         ensures of_heap { IfOk result (λ r. StandFor (placed_in self.now) r self.now.heap) }

@@ -35,7 +35,7 @@ fn make_jobs(
 
 impl TraceMemory {
     /// The memory of a trace of so many cells and types by 1 to 16 workers, whoever runs its jobs. Answers `OutOfMemory`
-    /// where memory is wanting.
+    /// when memory runs out.
     pub fn take(
         alloc: Global,
         cells: u32,
@@ -65,7 +65,7 @@ impl TraceMemory {
 
 impl Kit {
     /// The memory of a trace of so many cells and types by 1 to 16 workers. A cell costs at most 64 bytes with one
-    /// worker. Answers `OutOfMemory` where memory is wanting.
+    /// worker. Answers `OutOfMemory` when memory runs out.
     pub fn prepare(alloc: Global, cells: u32, kinds: u32, workers: u32) -> Result<Kit, OutOfMemory>
         requires cells { cells ≤ MOST_OBJECTS }
         requires workers { (0 < workers) × (workers ≤ MOST_WORKERS) }

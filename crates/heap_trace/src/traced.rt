@@ -83,7 +83,7 @@ impl Traced {
     }
 
     /// What these words and this tally say of a table. Both are of the table's cells and types. Answers
-    /// `OutOfMemory` where memory is wanting.
+    /// `OutOfMemory` when memory runs out.
     pub fn of(
         alloc: Global,
         words: Words,

@@ -37,7 +37,7 @@ impl Model for PlainLevels {
 }
 
 impl PlainLevels {
-    /// The levels of a table. Answers `OutOfMemory` where memory is wanting.
+    /// The levels of a table. Answers `OutOfMemory` when memory runs out.
     pub fn make(
         alloc: Global,
         table: &ObjectTable,

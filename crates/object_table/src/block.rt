@@ -156,7 +156,7 @@ impl Block {
         })
     }
 
-    /// Puts the roots of another block behind its own. Where memory is wanting it gives the other block back.
+    /// Puts the roots of another block behind its own. When out of memory it gives the other block back.
     pub fn append(&mut self, mut other: Block) -> Result<(), Block>
         ensures start { self.new.start ≡ self.old.start }
         ensures appended { OnOk result (self.new.roots ≡ self.old.roots ++ other.roots) }

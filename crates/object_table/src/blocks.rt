@@ -191,7 +191,7 @@ fn split_full(blocks: &mut Vec<Block>, place: usize) -> Result<(), OutOfMemory>
 }
 
 // Splits this block in two halves. The room for one more block is taken first, so that nothing is lost where
-// memory is wanting.
+// memory runs out.
 fn split(blocks: &mut Vec<Block>, at: usize) -> Result<(), OutOfMemory>
     requires laid { IsLaid 0 blocks.old.items }
     requires in_range { at < length blocks.old.items }

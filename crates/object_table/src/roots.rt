@@ -84,7 +84,7 @@ impl Roots {
         self.search(name).is_ok()
     }
 
-    /// Lets the name hold the object. Only a new name wants memory.
+    /// Lets the name hold the object. Only a new name takes memory.
     pub fn set(&mut self, name: &Name, id: ObjId) -> Result<(), OutOfMemory>
         requires { lookup (is_at (name_cmp name.now)) self.old ≡ None → length self.old < MOST_ROOTS }
         ensures set { OnOk result (self.new ≡ insert_entry name_cmp self.old name.now id) }

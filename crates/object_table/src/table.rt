@@ -99,7 +99,7 @@ impl ObjectTable {
     /// Adds an object with empty slots, none weak. It refuses, in this order, an id that is not above every id
     /// before (`IdNotRising`), an object too many where `MOST_OBJECTS` are live (`TooManyObjects`), slots that
     /// with the live ones pass `MOST_SLOTS` (`TooManySlots`), and a new type where `MOST_KINDS` were seen
-    /// (`TooManyTypes`). After a refusal, and where memory is wanting, nothing has changed.
+    /// (`TooManyTypes`). After a refusal, and when out of memory, nothing has changed.
     pub fn alloc_object(&mut self, id: ObjId, kind: &Name, slots: u32) -> Result<(), Stop>
         ensures refused { RefusesBy result (alloc_refusal self.old.table id kind.now slots) }
         ensures added { OnOk result (self.new.table ≡ with_object self.old.table id kind.now slots) }

@@ -39,7 +39,7 @@ impl Model for OwnershipCheck {
 /// The ownees that are met and that their owner doesn't find, or whose owner is gone, by id. Whatever the trace marked
 /// found is found; an ownee that is marked as met by roots and not found is met exactly where it has a level, and found
 /// exactly where a search from its owner says so: one search an owner. Levels and searches are made only where there is
-/// such an ownee. The words of the trace are of the table's cells. Answers `OutOfMemory` where memory is wanting.
+/// such an ownee. The words of the trace are of the table's cells. Answers `OutOfMemory` when memory runs out.
 pub fn check_owners(
     alloc: Global,
     table: &ObjectTable,
@@ -77,7 +77,7 @@ impl OwnershipCheck {
     }
 
     /// The path to a violating ownee, from the roots and through nothing that is under owners or an owner. The table is the
-    /// one that was checked. Answers `OutOfMemory` where memory is wanting.
+    /// one that was checked. Answers `OutOfMemory` when memory runs out.
     pub fn path(&self, table: &ObjectTable, ownee: u32) -> Result<Option<PathView>, OutOfMemory>
         requires check { (h : Heap) × AreViolating table.now h self.now }
         requires ownee { IsTrue (has_id self.now.ownees ownee) }

@@ -17,7 +17,7 @@ const SENT: u64 = 1;
 const DONE: u64 = 3;
 
 impl<C: Share + Drop> ReadyRound<C> {
-    /// A round about this share. Where memory is wanting the share is dropped.
+    /// A round about this share. When out of memory the share is dropped.
     pub fn make(alloc: Global, share: C) -> Result<ReadyRound<C>, OutOfMemory>
         requires { C.can_work share }
         ensures { IfOk result (λ r. r ≡ share) }

@@ -46,7 +46,7 @@ impl<C: Share + Drop> ParkedCrew<C> {
     }
 
     /// Each share is worked off by its worker, at the same time where there are threads. All memory is taken before the first share
-    /// is sent: where it is wanting the shares are dropped, no worker is at work, and the crew is as it was. What it ensures it
+    /// is sent: when out of memory the shares are dropped, no worker is at work, and the crew is as it was. What it ensures it
     /// ensures if it returns.
     pub fn round<R: Wait>(
         &mut self,
@@ -79,7 +79,7 @@ impl<C: Share + Drop> ParkedCrew<C> {
 
 impl<C: Share + Send + Drop + 'static> ParkedCrew<C> {
     /// A crew of 1 to 16 workers. A thread that can't be started is no error: the caller works off the shares of its worker. Where
-    /// memory is wanting the threads that were started are ended first.
+    /// memory runs out the threads that were started are ended first.
     pub fn start<R: Threads + Wait + Clone + Drop + Send + Sync + 'static>(
         rt: &R,
         alloc: Global,

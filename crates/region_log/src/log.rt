@@ -57,8 +57,8 @@ impl RegionLog {
     }
 
     /// Opens a region of the thread, inside those that are open; the thread is not reserved then. It refuses a
-    /// region too many, where `MOST_REGIONS` of the thread are open (`TooDeep`). After a refusal, and where memory is
-    /// wanting, nothing has changed.
+    /// region too many, where `MOST_REGIONS` of the thread are open (`TooDeep`). After a refusal, and when out of
+    /// memory, nothing has changed.
     pub fn start(&mut self, thread: ThreadNo) -> Result<(), Stop>
         ensures refused { RefusesBy result (start_refusal self.old.regions thread) }
         ensures started { OnOk result (self.new ≡
@@ -71,7 +71,7 @@ impl RegionLog {
         Ok(self.open(thread)?)
     }
 
-    /// Takes the memory to note one object of the thread: the thread is reserved then. Where memory is wanting,
+    /// Takes the memory to note one object of the thread: the thread is reserved then. When out of memory,
     /// nothing has changed.
     pub fn reserve(&mut self, thread: ThreadNo) -> Result<(), OutOfMemory>
         ensures done { OnOk result (self.new ≡ record self.old { reserved = slice_set self.old.reserved thread true }) }

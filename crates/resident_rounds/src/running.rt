@@ -37,7 +37,7 @@ impl<
     G: Gate + Send + Drop + 'static,
 > Residents<S, J, G> {
     /// A crew of 1 to 16 workers, all parked. A thread that can't be started is no error: the caller does what its worker is to do.
-    /// Where memory is wanting, the threads that were started are ended first.
+    /// When out of memory, the threads that were started are ended first.
     pub fn start<R: Threads + Wait + Clone + Drop + Send + Sync + 'static>(
         rt: &R,
         alloc: Global,
@@ -64,7 +64,7 @@ impl<
     }
 
     /// Does the first tasks and all that the jobs put meanwhile: each worker with the job of its number, begun with the list of its
-    /// number. As many jobs come back as were handed in, in their order. Where memory is wanting the jobs are dropped, and the crew
+    /// number. As many jobs come back as were handed in, in their order. When out of memory the jobs are dropped, and the crew
     /// can run again. What it ensures it ensures if it returns.
     pub fn run<R: Wait>(
         &mut self,

@@ -36,7 +36,7 @@ impl Model for ScanJob {
 
 impl ScanJob {
     /// A job in mode Owner for the cells and kinds below these numbers, which holds no cell and counts 0 of each kind.
-    /// It takes the memory of all later calls. Where memory is wanting the pass is let go.
+    /// It takes the memory of all later calls. When out of memory the pass is let go.
     pub fn make(alloc: Global, pass: Pass, cells: u32, kinds: u32) -> Result<ScanJob, OutOfMemory>
         requires fresh { IsFresh pass }
         ensures made { IfOk result (λ j. j ≡ new_state pass cells kinds) }

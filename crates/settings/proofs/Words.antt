@@ -33,7 +33,7 @@ and_false : (b : Bool) → (b && false) ≡ false
 and_false true = refl
 and_false false = refl
 
--- clap refused the words, and not for want of memory
+-- clap refused the words, and not because memory ran out
 pub fault_refused : (words : List Text) (e : Error) → kind_of e ≢ OutOfMemory → HasKind (fault_of command words) e → is_well_formed words ≡ false
 unfolding is_well_formed
 fault_refused words e other has = elim has [

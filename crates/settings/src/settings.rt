@@ -29,7 +29,7 @@ pub struct Settings {
 pub enum SettingsError {
     /// The words are refused.
     Usage,
-    /// Memory was wanting.
+    /// Out of memory.
     OutOfMemory,
 }
 
@@ -77,7 +77,7 @@ impl From<clap::Error> for SettingsError {
 /// The options are `--workers`, `--paths`, `--react`, `--gen` and `--size`, each at most once, and each with one value, as in
 /// `--workers 4` or `--workers=4`. A number has 1 to 10 digits. `--gen` and `--size` stand together. Where an option isn't
 /// there, there is 1 worker, 100 violations have paths, violations are reported, and no trace is generated. Other words
-/// are refused: the answer is `Usage` exactly where they are, unless memory was wanting.
+/// are refused: the answer is `Usage` exactly where they are, unless memory ran out.
 pub fn settings_of(alloc: Global, words: &[&str]) -> Result<Settings, SettingsError>
     ensures taken { IfOk result (λ s. settings_by (map (λ w. w.now) words.now) ≡ Some s) }
     ensures refused { result ≡ Err Usage → settings_by (map (λ w. w.now) words.now) ≡ None }

@@ -19,7 +19,7 @@ auditor_state rules a =
 abbrev pub MayCollect : {C : Type 0} → (C → MutBor Audit → Type 0) → Type 0
 MayCollect {C} pre = (c : C) (a : MutBor Audit) → a.now.collections < LONGEST_TRACE → pre c a
 
--- the next collection was made, or the auditor is as it was, where memory is wanting
+-- the next collection was made, or the auditor is as it was, when out of memory
 abbrev pub IsCollected : Audit → Result Collection OutOfMemory → Audit → Type 0
 IsCollected a (Ok made) after = (made ≡ next_collection a) × (after ≡ record (after_next a) { cells = after.cells })
 IsCollected a (Err e) after = after ≡ a

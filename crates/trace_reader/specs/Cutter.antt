@@ -101,7 +101,7 @@ pub record StepsOn (old new : CutterState) (left_before left_after : Option (Lis
   pub reads : MayRead old ⊎ ((left_after ≡ left_before) × (faults_after ≡ faults_before))
   pub later : faults_before ≤ faults_after
 
--- the answer to a line is what the line is, unless memory was wanting
+-- the answer to a line is what the line is, unless memory ran out
 abbrev pub Tells : Result (Option Event) Stop → Item → Type 0
 Tells (Ok None) item = item ≡ blank
 Tells (Ok (Some e)) item = item ≡ event e

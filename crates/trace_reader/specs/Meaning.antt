@@ -97,7 +97,7 @@ optional_value f value default (Some d) = good_value f (value d)
 abbrev pub optional_field : {A : Type 0} → FieldName → (Data → Option A) → A → Data → Result A Refusal
 optional_field f value default d = optional_value f value default (get (field_text f) d)
 
--- the answer is what the definition gives, unless memory was wanting
+-- the answer is what the definition gives, unless memory ran out
 abbrev pub Gives : {A : Type 0} → Result A Stop → Result A Refusal → Type 0
 Gives (Ok a) given = given ≡ Ok a
 Gives (Err (Refused r)) given = given ≡ Err r

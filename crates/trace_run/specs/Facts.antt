@@ -18,7 +18,7 @@ pub record IsWhole (limit : ℕ) (of : List Item → Report) (old new : Outside)
 
 -- What the status says: the trace was read to its end, or the run halted, and the report is whole; a line is refused, and exactly the report
 -- was appended; a refused line is never hidden; a failed read or write has its cause; what was appended is a beginning of
--- the report; the words were taken; and where no line is refused and no count of faults rose, only a want of memory keeps
+-- the report; the words were taken; and where no line is refused and no count of faults rose, only running out of memory keeps
 -- the run from its end.
 pub record HasFacts (limit : ℕ) (of : List Item → Report) (old new : Outside) (answer : Status) (bytes : List ℕ) : Type 0 where
   pub whole : (answer ≡ Clean) ⊎ (answer ≡ Violated) → IsWhole limit of old new answer bytes

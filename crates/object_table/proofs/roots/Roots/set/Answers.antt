@@ -1,7 +1,7 @@
 use Rattle.object_table.proofs.Named.{IsOrdered-insert, set_is, insert_is, lookup_none, OnErr-always}
 use Rattle.object_table.proofs.roots.Roots.set.Goals as goal
 
--- memory is wanting only for a new name
+-- only a new name takes memory
 pub returns-in_err-name-in-Err-clause-memory : goal.returns-in_err-name-in-Err-clause-memory
 returns-in_err-name-in-Err-clause-memory c = OnErr-always _ (lookup_none c.args.self.now c.args.name.now c.in-Err.place c.in-Err.ensures.in_range c.in-Err.ensures.gap)
 
