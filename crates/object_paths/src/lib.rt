@@ -2,7 +2,5 @@
 #![tactic(auto)]
 
 mod plain_levels;
-#[cfg(test)]
-mod tests;
 
 pub use plain_levels::PlainLevels;

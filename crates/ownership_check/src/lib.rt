@@ -4,8 +4,6 @@
 mod checking;
 mod doubts;
 mod settling;
-#[cfg(test)]
-mod tests;
 mod unowned;
 
 pub use checking::{OwnershipCheck, check_owners};

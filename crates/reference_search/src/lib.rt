@@ -4,8 +4,6 @@
 mod cell_reference;
 mod first;
 mod search;
-#[cfg(test)]
-mod tests;
 
 pub use cell_reference::{CellReference, FirstReferences};
 pub use first::first_references;

@@ -1,7 +1,7 @@
-use Rattle.std.proofs.Common.{◌<◌, List, ℕ, [], length, get_or, ap, arith}
+use Rattle.std.proofs.Common.{◌<◌, [], length, get_or, ap, arith}
 use Rattle.std.specs.Option.{option_map}
 use Rattle.std.proofs.lemmas.Option.{slice_get-get_or}
-use Rattle.object_paths.proofs.tests.path_by_root.Goals as goal
+use Rattle.path_tests.proofs.plain.path_by_root.Goals as goal
 
 pub reference_path-requires-clause-refers : goal.reference_path-requires-clause-refers
 reference_path-requires-clause-refers c =

@@ -3,7 +3,7 @@ use Rattle.std.specs.Option.{is_some}
 use Rattle.std.proofs.lemmas.Bool.{false≢true}
 use Rattle.graph_meaning.specs.Heap.{edge_of}
 use Rattle.object_table.specs.Placed.{slots_in, slot_in}
-use Rattle.object_paths.proofs.tests.path_by_slot.Goals as goal
+use Rattle.path_tests.proofs.plain.path_by_slot.Goals as goal
 
 leads_somewhere : (edge : Option ℕ) → is_some edge ≡ true → (id : ℕ) × (edge ≡ Some id)
 leads_somewhere None some = absurd (false≢true some)

@@ -1,7 +1,7 @@
 use Rattle.std.proofs.Common.{◌≡◌, ◌≢◌, ◌≤◌, ℕ, ◌==◌, [], ◌∷◌, sym, ap, ◌∙◌, arith, ⊎_elim, eq-eqb}
 use Rattle.std.proofs.lemmas.Bool.{cases_eq, ne_eqb}
 use Rattle.heap_base.specs.Counting.{bit, times, IsOnce}
-use Rattle.reference_search.proofs.tests.first_of_two.Goals as goal
+use Rattle.path_tests.proofs.references.references_to.Goals as goal
 
 two-once : (a b : ℕ) → a ≢ b → IsOnce (a ∷ b ∷ [])
 two-once a b apart x = ⊎_elim here there (cases_eq a x)

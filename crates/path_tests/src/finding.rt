@@ -1,0 +1,137 @@
+//! What an owner finds.
+ghost use Rattle.std.specs.Prelude.{length};
+ghost use Rattle.graph_meaning.specs.Roles.{AreRolesOf};
+
+use crate::heaps::{
+    BOOK, EMPTY_POOL, ENTRY, LIST, LOST_ENTRY, MAP, NESTED_OWNERS, POOLS, WEAK_ENTRY,
+};
+use graph_meaning::Roles;
+use object_table::ObjectTable;
+use path_cert::finds;
+use std::alloc::Global;
+use std::test::Fail;
+use test_support::{SampleHeap, cell, roles_in, table_of};
+
+// Which of two objects the owner finds, where it is asked for both.
+fn found_of_two(
+    alloc: Global,
+    table: &ObjectTable,
+    roles: &Roles,
+    owner: u32,
+    ownees: (u32, u32),
+) -> Option<(bool, bool)>
+    requires { AreRolesOf table.now.cells (length table.now.table.kinds) roles.now }
+{
+    let owner = cell(table, owner)?;
+    let first = cell(table, ownees.0)?;
+    let second = cell(table, ownees.1)?;
+    let found = finds(alloc, table, roles, owner, &[first, second]).ok()?;
+    Some((*found.first()?, *found.get(1)?))
+}
+
+// An owner of a heap that is asked for two objects, and which of them it finds.
+struct Case {
+    heap: SampleHeap<'static>,
+    owner: u32,
+    ownees: (u32, u32),
+    found: (bool, bool),
+}
+
+const CASES: [Case; 10] = [
+    Case {
+        heap: ENTRY,
+        owner: 1,
+        ownees: (3, 2),
+        found: (true, false),
+    },
+    Case {
+        heap: LOST_ENTRY,
+        owner: 1,
+        ownees: (3, 3),
+        found: (false, false),
+    },
+    Case {
+        heap: WEAK_ENTRY,
+        owner: 1,
+        ownees: (3, 3),
+        found: (false, false),
+    },
+    Case {
+        heap: BOOK,
+        owner: 3,
+        ownees: (5, 4),
+        found: (true, true),
+    },
+    Case {
+        heap: POOLS,
+        owner: 2,
+        ownees: (4, 5),
+        found: (true, false),
+    },
+    Case {
+        heap: EMPTY_POOL,
+        owner: 2,
+        ownees: (4, 5),
+        found: (false, false),
+    },
+    Case {
+        heap: LIST,
+        owner: 1,
+        ownees: (3, 2),
+        found: (false, true),
+    },
+    Case {
+        heap: MAP,
+        owner: 1,
+        ownees: (3, 2),
+        found: (true, true),
+    },
+    Case {
+        heap: NESTED_OWNERS,
+        owner: 2,
+        ownees: (4, 3),
+        found: (true, true),
+    },
+    Case {
+        heap: NESTED_OWNERS,
+        owner: 1,
+        ownees: (3, 2),
+        found: (false, true),
+    },
+];
+
+fn found_in(
+    alloc: Global,
+    table: &ObjectTable,
+    heap: SampleHeap<'_>,
+    owner: u32,
+    ownees: (u32, u32),
+) -> Result<Option<(bool, bool)>, Fail> {
+    let roles = roles_in(alloc, table, heap)?;
+    Ok(found_of_two(alloc, table, &roles, owner, ownees))
+}
+
+fn found_in_heap(
+    alloc: Global,
+    heap: SampleHeap<'_>,
+    owner: u32,
+    ownees: (u32, u32),
+) -> Result<Option<(bool, bool)>, Fail> {
+    let table = table_of(alloc, heap)?;
+    found_in(alloc, &table, heap, owner, ownees)
+}
+
+#[test]
+fn an_owner_finds_up_to_owners_and_ownees(rt: HostRuntime) -> Result<(), Fail> {
+    for case in &CASES {
+        let found = found_in_heap(rt.alloc(), case.heap, case.owner, case.ownees)?;
+        assert_eq!(rt;
+            found,
+            Some(case.found),
+            "{}: {:?}",
+            case.owner,
+            case.ownees
+        );
+    }
+    Ok(())
+}
