@@ -1,3 +1,2 @@
-pub mod CellTaskLemmas
 pub mod OnlyJob
 pub mod PhaseRuns

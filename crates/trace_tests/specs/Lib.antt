@@ -1,2 +1,1 @@
-pub mod CellTasks
 pub mod NewJobs

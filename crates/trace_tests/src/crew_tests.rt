@@ -1,6 +1,7 @@
 //! Runs of a crew: that each task is done once, by few and many workers, and how long those without a task wait.
 
-use crate::counters::{Cells, Shape, are_seen, is_done_once, run_cells, times_seen};
+use crate::counters::{is_done_once, run_cells};
+use crew_support::{Cells, Shape, are_seen, times_seen};
 use heap_base::{Gate, OpenGate, Task};
 use std::sync::atomic::{AtomicU64, Ordering};
 use std::test::Fail;

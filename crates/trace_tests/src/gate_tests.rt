@@ -3,8 +3,9 @@
 //!
 //! Each crew has room for 1,000 tasks or more at a worker, since a smaller one runs on one thread.
 
-use crate::counters::{Cells, Shape, are_seen, run_cells};
+use crate::counters::run_cells;
 use crate::traces::trace_table;
+use crew_support::{Cells, Shape, are_seen};
 use heap_base::Name;
 use object_table::ObjectTable;
 use std::alloc::Global;

@@ -1,8 +1,8 @@
 use Rattle.std.proofs.Common.{arith, ◌≡◌, length, sym, ◌∙◌, subst}
-use Rattle.trace_tests.specs.declared.counters.Cells.{Cells}
-use Rattle.trace_tests.specs.declared.counters.Counter.{Counter}
-use Rattle.trace_tests.specs.CellTasks.{AreFirst}
-use Rattle.trace_tests.proofs.CellTaskLemmas.{rooms, enough_turns}
+use Rattle.crew_support.specs.declared.counters.Cells.{Cells}
+use Rattle.crew_support.specs.declared.counters.Counter.{Counter}
+use Rattle.crew_support.specs.CellTasks.{AreFirst}
+use Rattle.crew_support.proofs.CellTaskLemmas.{rooms, enough_turns}
 use Rattle.trace_tests.proofs.counters.run_cells.Goals as goal
 
 pub run-requires-clause-room : goal.run-requires-clause-room

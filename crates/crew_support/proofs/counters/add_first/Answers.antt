@@ -1,8 +1,8 @@
 use Rattle.std.proofs.Common.{arith, List, length, ap, sym, subst}
 use Rattle.heap_base.specs.declared.task.Task.{Task}
-use Rattle.trace_tests.specs.CellTasks.{AreFirst}
-use Rattle.trace_tests.proofs.CellTaskLemmas.{first_more}
-use Rattle.trace_tests.proofs.counters.add_first.Goals as goal
+use Rattle.crew_support.specs.CellTasks.{AreFirst}
+use Rattle.crew_support.proofs.CellTaskLemmas.{first_more}
+use Rattle.crew_support.proofs.counters.add_first.Goals as goal
 
 pub returns-then-of-clause-lists : goal.returns-then-of-clause-lists
 returns-then-of-clause-lists c =

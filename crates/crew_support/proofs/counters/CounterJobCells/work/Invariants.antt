@@ -1,8 +1,8 @@
 use Rattle.std.proofs.Common.{◌≡◌, ◌+◌, List, ◌++◌, length}
 use Rattle.heap_base.specs.declared.task.Task.{Task}
 use Rattle.steal_pool.specs.Jobs.{AllFit}
-use Rattle.trace_tests.specs.CellTasks.{tasks_below}
-use Rattle.trace_tests.proofs.counters.CounterJobCells.work.Given as goal
+use Rattle.crew_support.specs.CellTasks.{tasks_below}
+use Rattle.crew_support.proofs.counters.CounterJobCells.work.Given as goal
 
 abbrev pub invariant-loop-cell : goal.invariant-loop-cell
 invariant-loop-cell l = record {

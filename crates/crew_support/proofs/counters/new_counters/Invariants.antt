@@ -1,6 +1,6 @@
 use Rattle.std.proofs.Common.{◌≡◌, ◌^◌, vec_len, vec_capacity}
 use Rattle.std.specs.List.{All}
-use Rattle.trace_tests.proofs.counters.counters.Given as goal
+use Rattle.crew_support.proofs.counters.new_counters.Given as goal
 
 abbrev pub invariant-loop : goal.invariant-loop
 invariant-loop l = record {

@@ -1,7 +1,7 @@
 use Rattle.std.proofs.Common.{arith, List, [], ◌∷◌, ◌++◌, ap, ◌∙◌, append_assoc, length-append}
 use Rattle.heap_base.specs.declared.task.Task.{Task}
-use Rattle.trace_tests.proofs.CellTaskLemmas.{task_of, fit-append}
-use Rattle.trace_tests.proofs.counters.CounterJobCells.work.Goals as goal
+use Rattle.crew_support.proofs.CellTaskLemmas.{task_of, fit-append}
+use Rattle.crew_support.proofs.counters.CounterJobCells.work.Goals as goal
 
 pub loop-cell-preserved : goal.loop-cell-preserved
 loop-cell-preserved c =

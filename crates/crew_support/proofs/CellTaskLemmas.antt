@@ -5,7 +5,7 @@ use Rattle.std.specs.List.{All, AllByRecursion, Contains}
 use Rattle.heap_base.specs.declared.task.Task.{Task}
 use Rattle.steal_pool.specs.Jobs.{AllFit}
 use Rattle.steal_pool.specs.Runs.{HaveRoom, most_tasks}
-use Rattle.trace_tests.specs.CellTasks.{tasks_below, cells_meaning, AreFirst}
+use Rattle.crew_support.specs.CellTasks.{tasks_below, cells_meaning, AreFirst}
 use Rattle.steal_pool.proofs.Elements.{all-snoc}
 
 abbrev pub task_of : ℕ → Task

@@ -1,6 +1,6 @@
 use Rattle.std.proofs.Common.{◌≡◌}
-use Rattle.trace_tests.specs.CellTasks.{AreFirst}
-use Rattle.trace_tests.proofs.counters.first_tasks.Given as goal
+use Rattle.crew_support.specs.CellTasks.{AreFirst}
+use Rattle.crew_support.proofs.counters.first_tasks.Given as goal
 
 abbrev pub invariant-loop-worker : goal.invariant-loop-worker
 invariant-loop-worker l = record {
