@@ -1,0 +1,11 @@
+//! Tests of workers that stay parked between runs, over public calls alone.
+#![tactic(auto)]
+
+#[cfg(test)]
+mod gate_tests;
+#[cfg(test)]
+mod run_tests;
+#[cfg(test)]
+mod runs;
+#[cfg(test)]
+mod thread_tests;
