@@ -1,0 +1,33 @@
+use Rattle.std.proofs.Common.{◌≡◌, get_or, sym, ◌∙◌}
+use Rattle.std.specs.Prelude.{IsSome}
+use Rattle.graph_meaning.specs.declared.roles.OwnerRole.TheVariants.{OwnerCell}
+use Rattle.graph_meaning.specs.Roles.{owner_in}
+use Rattle.object_table.specs.Placed.{id_in}
+use Rattle.ownee_check.proofs.Pairs.{pairs-owned, pairs-none, objects-more}
+use Rattle.ownee_check.proofs.settling.pairs_of.Goals as goal
+use Rattle.ownee_check.proofs.settling.pairs_of.Goals.{in-OwnerCell+in_ok-push, in_default}
+
+pub loop-ownee-preserved : goal.loop-ownee-preserved
+loop-ownee-preserved c =
+    let p = c.args.table.now in
+    let r = c.args.roles.now in
+    let ownees = c.args.ownees.now in
+    let i = c.loop-ownee.ownee-index in
+    let y = get_or c.args.ownees.now i 0 in
+    let pairs = c.loop-ownee.pairs.items in
+    let was = c.loop-ownee.invariant in
+    let held : IsSome (id_in c.args.table.now (get_or c.args.ownees.now c.loop-ownee.ownee-index 0)) = c.requires.ownees i 0 c.loop-ownee-test.true in
+    elim c.match-owner.branch [
+      | in-OwnerCell+in_ok-push w ↦
+          let owner = w.in-OwnerCell.owner in
+          let role : owner_in r y ≡ OwnerCell owner = sym c.owner.ensures ∙ w.in-OwnerCell.is in
+          rw (w.pairs-is, w.in_ok-push.ensures.items) (record {
+            objects = objects-more p pairs (record { owner = owner; ownee = y }) was.objects ((c.requires.roles.by_others y owner role).1, held);
+            found = λ x. pairs-owned p r pairs ownees i owner x c.loop-ownee-test.true role (was.found x);
+          })
+      | in_default w ↦
+          rw w.pairs-is (record {
+            objects = was.objects;
+            found = λ x. pairs-none p r pairs ownees i x c.loop-ownee-test.true (λ owner is. w.in_default.not-OwnerCell owner (c.owner.ensures ∙ is)) (was.found x);
+          })
+    ]

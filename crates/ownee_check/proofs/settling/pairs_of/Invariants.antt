@@ -1,0 +1,13 @@
+use Rattle.std.proofs.Common.{◌≡◌, ◌&&◌, ℕ, take}
+use Rattle.std.specs.List.{All}
+use Rattle.graph_meaning.specs.Reach.{has_id}
+use Rattle.ownee_check.specs.Cells.{is_kept}
+use Rattle.ownee_check.specs.Settling.{IsOfObjects, is_found_in}
+use Rattle.ownee_check.proofs.settling.pairs_of.Given as goal
+
+-- of the ownees so far
+abbrev pub invariant-loop-ownee : goal.invariant-loop-ownee
+invariant-loop-ownee l = record {
+  objects : All (IsOfObjects l.table) l.pairs.items;
+  found : (x : ℕ) → is_found_in l.table l.roles l.pairs.items x ≡ (has_id (take l.ownee-index l.ownees) x && is_kept l.table l.roles x);
+}
