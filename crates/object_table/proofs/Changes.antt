@@ -20,7 +20,7 @@ use Rattle.graph_meaning.specs.Reach.{has_id}
 use Rattle.graph_meaning.specs.Collecting.{slot_without, object_without, with_only}
 use Rattle.graph_meaning.specs.Step.{with_kind, with_object, with_slot, with_changed_slot}
 use Rattle.object_table.specs.declared.slot.Slot.{Slot as CellSlot}
-use Rattle.object_table.specs.Placed.{TakesCell, KeepsCells, kept_ids, cells_for_one_more}
+use Rattle.object_table.specs.Placed.{TakesCell, NoneEmptyBelow, KeepsCells, kept_ids, cells_for_one_more}
 use Rattle.object_table.specs.Residents.{Resident, no_edge, is_flagged, slot_after, resident_after, held_at, held_after, id_held, is_taken, next_cell, with_resident}
 use Rattle.object_table.specs.Parts.{Parts, slot_of, object_of, nobody, object_at_cell, placed_of, HoldsTaken, slots_at_cell, IsLaidOut}
 use Rattle.object_table.proofs.Positions.{any-position}
@@ -119,6 +119,12 @@ next_free (Some o ∷ cells) =
     let next : next_cell (Some o ∷ cells) ≡ suc (next_cell cells) = omega (arith, next-taken o cells) in
     ap (held_at (Some o ∷ cells)) next ∙ next_free cells
 next_free (None ∷ cells) = ap (held_at (None ∷ cells)) (next-empty cells)
+
+below_taken : (cells : List (Option Resident)) (lower : ℕ) → lower < next_cell cells → is_taken cells lower ≡ true
+below_taken [] lower below = absurd (omega arith)
+below_taken (None ∷ cells) lower below = absurd (omega (arith, next-empty cells))
+below_taken (Some o ∷ cells) zero below = refl
+below_taken (Some o ∷ cells) (suc lower) below = below_taken cells lower (omega (arith, next-taken o cells))
 
 -- the cells after an object was put: it stands in the cell that came next, which was empty, and the others stay
 module _ (cells : List (Option Resident)) (o : Resident) where
@@ -275,6 +281,16 @@ module _ (p : Parts) (laid : IsLaidOut p) (name : List ℕ) (id number slots : �
           let all : eqb (length (placed_of p).cells) (length (placed_of p).table.objects) ≡ true = eq-eqb _ _ (omega (arith, full_cells p laid full, objects, cells_are)) in
           length-put_last p.cells new past ∙ ap (λ n. n + 1) (sym cells_are) ∙ sym (ap (λ b. cond b (length (placed_of p).cells + 1) (length (placed_of p).cells)) all))
           (cases_lt (next_cell p.cells) (length p.cells))
+
+  -- no cell below the new object's is empty
+  pub added_lowest : IsLaidOut with_one → NoneEmptyBelow (placed_of with_one) id
+  added_lowest now c lower at below =
+      let here : id_held later c ≡ Some id = sym (id_in-cells later c) ∙ at in
+      let there : id_held later cell ≡ Some id = ap (option_map (λ (o : Resident). o.id)) (put_at p.cells new) in
+      let same : c ≡ cell = same_Some c cell (sym (found_held with_one now id c here) ∙ found_held with_one now id cell there) in
+      let taken = below_taken p.cells lower (omega (arith, same)) in
+      let (o, held) = held_taken p.cells lower taken in
+      ap is_some (id_in-cells later lower ∙ ap (option_map (λ (o : Resident). o.id)) (put_stays p.cells new lower taken ∙ held))
 
 -- ---- a slot is changed
 

@@ -2,8 +2,10 @@ pub mod Chains
 pub mod Changes
 pub mod Cleared
 pub mod Entries
+pub mod Freed
 pub mod Housing
 pub mod Indexes
+pub mod KeptLater
 pub mod Laid
 pub mod Lookups
 pub mod Named

@@ -1,5 +1,6 @@
 -- What a table is made of: objects in cells, their ids with their cells, roots and type names.
-use Rattle.std.specs.Prelude.{◌≡◌, ℕ, ◌<◌, ◌≤◌, List, [], length, map, All, IsTrue, Option, Some, IfSome, unwrap_or, option_and_then, slice_index_or}
+use Rattle.std.specs.Prelude.{◌≡◌, ℕ, ◌==◌, ◌<◌, ◌≤◌, List, [], ◌∷◌, length, map, All, Bool, false, not, ◌||◌, ◌&&◌, if◌then◌else◌, IsTrue, Option, None, Some, IfSome, unwrap_or, option_and_then, slice_index_or}
+use Rattle.std.specs.List.{AllPairs}
 use Rattle.std.specs.Option.{option_map}
 use Rattle.heap_base.specs.declared.limits.TheConstants.{MOST_OBJECTS}
 use Rattle.heap_base.specs.Counting.{bit, times}
@@ -7,7 +8,7 @@ use Rattle.graph_meaning.specs.Heap.{Slot, Object, slot_count}
 use Rattle.object_table.specs.declared.slot.Slot.{Slot as CellSlot}
 use Rattle.object_table.specs.Located.{RisesById}
 use Rattle.object_table.specs.Placed.{Placed, IsSound}
-use Rattle.object_table.specs.Residents.{Resident, held_at, id_held, is_taken}
+use Rattle.object_table.specs.Residents.{Resident, held_at, id_held, is_flagged, is_taken}
 
 -- The parts: what each cell holds; the ids of the objects, rising, each with its cell; the roots; the type names; the
 -- greatest id that was allocated; and how many slots all objects have.
@@ -65,3 +66,19 @@ pub record IsTable (p : Parts) : Type 0 where
   pub laid : IsLaidOut p
   pub counted : p.slots ≡ slot_count (placed_of p).table
   pub sound : IsSound (placed_of p).table
+
+-- ---- the objects of a part of the list of ids are freed
+
+-- what a cell holds unless it was freed
+abbrev pub held_unless : Bool → List (Option Resident) → ℕ → Option Resident
+held_unless freed cells cell = if freed then None else held_at cells cell
+
+-- whether the cell is that of one of these entries and not kept
+abbrev pub is_freed : List Bool → List (ℕ × ℕ) → ℕ → Bool
+is_freed kept [] cell = false
+is_freed kept (e ∷ entries) cell = ((e.1 == cell) && not (is_flagged kept cell)) || is_freed kept entries cell
+
+-- The cells of these entries rise, each holds an object, and so does each cell below one of them.
+pub record StandInOrder (cells : List (Option Resident)) (entries : List (ℕ × ℕ)) : Type 0 where
+  pub rising : AllPairs (λ a b. a.1 < b.1) entries
+  pub full : All (λ e. (lower : ℕ) → lower ≤ e.1 → IsTrue (is_taken cells lower)) entries

@@ -1,5 +1,5 @@
 -- A table with the places of its objects: each cell holds one object or is empty.
-use Rattle.std.specs.Prelude.{◌≡◌, ◌==◌, ℕ, ◌+◌, ◌≤◌, List, [], ◌∷◌, length, All, Bool, true, false, IsTrue, if◌then◌else◌, Option, None, Some, option_and_then, position, slice_index_or}
+use Rattle.std.specs.Prelude.{◌≡◌, ◌==◌, ℕ, ◌+◌, ◌<◌, ◌≤◌, List, [], ◌∷◌, length, All, Bool, true, false, IsTrue, if◌then◌else◌, Option, None, Some, IfSome, IsSome, option_and_then, position, slice_index_or}
 use Rattle.std.specs.Option.{option_map_or}
 use Rattle.std.specs.List.{cons_option, IsDistinct}
 use Rattle.std.specs.List.Sorted.{IsStrictlySortedBy}
@@ -91,3 +91,20 @@ pub record LeadsToKept (t : Table) (kept : List ℕ) : Type 0 where
 pub record KeepsCells (before after : Placed) (kept : List ℕ) : Type 0 where
   pub others : (cell id : ℕ) → id_in before cell ≡ Some id → IsTrue (has_id kept id) → id_in after cell ≡ Some id
   pub count : length after.cells ≡ length before.cells
+
+-- what the slot holds, weakly or not, is kept
+abbrev pub HoldsOf : List ℕ → Slot → Type 0
+HoldsOf kept slot = IfSome slot.held (λ id. IsTrue (has_id kept id))
+
+-- Each kept object holds kept ones alone, weakly or not.
+abbrev pub HoldKept : Placed → List ℕ → Type 0
+HoldKept p kept = (cell id : ℕ) → id_in p cell ≡ Some id → IsTrue (has_id kept id) → All (HoldsOf kept) (slots_in p cell)
+
+-- No cell below that of the object is empty.
+abbrev pub NoneEmptyBelow : Placed → ℕ → Type 0
+NoneEmptyBelow p id = (cell lower : ℕ) → id_in p cell ≡ Some id → lower < cell → IsSome (id_in p lower)
+
+-- The objects with ids above this number stand in the order of their ids, and no cell below any of them is empty.
+pub record IsStacked (p : Placed) (number : ℕ) : Type 0 where
+  pub full : (id : ℕ) → number < id → NoneEmptyBelow p id
+  pub rising : (cell other id later : ℕ) → id_in p cell ≡ Some id → id_in p other ≡ Some later → number < id → id < later → cell < other

@@ -1,4 +1,4 @@
-ghost use Rattle.std.specs.Prelude.{◌≡◌, ℕ, ◌<◌, ◌≤◌, [], length, map, sum_by, IsTrue, Some, IsSome, IfSome, OnOk, slice_get, slice_set, IfOk};
+ghost use Rattle.std.specs.Prelude.{◌≡◌, ℕ, ◌<◌, ◌≤◌, [], length, map, sum_by, IsTrue, None, Some, IsSome, IfSome, OnOk, slice_get, slice_set, IfOk};
 ghost use Rattle.std.specs.Option.{option_map};
 ghost use Rattle.heap_base.specs.declared.limits.TheConstants.{MOST_OBJECTS, MOST_SLOTS};
 ghost use Rattle.object_table.specs.Residents.{held_at, held_after, id_held, is_flagged, next_cell, with_resident, resident_cleared, holders_held};
@@ -133,6 +133,15 @@ impl Cells {
         ensures after { (cell : ℕ) → held_at self.new.cells cell ≡ held_after kept.now self.old.cells cell }
     {
         self.first_empty = sweep(&mut self.pages, kept);
+    }
+
+    /// Empties one cell, below which no cell is empty. No slot is changed.
+    pub fn free(&mut self, cell: u32)
+        requires { (lower : ℕ) → lower ≤ cell → IsSome (held_at self.old.cells lower) }
+        ensures { self.new.cells ≡ slice_set self.old.cells cell None }
+    {
+        self.pages.put(cell, Cell::Empty(self.first_empty));
+        self.first_empty = Some(cell);
     }
 
     /// Empties the slots, weak or not, that hold the object of a marked cell. Answers how many these were.

@@ -64,6 +64,19 @@ impl Directory {
         }
     }
 
+    /// Takes up these ids in place of those before, where the ones before this place are as they were. It asks for no
+    /// memory.
+    pub fn keep_from(&mut self, first: usize, ids: &[(ObjId, u32)]) {
+        let known = match first.checked_sub(1) {
+            Some(last) => ids.get(last).map_or(0, |entry| self.block(entry.0) + 1),
+            None => 0,
+        };
+        self.starts.truncate(known);
+        for place in first..ids.len() {
+            let _ = self.reach(ids[place].0, place);
+        }
+    }
+
     // Takes up these ids anew, in blocks of which fewer than `most` reach up to the last.
     fn lay(&mut self, ids: &[(ObjId, u32)], last: ObjId, most: usize) -> Result<(), OutOfMemory> {
         let first = ids.first().map_or(last, |entry| entry.0);

@@ -1,4 +1,4 @@
-ghost use Rattle.std.specs.Prelude.{◌≡◌, ◌-◌, ◌<◌, ◌≤◌, ◌++◌, ◌∷◌, [], All, length, take, drop, filter, Some, OnOk, OnErr, IfSome, slice_get, IfOk};
+ghost use Rattle.std.specs.Prelude.{◌≡◌, ◌-◌, ◌<◌, ◌≤◌, ◌++◌, ◌∷◌, [], All, length, take, drop, filter, Some, OnOk, OnErr, IfSome, IsTrue, slice_get, IfOk};
 ghost use Rattle.std.specs.Map.{lookup};
 ghost use Rattle.std.specs.Ordering.{nat_cmp};
 ghost use Rattle.std.specs.BTreeMap.{is_at};
@@ -125,6 +125,20 @@ impl Ids {
         self.entries[place].1
     }
 
+    /// The place of the first id that is above this number, and the end of the list where none is.
+    pub fn first_above(&self, number: u32) -> usize
+        requires { RisesById self.now }
+        ensures bound { result ≤ length self.now }
+        ensures before { All (λ e. e.0 ≤ number) (take result self.now) }
+        ensures after { All (λ e. number < e.0) (drop result self.now) }
+    {
+        let mut place = self.entries.len();
+        while place > 0 && self.entries[place - 1].0.number() > number {
+            place -= 1;
+        }
+        place
+    }
+
     /// Puts an id last, with its cell.
     pub fn push(&mut self, id: ObjId, cell: u32) -> Result<(), OutOfMemory>
         ensures last { OnOk result (self.new ≡ self.old ++ (id, cell) ∷ []) }
@@ -148,4 +162,33 @@ impl Ids {
         self.entries.retain(|entry| is_flagged(kept, entry.1));
         self.directory.keep(&self.entries);
     }
+
+    /// Takes the ids away from this place on whose cells are not kept. Those before it are.
+    pub fn keep_from(&mut self, first: usize, kept: &[bool])
+        requires within { first ≤ length self.old }
+        requires earlier { All (λ e. IsTrue (is_flagged kept.now e.1)) (take first self.old) }
+        ensures { self.new ≡ filter (λ e. is_flagged kept.now e.1) self.old }
+    {
+        let end = compact(&mut self.entries, first, kept);
+        self.entries.truncate(end);
+        self.directory.keep_from(first, &self.entries);
+    }
+}
+
+// Moves the entries from this place on whose cells are kept forward, behind those before it, all of which are kept. It
+// answers where the last of them ends.
+fn compact(entries: &mut [(ObjId, u32)], first: usize, kept: &[bool]) -> usize
+    requires within { first ≤ length entries.old }
+    requires earlier { All (λ e. IsTrue (is_flagged kept.now e.1)) (take first entries.old) }
+    ensures { take result entries.new ≡ filter (λ e. is_flagged kept.now e.1) entries.old }
+{
+    let mut end = first;
+    for place in first..entries.len() {
+        let entry = entries[place];
+        if is_flagged(kept, entry.1) {
+            entries[end] = entry;
+            end += 1;
+        }
+    }
+    end
 }

@@ -1,4 +1,4 @@
-ghost use Rattle.std.specs.Prelude.{◌≡◌, ◌<◌, ◌≤◌, ℕ, All, IsTrue, None, Some, true, false, length, sum_by, position, option_and_then, is_some, slice_get, IsSome, IfSome, IfOk, OnOk, OnErr};
+ghost use Rattle.std.specs.Prelude.{◌≡◌, ◌+◌, ◌<◌, ◌≤◌, ℕ, All, IsTrue, None, Some, true, false, length, drop, filter, sum_by, position, option_and_then, is_some, slice_get, drop, filter, IsSome, IfSome, IfOk, OnOk, OnErr};
 ghost use Rattle.std.specs.Result.{result_err};
 ghost use Rattle.std.specs.Str.{bytes_eq};
 ghost use Rattle.heap_base.specs.declared.limits.TheConstants.{MOST_SLOTS};
@@ -8,16 +8,16 @@ ghost use Rattle.graph_meaning.specs.Collecting.{with_only, cut_off, holders_of}
 ghost use Rattle.graph_meaning.specs.Reach.{has_id};
 ghost use Rattle.graph_meaning.specs.Step.{alloc_refusal, with_object, not_live, slot_refusal, target_refusal, store_refusal, with_changed_slot, slot_holding, slot_made_weak, root_refusal, with_root, is_root, kind_refusal, with_kind};
 ghost use Rattle.graph_meaning.specs.Views.{heap_view};
-ghost use Rattle.object_table.specs.Placed.{nothing_placed, id_in, object_in, slots_in, slot_in, IsPlaced, IsSound, TakesCell, KeepsCells, kept_ids, marked_ids, LeadsToKept};
-ghost use Rattle.object_table.specs.Residents.{is_taken};
-ghost use Rattle.object_table.specs.Parts.{slots_at_cell};
+ghost use Rattle.object_table.specs.Placed.{nothing_placed, id_in, object_in, slots_in, slot_in, IsPlaced, IsSound, TakesCell, KeepsCells, kept_ids, marked_ids, LeadsToKept, HoldKept, NoneEmptyBelow, IsStacked};
+ghost use Rattle.object_table.specs.Residents.{held_at, is_flagged, is_taken};
+ghost use Rattle.object_table.specs.Parts.{slots_at_cell, held_unless, is_freed, StandInOrder};
 
 use crate::cells::Cells;
 use crate::ids::Ids;
 use crate::kinds::Kinds;
 use crate::object::Object;
 use crate::roots::Roots;
-use crate::slot::Slot;
+use crate::slot::{Slot, is_flagged};
 use crate::views::{objects_view, roots_view};
 use graph_meaning::{HeapView, Refusal, Stop};
 use heap_base::{MOST_KINDS, MOST_OBJECTS, MOST_ROOTS, MOST_SLOTS, Name, ObjId, OutOfMemory};
@@ -99,11 +99,13 @@ impl ObjectTable {
     /// Adds an object with empty slots, none weak. It refuses, in this order, an id that is not above every id
     /// before (`IdNotRising`), an object too many where `MOST_OBJECTS` are live (`TooManyObjects`), slots that
     /// with the live ones pass `MOST_SLOTS` (`TooManySlots`), and a new type where `MOST_KINDS` were seen
-    /// (`TooManyTypes`). After a refusal, and when out of memory, nothing has changed.
+    /// (`TooManyTypes`). After a refusal, and when out of memory, nothing has changed. The object takes the lowest cell
+    /// that is empty.
     pub fn alloc_object(&mut self, id: ObjId, kind: &Name, slots: u32) -> Result<(), Stop>
         ensures refused { RefusesBy result (alloc_refusal self.old.table id kind.now slots) }
         ensures added { OnOk result (self.new.table ≡ with_object self.old.table id kind.now slots) }
         ensures cells { OnOk result (TakesCell self.old self.new id) }
+        ensures lowest { OnOk result (NoneEmptyBelow self.new id) }
         ensures err { OnErr result (self.new ≡ self.old) }
     {
         if let Some(refusal) = self.alloc_refusal(id, kind, slots) {
@@ -332,6 +334,24 @@ impl ObjectTable {
         self.slots = slots_of(&self.ids, &self.cells);
     }
 
+    /// The same as `keep`, where every object is kept whose id is not above this number. It looks at the others alone, so
+    /// its time goes with these. It asks for objects that no kept one holds, weakly or not, and that stand in the order of
+    /// their ids with no empty cell below them, as they do where nothing was freed since the first of them was added.
+    pub fn keep_above(&mut self, number: u32, kept: &[bool])
+        requires each { length kept.now ≡ length self.old.cells }
+        requires closed { LeadsToKept self.old.table (kept_ids self.old.cells kept.now) }
+        requires held { HoldKept self.old (kept_ids self.old.cells kept.now) }
+        requires others { (id : ℕ) → IsTrue (is_live self.old.table id) → id ≤ number → IsTrue (has_id (kept_ids self.old.cells kept.now) id) }
+        requires stacked { IsStacked self.old number }
+        ensures kept { self.new.table ≡ with_only (kept_ids self.old.cells kept.now) self.old.table }
+        ensures cells { KeepsCells self.old self.new (kept_ids self.old.cells kept.now) }
+    {
+        let first = self.ids.first_above(number);
+        let freed = free_from(&mut self.cells, &self.ids, first, kept);
+        self.ids.keep_from(first, kept);
+        self.slots -= freed;
+    }
+
     /// Empties every slot, weak or not, that holds the object of a marked cell, and takes away every root that names
     /// one. A slot stays weak where it is, and each object keeps its cell. Answers how many slots and roots these
     /// were.
@@ -430,6 +450,7 @@ impl ObjectTable {
         requires { alloc_refusal self.old.table id kind.now slots ≡ None }
         ensures added { OnOk result (self.new.table ≡ with_object self.old.table id kind.now slots) }
         ensures cells { OnOk result (TakesCell self.old self.new id) }
+        ensures lowest { OnOk result (NoneEmptyBelow self.new id) }
         ensures err { OnErr result (self.new ≡ self.old) }
     {
         let found = self.kinds.find(kind);
@@ -457,6 +478,27 @@ fn slots_of(ids: &Ids, cells: &Cells) -> u32
     let mut slots = 0;
     for place in 0..ids.len() {
         slots += cells.at(ids.cell(place)).slots();
+    }
+    slots
+}
+
+// Empties the cells that are not kept of the objects from this place on, and answers how many slots these had. They stand in
+// the order of their ids, with no empty cell below them.
+fn free_from(cells: &mut Cells, ids: &Ids, first: usize, kept: &[bool]) -> u32
+    requires within { first ≤ length ids.now }
+    requires few { sum_by (λ e. slots_at_cell cells.old.cells e.1) ids.now ≤ MOST_SLOTS }
+    requires stacked { StandInOrder cells.old.cells (drop first ids.now) }
+    ensures count { length cells.new.cells ≡ length cells.old.cells }
+    ensures freed { (cell : ℕ) → held_at cells.new.cells cell ≡ held_unless (is_freed kept.now (drop first ids.now) cell) cells.old.cells cell }
+    ensures slots { result + sum_by (λ e. slots_at_cell cells.old.cells e.1) (filter (λ e. is_flagged kept.now e.1) (drop first ids.now)) ≡ sum_by (λ e. slots_at_cell cells.old.cells e.1) (drop first ids.now) }
+{
+    let mut slots = 0;
+    for place in (first..ids.len()).rev() {
+        let cell = ids.cell(place);
+        if !is_flagged(kept, cell) {
+            slots += cells.at(cell).slots();
+            cells.free(cell);
+        }
     }
     slots
 }

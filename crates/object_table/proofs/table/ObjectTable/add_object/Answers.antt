@@ -1,7 +1,7 @@
 use Rattle.std.proofs.Common.{arith}
 use Rattle.object_table.specs.Parts.{placed_of}
 use Rattle.object_table.proofs.Refusals.{alloc_fits, kind_fits}
-use Rattle.object_table.proofs.Changes.{added_is, added_takes}
+use Rattle.object_table.proofs.Changes.{added_is, added_takes, added_lowest}
 use Rattle.object_table.proofs.Tables.{parts_in, room_for_cell, table_with_one}
 use Rattle.object_table.proofs.table.ObjectTable.add_object.Goals as goal
 
@@ -26,3 +26,6 @@ returns-clause-added c = rw (← c.self.view_is, c.put.ensures, c.in_ok-push.ens
 
 pub returns-clause-cells : goal.returns-clause-cells
 returns-clause-cells c = rw (← c.self.view_is, c.put.ensures, c.in_ok-push.ensures.last, c.next.ensures, c.in-Ok.ensures.seen, c.number-self-inside.ensures.value, c.in_ok-object.ensures, c.reserve.ensures.cells) (added_takes (parts_in c.self.inside) c.self.invariant.laid c.args.kind.now c.args.id c.unwrap_or-number.result c.args.slots (rw (c.find-found.ensures, c.len.ensures.count) at c.unwrap_or-number.ensures))
+
+pub returns-clause-lowest : goal.returns-clause-lowest
+returns-clause-lowest c = rw (c.put.ensures, c.in_ok-object.ensures, c.reserve.ensures.cells) (added_lowest (parts_in c.self.inside) c.self.invariant.laid c.args.kind.now c.args.id c.unwrap_or-number.result c.args.slots (rw (c.find-found.ensures, c.len.ensures.count) at c.unwrap_or-number.ensures) (table_with_one (parts_in c.self.inside) c.self.invariant c.args.kind.now c.args.id c.unwrap_or-number.result c.args.slots (rw (c.find-found.ensures, c.len.ensures.count) at c.unwrap_or-number.ensures) (rw (← c.self.view_is) at c.requires)).laid)
