@@ -1,0 +1,95 @@
+//! The three phases of a trace, one after another, by workers that stay.
+ghost use Rattle.std.specs.Prelude.{◌≡◌, ◌+◌, ◌*◌, ◌^◌, ◌<◌, length, IfOk};
+ghost use Rattle.std.specs.Arc.{arc_value};
+ghost use Rattle.std.specs.List.{All};
+ghost use Rattle.steal_pool.specs.Runs.{AreReady};
+ghost use Rattle.scan_job.specs.Jobs.{graph_in, shared_meaning};
+ghost use Rattle.scan_job.specs.Phases.{CanBegin, CanRun, HasRun, cells_in};
+ghost use Rattle.scan_job.specs.Shared.{lent};
+ghost use Rattle.scan_job.specs.States.{turns_of};
+ghost use Rattle.heap_trace.specs.TracedCells.{ThreePhases};
+ghost use Rattle.resident_rounds.specs.Crews.{workers_of};
+ghost use Rattle.resident_trace.specs.Scans.{owned};
+
+use crate::job::ResidentJob;
+use crate::scan::ResidentScan;
+use heap_base::{Gate, OutOfMemory};
+use owner_phase::{begin_owner_phase, begin_take_up};
+use resident_rounds::Residents;
+use root_phase::begin_root_phase;
+use scan_job::{ScanJob, ScanShared};
+use std::alloc::Global;
+use std::sync::{Arc, Wait};
+use steal_pool::FirstTasks;
+
+/// Scans from the owners, then from what that left held, and then from the roots. When out of memory the crew can run again.
+pub fn run_phases<R: Wait, G: Gate + Send + Drop + 'static>(
+    rt: &R,
+    alloc: Global,
+    crew: &mut Residents<ResidentScan, ResidentJob, G>,
+    shared: &Arc<ResidentScan>,
+    mut jobs: Vec<ScanJob>,
+    mut first: FirstTasks,
+) -> Result<Vec<ScanJob>, OutOfMemory>
+    requires begin { CanBegin (owned (arc_value shared.now)) jobs.items first }
+    requires turns { All (λ j. 3 * 2 ^ 25 + 3 < turns_of j) jobs.items }
+    requires jobs { length jobs.items ≡ workers_of crew.old }
+    ensures phases { IfOk result (λ ms. ThreePhases (graph_in (owned (arc_value shared.now))) jobs.items ms.items) }
+    ensures ready { IfOk result (λ ms. AreReady shared_meaning (owned (arc_value shared.now)) ms.items) }
+    ensures workers { workers_of crew.new ≡ workers_of crew.old }
+{
+    begin_owner_phase(&lend(shared), &mut jobs, &mut first);
+    let mut after_owners = run_jobs(rt, alloc, crew, shared, jobs, &first)?;
+    begin_take_up(&lend(shared), &mut after_owners, &mut first);
+    let mut after_take_up = run_jobs(rt, alloc, crew, shared, after_owners, &first)?;
+    begin_root_phase(&lend(shared), &mut after_take_up, &mut first);
+    run_jobs(rt, alloc, crew, shared, after_take_up, &first)
+}
+
+fn lend(shared: &Arc<ResidentScan>) -> ScanShared<'_>
+    ensures { lent result ≡ owned (arc_value shared.now) }
+{
+    shared.lend()
+}
+
+// The crew's run from the first tasks.
+fn run_jobs<R: Wait, G: Gate + Send + Drop + 'static>(
+    rt: &R,
+    alloc: Global,
+    crew: &mut Residents<ResidentScan, ResidentJob, G>,
+    shared: &Arc<ResidentScan>,
+    jobs: Vec<ScanJob>,
+    first: &FirstTasks,
+) -> Result<Vec<ScanJob>, OutOfMemory>
+    requires can { CanRun (owned (arc_value shared.now)) jobs.items (2 * cells_in (owned (arc_value shared.now)) + 1) first.now.lists }
+    requires jobs { length jobs.items ≡ workers_of crew.old }
+    ensures ran { IfOk result (λ ks. HasRun (owned (arc_value shared.now)) first.now.lists jobs.items ks.items) }
+    ensures workers { workers_of crew.new ≡ workers_of crew.old }
+{
+    let jobs = wrap(alloc, jobs)?;
+    let jobs = crew.run(rt, alloc, shared, jobs, first)?;
+    unwrap(alloc, jobs)
+}
+
+// The same jobs, as those of workers that stay.
+fn wrap(alloc: Global, jobs: Vec<ScanJob>) -> Result<Vec<ResidentJob>, OutOfMemory>
+    ensures { IfOk result (λ js. js.items ≡ jobs.items) }
+{
+    let mut wrapped = Vec::with_capacity(alloc, jobs.len())?;
+    for scan in jobs {
+        wrapped.push(ResidentJob { scan })?;
+    }
+    Ok(wrapped)
+}
+
+// The scan jobs in these.
+fn unwrap(alloc: Global, jobs: Vec<ResidentJob>) -> Result<Vec<ScanJob>, OutOfMemory>
+    ensures { IfOk result (λ js. js.items ≡ jobs.items) }
+{
+    let mut unwrapped = Vec::with_capacity(alloc, jobs.len())?;
+    for job in jobs {
+        let ResidentJob { scan } = job;
+        unwrapped.push(scan)?;
+    }
+    Ok(unwrapped)
+}
