@@ -1,0 +1,5 @@
+pub mod AllOwnees
+pub mod Counts
+pub mod Found
+pub mod OwnedPairs
+pub mod WholeLists

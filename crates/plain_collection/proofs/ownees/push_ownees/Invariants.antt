@@ -1,0 +1,14 @@
+use Rattle.std.proofs.Common.{◌≡◌, ◌+◌, length, drop}
+use Rattle.graph_meaning.specs.Collecting.{ownedby_verdict}
+use Rattle.graph_meaning.specs.Heap.{Heap}
+use Rattle.assert_registry.specs.Laws.{StandFor}
+use Rattle.ownee_check.specs.Ownership.{AreViolating}
+use Rattle.verdict_list.specs.Listed.{owned_pair}
+use Rattle.verdict_list.proofs.GoingOn.{HasGoneOn}
+use Rattle.plain_collection.proofs.ownees.push_ownees.Given as goal
+
+abbrev pub invariant-loop-cell : goal.invariant-loop-cell
+invariant-loop-cell l = record {
+  gone : (h : Heap) → StandFor l.table l.roles h → AreViolating l.table h l.check → HasGoneOn l.paths (λ cell. ownedby_verdict h (owned_pair l.table h cell)) l.fn.list l.list (drop l.cell-index l.cell-items) l.cell-items;
+  number : length l.list ≡ length l.fn.list + l.cell-index;
+}

@@ -1,0 +1,40 @@
+//! A collection: what is traced is found, the assertions are checked, and what is not traced is freed.
+ghost use Rattle.std.specs.Prelude.{◌≡◌, ◌≤◌, length, IfOk, OnOk, OnErr};
+ghost use Rattle.graph_meaning.specs.Collecting.{after_collection, collection_of};
+ghost use Rattle.plain_collection.specs.Verdicts.{most_verdicts, plain_rules};
+
+use crate::plain_trace::PlainTrace;
+use crate::verdicts::verdicts;
+use graph_meaning::Collection;
+use heap_base::OutOfMemory;
+use heap_parts::HeapParts;
+use std::alloc::Global;
+
+/// Makes the collection with this number: checks the assertions, shows so many of the paths, and frees what is not traced. All
+/// memory is taken before the sweep: when out of memory nothing has changed.
+pub fn collect(
+    alloc: Global,
+    parts: &mut HeapParts,
+    paths: u32,
+    number: u64,
+) -> Result<Collection, OutOfMemory>
+    ensures found { IfOk result (λ c. c ≡ collection_of (plain_rules paths) number parts.old.heap) }
+    ensures after { OnOk result (parts.new.heap ≡ after_collection (plain_rules paths) parts.old.heap) }
+    ensures few { IfOk result (λ c. length c.verdicts ≤ most_verdicts) }
+    ensures err { OnErr result (parts.new ≡ parts.old) }
+{
+    let roles = parts.roles()?;
+    let table = parts.table();
+    let trace = PlainTrace::make(alloc, table, &roles)?;
+    let verdicts = verdicts(alloc, table, &roles, &trace, paths)?;
+    let live = table.live();
+    let swept = parts.finish(trace.kept.as_slice(), None);
+    Ok(Collection {
+        number,
+        live,
+        traced: live - swept.freed,
+        freed: swept.freed,
+        cleared: swept.cleared,
+        verdicts,
+    })
+}

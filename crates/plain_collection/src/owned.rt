@@ -1,0 +1,44 @@
+//! The ownees of a heap.
+ghost use Rattle.std.specs.Prelude.{◌≡◌, ◌<◌, length, filter, IfOk};
+ghost use Rattle.graph_meaning.specs.Roles.{cells_of, owner_in};
+ghost use Rattle.object_table.specs.Placed.{IsPlaced};
+ghost use Rattle.path_cert.specs.Finds.{has_owner};
+ghost use Rattle.ownee_check.specs.Cells.{cells_by_id};
+
+use graph_meaning::{OwnerRole, Roles};
+use heap_base::OutOfMemory;
+use object_table::ObjectTable;
+use std::alloc::Global;
+
+/// The cells of all ownees, by the ids of the objects.
+pub(crate) fn ownees_of(
+    alloc: Global,
+    table: &ObjectTable,
+    roles: &Roles,
+) -> Result<Vec<u32>, OutOfMemory>
+    requires roles { cells_of roles.now ≡ length table.now.cells }
+    ensures placed { IsPlaced table.now }
+    ensures ownees { IfOk result (λ ownees. ownees.items ≡ filter (λ cell. has_owner (owner_in roles.now cell)) (cells_by_id table.now)) }
+{
+    let cells = table.cells();
+    let mut ownees = Vec::new(alloc);
+    for number in 0..table.live() {
+        let cell = table.nth_cell(number);
+        prove!(cell < cells);
+        if has_owner(roles.owner(cell)) {
+            ownees.push(cell)?;
+        }
+    }
+    Ok(ownees)
+}
+
+// Whether the role is that of an ownee.
+fn has_owner(role: OwnerRole) -> bool
+    ensures { result ≡ has_owner role }
+{
+    match role {
+        OwnerRole::NotOwned => false,
+        OwnerRole::OwnerCell(_) => true,
+        OwnerRole::OwnerGone(_) => true,
+    }
+}

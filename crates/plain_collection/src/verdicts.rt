@@ -1,0 +1,43 @@
+//! The list of the verdicts, in order.
+ghost use Rattle.std.specs.Prelude.{◌≡◌, ◌≤◌, length, IfOk};
+ghost use Rattle.assert_registry.specs.Laws.{StandFor};
+ghost use Rattle.graph_meaning.specs.Assertions.{reference_count};
+ghost use Rattle.graph_meaning.specs.Collecting.{first_with_paths, all_verdicts};
+ghost use Rattle.graph_meaning.specs.Heap.{Heap};
+ghost use Rattle.graph_meaning.specs.Roles.{AreRolesOf};
+ghost use Rattle.plain_collection.specs.PlainTraces.{IsPlainTraceOf};
+ghost use Rattle.plain_collection.specs.Verdicts.{most_verdicts};
+
+use crate::owned::ownees_of;
+use crate::ownees::push_ownees;
+use crate::plain_trace::PlainTrace;
+use graph_meaning::{Roles, VerdictList};
+use heap_base::OutOfMemory;
+use object_table::ObjectTable;
+use ownee_check::check_ownees;
+use std::alloc::Global;
+use verdict_list::first_verdicts;
+
+/// The violated assertions of a heap that was traced, in order: what is asserted dead, by id; the types over their limit, by name; what
+/// is asserted unshared, by id; and the ownees, by id. So many of the first carry their paths.
+pub(crate) fn verdicts(
+    alloc: Global,
+    table: &ObjectTable,
+    roles: &Roles,
+    trace: &PlainTrace,
+    paths: u32,
+) -> Result<VerdictList, OutOfMemory>
+    requires roles { AreRolesOf table.now.cells (length table.now.table.kinds) roles.now }
+    requires trace { (h : Heap) × StandFor table.now roles.now h × IsPlainTraceOf table.now h trace.now }
+    ensures verdicts { IfOk result (λ v. (h : Heap) → StandFor table.now roles.now h → IsPlainTraceOf table.now h trace.now → v ≡ first_with_paths paths (all_verdicts (reference_count h) h)) }
+    ensures few { IfOk result (λ v. length v ≤ most_verdicts) }
+{
+    // what is true of every table
+    let cells = table.cells();
+    prove!(cells < u32::MAX);
+    let ownees = ownees_of(alloc, table, roles)?;
+    let check = check_ownees(alloc, table, roles, ownees)?;
+    let mut list = first_verdicts(alloc, table, roles, trace, paths)?;
+    push_ownees(&mut list, table, roles, &check, paths)?;
+    Ok(list)
+}
