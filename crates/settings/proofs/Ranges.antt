@@ -14,7 +14,7 @@ use Rattle.settings.specs.Numbers.{is_number, number_by}
 use Rattle.settings.specs.Settings.{Given, IsInRange, asked, paths_asked, plan_asked, plan_by, planned, react_asked, settings_from, workers_asked}
 
 -- a number that is taken is from the least to the most
-taken_number : (least most : ℕ) (text : List ℕ) → IfSome (number_by least most text) (λ n. (least ≤ n) × (n ≤ most))
+pub taken_number : (least most : ℕ) (text : List ℕ) → IfSome (number_by least most text) (λ n. (least ≤ n) × (n ≤ most))
 unfolding number_by
 taken_number least most text = go (is_number text && nat_le least (digits_value 10 text) && nat_le (digits_value 10 text) most) refl
   where

@@ -6,5 +6,5 @@ mod numbers;
 mod settings;
 mod values;
 
-pub use numbers::{LEAST_WORKERS, MOST_DIGITS, MOST_PATHS, USUAL_WORKERS};
+pub use numbers::{LEAST_WORKERS, MOST_DIGITS, MOST_PATHS, USUAL_WORKERS, number_by};
 pub use settings::{Settings, SettingsError, settings_of};

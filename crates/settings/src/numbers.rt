@@ -15,9 +15,9 @@ pub const USUAL_WORKERS: u32 = 1;
 /// Paths may be shown with at most so many violations of a collection.
 pub const MOST_PATHS: u32 = 10_000;
 
-/// The number that the text says, where it is one from `least` to `most`.
+/// The number that the text says in 1 to 10 digits, where it is one from `least` to `most`.
 #[tactic(auto, unfolding(crate::specs::Numbers::number_by))]
-pub(crate) fn number_by(text: &str, least: u32, most: u32) -> Option<u32>
+pub fn number_by(text: &str, least: u32, most: u32) -> Option<u32>
     ensures { result ≡ number_by least most text.now }
 {
     if !is_number(text) {
