@@ -1,0 +1,120 @@
+//! Writes a snapshot.
+ghost use Rattle.std.specs.Prelude.{◌≡◌, ◌++◌, ◌∷◌, [], List, ℕ, decimal, length, map, IfOk, OnOk, Some};
+ghost use Rattle.std.specs.List.{flat_map};
+ghost use Rattle.snapshot_text.specs.declared.line.Line.TheVariants.{Object, Root, Slot};
+ghost use Rattle.snapshot_text.specs.Lines.{line_bytes};
+ghost use Rattle.snapshot_text.specs.Text.{object_lines, root_line, slot_line, slot_lines, snapshot_text};
+
+use graph_meaning::{HeapView, ObjectList, ObjectView, RootList, SlotList};
+use heap_base::{Name, OutOfMemory};
+use itoa::Buffer;
+use std::alloc::Global;
+
+/// The text of a view. Of a lawful view it is the one that stands for it.
+#[tactic(auto, unfolding(crate::specs::Text::snapshot_text))]
+pub fn write_snapshot(alloc: Global, view: &HeapView) -> Result<Vec<u8>, OutOfMemory>
+    ensures { IfOk result (λ text. text.items ≡ snapshot_text view.now) }
+{
+    let mut text = Vec::new(alloc);
+    put(&mut text, b"heapsnap 1\n")?;
+    put_objects(&mut text, &view.objects)?;
+    put_roots(&mut text, &view.roots)?;
+    put(&mut text, b"end\n")?;
+    Ok(text)
+}
+
+fn put_objects(text: &mut Vec<u8>, objects: &ObjectList) -> Result<(), OutOfMemory>
+    ensures { OnOk result (text.new.items ≡ text.old.items ++ flat_map line_bytes (flat_map object_lines objects.now)) }
+{
+    for place in 0..objects.len() {
+        put_object(text, objects.at(place))?;
+    }
+    Ok(())
+}
+
+fn put_object(text: &mut Vec<u8>, object: &ObjectView) -> Result<(), OutOfMemory>
+    ensures { OnOk result (text.new.items ≡ text.old.items ++ flat_map line_bytes (object_lines object.now)) }
+{
+    put_object_line(text, object)?;
+    put_slots(text, &object.slots)
+}
+
+fn put_object_line(text: &mut Vec<u8>, object: &ObjectView) -> Result<(), OutOfMemory>
+    ensures { OnOk result (text.new.items ≡ text.old.items ++ line_bytes (Object object.now.id (length object.now.slots) object.now.kind)) }
+{
+    put(text, b"object ")?;
+    put_number(text, object.id)?;
+    put(text, b" ")?;
+    put_number(text, object.slots.len())?;
+    put(text, b" ")?;
+    put_name_and_newline(text, &object.kind)
+}
+
+fn put_slots(text: &mut Vec<u8>, slots: &SlotList) -> Result<(), OutOfMemory>
+    ensures { OnOk result (text.new.items ≡ text.old.items ++ flat_map line_bytes (slot_lines 0 slots.now)) }
+{
+    for place in 0..slots.len() {
+        put_slot(text, place, *slots.at(place))?;
+    }
+    Ok(())
+}
+
+fn put_slot(text: &mut Vec<u8>, slot: u32, held: Option<u32>) -> Result<(), OutOfMemory>
+    ensures { OnOk result (text.new.items ≡ text.old.items ++ flat_map line_bytes (slot_line slot held)) }
+{
+    match held {
+        Some(to) => put_slot_line(text, slot, to),
+        None => Ok(()),
+    }
+}
+
+fn put_slot_line(text: &mut Vec<u8>, slot: u32, to: u32) -> Result<(), OutOfMemory>
+    ensures { OnOk result (text.new.items ≡ text.old.items ++ line_bytes (Slot slot to)) }
+{
+    put(text, b"slot ")?;
+    put_number(text, slot)?;
+    put(text, b" ")?;
+    put_number(text, to)?;
+    put(text, b"\n")
+}
+
+fn put_roots(text: &mut Vec<u8>, roots: &RootList) -> Result<(), OutOfMemory>
+    ensures { OnOk result (text.new.items ≡ text.old.items ++ flat_map line_bytes (map root_line roots.now)) }
+{
+    for place in 0..roots.len() {
+        let root = roots.at(place);
+        put_root_line(text, &root.0, root.1)?;
+    }
+    Ok(())
+}
+
+fn put_root_line(text: &mut Vec<u8>, name: &Name, to: u32) -> Result<(), OutOfMemory>
+    ensures { OnOk result (text.new.items ≡ text.old.items ++ line_bytes (Root to name.now)) }
+{
+    put(text, b"root ")?;
+    put_number(text, to)?;
+    put(text, b" ")?;
+    put_name_and_newline(text, name)
+}
+
+fn put(text: &mut Vec<u8>, bytes: &[u8]) -> Result<(), OutOfMemory>
+    ensures { OnOk result (text.new.items ≡ text.old.items ++ bytes.now) }
+{
+    text.extend_from_slice(bytes)?;
+    Ok(())
+}
+
+fn put_number(text: &mut Vec<u8>, number: u32) -> Result<(), OutOfMemory>
+    ensures { OnOk result (text.new.items ≡ text.old.items ++ decimal number) }
+{
+    let mut buffer = Buffer::new();
+    put(text, buffer.format(number).as_bytes())
+}
+
+// A name, which ends its line.
+fn put_name_and_newline(text: &mut Vec<u8>, name: &Name) -> Result<(), OutOfMemory>
+    ensures { OnOk result (text.new.items ≡ text.old.items ++ (name.now ++ 10 ∷ [])) }
+{
+    put(text, name.as_str().as_bytes())?;
+    put(text, b"\n")
+}
