@@ -1,12 +1,13 @@
 -- What the next byte tells of a comparison.
-use Rattle.std.proofs.Common.{◌≡◌, ◌≢◌, ℕ, zero, suc, ◌+◌, ◌-◌, ◌<◌, List, [], ◌∷◌, ◌++◌, length, Option, None, Some, refl, sym, ap, subst, ◌∙◌, arith}
+use Rattle.std.proofs.Common.{◌≡◌, ◌≢◌, ℕ, zero, suc, ◌+◌, ◌-◌, ◌<◌, List, [], ◌∷◌, ◌++◌, length, Option, None, Some, Ok, refl, sym, ap, subst, ◌∙◌, arith}
 use Rattle.std.specs.List.{slice_get}
 use Rattle.std.specs.Option.{IfNone, IfSome, option_to_list}
 use Rattle.std.specs.Io.KnownBytes.{Consumes, IsAtEnd}
 use Rattle.std.proofs.KnownBytes.{Consumes-nil, Consumes-trans}
 use Rattle.std.proofs.lemmas.List.{append_assoc, append-nil, length-append}
 use Rattle.text_comparison.specs.Differences.{IsFirstDifference}
-use Rattle.text_comparison.specs.Comparing.{ComparisonState, DiffersWithin, GivesNext, IsEqualSoFar, Tells}
+use Rattle.text_comparison.specs.Comparing.{ComparisonState, DiffersWithin, GivesNext, HasCompared, IsEqualSoFar, Tells}
+use Rattle.text_comparison.specs.declared.outcome.Compared.{Compared}
 use Rattle.text_comparison.specs.declared.outcome.Compared.TheVariants.{Equal, Differs}
 
 -- ---- the next byte
@@ -123,3 +124,12 @@ tells-more start left left' s pending' text other n is equal (took, consumed, ne
         subst (λ (xs : List ℕ). IsFirstDifference xs text n) (sym (consumed ∙ ap (λ t. t ++ left) (append_assoc text (other ∷ []) pending') ∙ append_assoc text (other ∷ pending') left))
         (subst (λ (ys : List ℕ). IsFirstDifference (text ++ (other ∷ pending' ++ left)) ys n) (append-nil text)
         (differ-behind text (other ∷ pending' ++ left) [] n (omega (arith, is, equal.place)) (λ same. no-byte other same)))
+
+-- what differs from a text differs from it, also where nothing follows
+pub tells-differs : (start left : Option (List ℕ)) (s : ComparisonState) (text : List ℕ) (compared : Compared) → HasCompared start left s text (Ok compared) → compared ≢ Equal → Tells start text compared
+tells-differs start left s text Equal has other = absurd (other refl)
+tells-differs start left s text (Differs n) (within, differ) other = go start differ
+  where
+    go : (start : Option (List ℕ)) → IfSome start (λ bytes. (more : List ℕ) → IsFirstDifference bytes (text ++ more) n) → IfSome start (λ bytes. IsFirstDifference bytes text n)
+    go None differ = tt
+    go (Some bytes) differ = subst (λ (t : List ℕ). IsFirstDifference bytes t n) (append-nil text) (differ [])

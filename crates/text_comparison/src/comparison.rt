@@ -55,8 +55,26 @@ impl Comparison {
         Ok(Compared::Equal)
     }
 
-    /// Ends the text, which was equal so far: whether the source has more.
-    pub fn finish<B: Source>(&mut self, source: &mut B) -> Result<Compared, CompareError>
+    /// Takes the last of the text, behind what was equal so far, and compares all of it with all that the source had. `TooLong` comes only
+    /// where nearly 2^64 bytes were equal.
+    pub fn take_last<B: Source>(
+        &mut self,
+        source: &mut B,
+        text: &[u8],
+    ) -> Result<Compared, CompareError>
+        ensures tells { (start : Option (List ℕ)) (before : List ℕ) → IsEqualSoFar start (B.left source.old) self.old before → IfOk result (Tells start (before ++ text.now)) }
+        ensures later { B.faults source.old ≤ B.faults source.new }
+        ensures cause { result ≡ Err ReadFault → Rose (B.faults source.old) (B.faults source.new) }
+        ensures too_long { result ≡ Err TooLong → 2 ^ 64 - 2 ≤ self.new.place }
+    {
+        match self.take(source, text)? {
+            Compared::Equal => self.finish(source),
+            differs => Ok(differs),
+        }
+    }
+
+    // Ends the text, which was equal so far: whether the source has more.
+    fn finish<B: Source>(&mut self, source: &mut B) -> Result<Compared, CompareError>
         ensures tells { (start : Option (List ℕ)) (text : List ℕ) → IsEqualSoFar start (B.left source.old) self.old text → IfOk result (Tells start text) }
         ensures later { B.faults source.old ≤ B.faults source.new }
         ensures cause { result ≡ Err ReadFault → Rose (B.faults source.old) (B.faults source.new) }
