@@ -32,7 +32,7 @@ pub struct Auditor {
 impl Model for Auditor {
     ghost use Rattle.std.specs.Prelude.{◌*◌, ◌<◌, ◌≤◌};
     ghost use Rattle.heap_base.specs.declared.limits.TheConstants.{MOST_WORKERS};
-    ghost use Rattle.verdicts.specs.Verdicts.{most_verdicts};
+    ghost use Rattle.verdict_list.specs.Listed.{most_verdicts};
     ghost use Rattle.audit_core.specs.Audit.{Audit, rules_of};
 
     ghost Value = { Audit };

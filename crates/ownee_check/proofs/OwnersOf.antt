@@ -1,22 +1,44 @@
 -- The owner of an ownee, where each ownee has one.
-use Rattle.std.proofs.Common.{◌≡◌, ◌≢◌, ℕ, ◌<◌, Bool, true, false, cond, ◌&&◌, ⊎_elim, List, [], ◌∷◌, get_or, map, filter, IsTrue, Option, None, Some, ap, sym, refl, ◌∙◌, arith, eqb-true}
+use Rattle.std.proofs.Common.{◌≡◌, ◌≢◌, ℕ, ◌<◌, Bool, true, false, cond, ◌&&◌, ⊎_elim, List, [], ◌∷◌, get_or, map, filter, IsTrue, Option, None, Some, ap, sym, refl, subst, ◌∙◌, arith, eqb-true}
 use Rattle.std.specs.Prelude.{◌==◌}
 use Rattle.std.specs.BTreeMap.{is_at}
 use Rattle.std.specs.List.{All, list_any}
 use Rattle.std.specs.Map.{keys_of}
-use Rattle.std.specs.Option.{is_some, option_map_or}
+use Rattle.std.specs.Option.{is_some, option_and_then, option_map_or}
 use Rattle.std.specs.Ordering.{nat_cmp}
 use Rattle.std.proofs.lemmas.Bool.{false≢true, or_cases}
 use Rattle.std.proofs.lemmas.Bool.Decides.{nat_tests}
 use Rattle.std.proofs.lemmas.List.Elements.{All-cons}
 use Rattle.std.proofs.lemmas.List.Kept.{AllPairs-filter}
 use Rattle.std.proofs.lemmas.Map.Made.{is_some-lookup}
+use Rattle.graph_meaning.specs.declared.roles.OwnerRole.{OwnerRole}
+use Rattle.graph_meaning.specs.declared.roles.OwnerRole.TheVariants.{NotOwned, OwnerCell, OwnerGone}
+use Rattle.graph_meaning.specs.Heap.{Heap}
 use Rattle.graph_meaning.specs.Reach.{has_id}
+use Rattle.graph_meaning.specs.Roles.{RoleTable, owner_in}
+use Rattle.object_table.specs.Placed.{Placed, id_in}
 use Rattle.graph_meaning.proofs.Membership.{has_id-filter, filter_agree_all, map-filter, list_any_agree}
 use Rattle.assert_registry.specs.Assertions.{owner_of}
+use Rattle.assert_registry.specs.ByCell.{IsRoleBy}
+use Rattle.assert_registry.specs.Laws.{StandFor}
 use Rattle.assert_registry.proofs.Owners.{is_at-itself, is_at-other}
 use Rattle.assert_registry.proofs.Rising.{Rise, Rise-head, Rise-tail, same_rising}
 use Rattle.assert_registry.proofs.RolesOfTable.{and_parts}
+use Rattle.path_cert.specs.Finds.{has_owner}
+
+-- the role of an object says whether it has an owner
+role-says : (p : Placed) (o : Option ℕ) (role : OwnerRole) → IsRoleBy p o role → has_owner role ≡ is_some o
+role-says p None NotOwned says = refl
+role-says p None (OwnerCell c) says = absurd (false≢true says.0)
+role-says p None (OwnerGone gone) says = let e : None ≡ Some gone = says.0 in cc
+role-says p (Some owner) NotOwned says = cc
+role-says p (Some owner) (OwnerCell c) says = refl
+role-says p (Some owner) (OwnerGone gone) says = refl
+
+-- the object in a cell is an ownee by its role exactly where the heap says so
+pub owned-by_role : (p : Placed) (r : RoleTable) (h : Heap) → StandFor p r h → (cell id : ℕ) → id_in p cell ≡ Some id → has_owner (owner_in r cell) ≡ is_some (owner_of h.owners id)
+owned-by_role p r h stand cell id held =
+    role-says p (owner_of h.owners id) (owner_in r cell) (subst (λ o. IsRoleBy p o (owner_in r cell)) (ap (option_and_then (owner_of h.owners)) held) (stand.ownees cell))
 
 -- an ownee is one whose owner a look-up finds
 pub ownee-found : (owners : List (ℕ × ℕ)) (id : ℕ) → has_id (keys_of owners) id ≡ is_some (owner_of owners id)

@@ -1,6 +1,1 @@
-pub mod SameShut
-pub mod CellsById
-pub mod Pairs
-pub mod Owned
-pub mod OwnersOf
-pub mod Violating
+pub mod InDoubt

@@ -1,3 +1,1 @@
-pub mod Ownership
 pub mod Cells
-pub mod Settling

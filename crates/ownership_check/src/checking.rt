@@ -1,45 +1,24 @@
 //! The ownees that are met and that their owner doesn't find.
-ghost use Rattle.std.specs.Prelude.{◌≡◌, ℕ, length, All, IfOk, IfSome, IsSome, IsSomeAnd, IsTrue, option_map};
+ghost use Rattle.std.specs.Prelude.{◌≡◌, length, All, IfOk, IfSome, IsSome};
 ghost use Rattle.graph_meaning.specs.Heap.{Heap};
-ghost use Rattle.graph_meaning.specs.Paths.{unowned_way, view_of};
-ghost use Rattle.graph_meaning.specs.Reach.{has_id};
-ghost use Rattle.graph_meaning.specs.Roles.{AreRolesOf, id_at};
+ghost use Rattle.graph_meaning.specs.Roles.{AreRolesOf};
 ghost use Rattle.assert_registry.specs.Laws.{StandFor};
 ghost use Rattle.object_table.specs.Placed.{id_in};
-ghost use Rattle.path_cert.specs.Levels.{Search, AreLevelsOf, AreLevelsIn, way_in};
+ghost use Rattle.path_cert.specs.Levels.{AreLevelsIn};
 ghost use Rattle.heap_trace.specs.Traces.{IsTraceOf};
-ghost use Rattle.ownership_check.specs.Ownership.{AreViolating};
+ghost use Rattle.ownee_check.specs.Ownership.{AreViolating};
 
 use crate::doubts::doubtful_ownees;
-use crate::settling::not_found;
-use crate::unowned::{unowned_levels, with_level};
-use graph_meaning::{PathView, Roles};
+use graph_meaning::Roles;
 use heap_base::OutOfMemory;
 use heap_trace::Traced;
 use object_table::ObjectTable;
-use path_cert::Levels;
+use ownee_check::{OwnershipCheck, check_ownees};
 use std::alloc::Global;
-use std::marker::Model;
-
-/// The ownees that violate what was asserted of them, and the paths to them. Contracts see an `OwnershipTable`.
-#[derive(Drop)]
-pub struct OwnershipCheck {
-    ownees: Vec<u32>,
-    levels: Option<Levels>,
-}
-
-impl Model for OwnershipCheck {
-    ghost use Rattle.ownership_check.specs.Ownership.{OwnershipTable};
-
-    ghost Value = { OwnershipTable };
-
-    ghost view = { λ c. record { ownees = c.ownees.items; levels = c.levels } };
-}
 
 /// The ownees that are met and that their owner doesn't find, or whose owner is gone, by id. Whatever the trace marked
-/// found is found; an ownee that is marked as met by roots and not found is met exactly where it has a level, and found
-/// exactly where a search from its owner says so: one search an owner. Levels and searches are made only where there is
-/// such an ownee. The words of the trace are of the table's cells. Answers `OutOfMemory` when memory runs out.
+/// found is found, and what it didn't mark as met by roots isn't met: only the others are in doubt, and are searched for.
+/// The words of the trace are of the table's cells. Answers `OutOfMemory` when memory runs out.
 pub fn check_owners(
     alloc: Global,
     table: &ObjectTable,
@@ -53,52 +32,5 @@ pub fn check_owners(
     ensures violating { IfOk result (λ c. (h : Heap) → StandFor table.now roles.now h → IsTraceOf table.now h traced.now → AreViolating table.now h c) }
 {
     let doubts = doubtful_ownees(alloc, table, roles, traced.words())?;
-    if doubts.is_empty() {
-        return Ok(OwnershipCheck {
-            ownees: doubts,
-            levels: None,
-        });
-    }
-    let levels = unowned_levels(alloc, table, roles)?;
-    let met = with_level(alloc, &levels, doubts.as_slice())?;
-    let ownees = not_found(alloc, table, roles, met.as_slice())?;
-    Ok(OwnershipCheck {
-        ownees,
-        levels: Some(levels),
-    })
-}
-
-impl OwnershipCheck {
-    /// The cells of the violating ownees, by id.
-    pub fn ownees(&self) -> &[u32]
-        ensures { result.now ≡ self.now.ownees }
-    {
-        self.ownees.as_slice()
-    }
-
-    /// The path to a violating ownee, from the roots and through nothing that is under owners or an owner. The table is the
-    /// one that was checked. Answers `OutOfMemory` when memory runs out.
-    pub fn path(&self, table: &ObjectTable, ownee: u32) -> Result<Option<PathView>, OutOfMemory>
-        requires check { (h : Heap) × AreViolating table.now h self.now }
-        requires ownee { IsTrue (has_id self.now.ownees ownee) }
-        ensures path { IfOk result (λ v. (h : Heap) → AreViolating table.now h self.now → v ≡ option_map view_of (unowned_way h (id_at table.now.cells ownee))) }
-    {
-        self.path_by_levels(table, ownee)
-    }
-
-    // The path to an object that levels were made with, and `None` where it has no level, or where no levels were made.
-    pub(crate) fn path_by_levels(
-        &self,
-        table: &ObjectTable,
-        ownee: u32,
-    ) -> Result<Option<PathView>, OutOfMemory>
-        requires levels { IfSome self.now.levels (AreLevelsIn table.now) }
-        requires ownee { IsSome (id_in table.now ownee) }
-        ensures path { IfOk result (λ v. (s : Search) → IsSomeAnd self.now.levels (AreLevelsOf table.now s) → v ≡ option_map view_of (way_in table.now s ownee)) }
-    {
-        match &self.levels {
-            Some(levels) => levels.path(table, ownee),
-            None => Ok(None),
-        }
-    }
+    check_ownees(alloc, table, roles, doubts)
 }

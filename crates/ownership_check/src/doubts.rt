@@ -3,7 +3,8 @@ ghost use Rattle.std.specs.Prelude.{◌≡◌, ◌<◌, length, filter, IfOk};
 ghost use Rattle.graph_meaning.specs.Roles.{cells_of};
 ghost use Rattle.object_table.specs.Placed.{IsPlaced, IsSound};
 ghost use Rattle.path_cert.specs.Finds.{has_owner};
-ghost use Rattle.ownership_check.specs.Cells.{cells_by_id, is_in_doubt};
+ghost use Rattle.ownee_check.specs.Cells.{cells_by_id};
+ghost use Rattle.ownership_check.specs.Cells.{is_in_doubt};
 
 use graph_meaning::{OwnerRole, Roles};
 use header_rule::Words;

@@ -1,9 +1,8 @@
-//! The check of asserted owners.
+//! The check of asserted owners, by the marks of a trace.
 #![tactic(auto)]
 
 mod checking;
 mod doubts;
-mod settling;
-mod unowned;
 
-pub use checking::{OwnershipCheck, check_owners};
+pub use checking::check_owners;
+pub use ownee_check::OwnershipCheck;

@@ -1,5 +1,3 @@
 pub mod AllOwnees
 pub mod Counts
 pub mod Found
-pub mod OwnedPairs
-pub mod WholeLists

@@ -6,7 +6,6 @@ mod collecting;
 mod instances;
 mod kept;
 mod owned;
-mod ownees;
 mod plain_trace;
 mod references;
 mod verdicts;

@@ -5,18 +5,17 @@ ghost use Rattle.graph_meaning.specs.Assertions.{reference_count};
 ghost use Rattle.graph_meaning.specs.Collecting.{first_with_paths, all_verdicts};
 ghost use Rattle.graph_meaning.specs.Heap.{Heap};
 ghost use Rattle.graph_meaning.specs.Roles.{AreRolesOf};
+ghost use Rattle.verdict_list.specs.Listed.{most_verdicts};
 ghost use Rattle.plain_collection.specs.PlainTraces.{IsPlainTraceOf};
-ghost use Rattle.plain_collection.specs.Verdicts.{most_verdicts};
 
 use crate::owned::ownees_of;
-use crate::ownees::push_ownees;
 use crate::plain_trace::PlainTrace;
 use graph_meaning::{Roles, VerdictList};
 use heap_base::OutOfMemory;
 use object_table::ObjectTable;
 use ownee_check::check_ownees;
 use std::alloc::Global;
-use verdict_list::first_verdicts;
+use verdict_list::{first_verdicts, push_ownees};
 
 /// The violated assertions of a heap that was traced, in order: what is asserted dead, by id; the types over their limit, by name; what
 /// is asserted unshared, by id; and the ownees, by id. So many of the first carry their paths.

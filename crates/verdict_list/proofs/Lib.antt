@@ -4,3 +4,5 @@ pub mod GoingOn
 pub mod OverLimits
 pub mod Showing
 pub mod WholeLists
+pub mod OwnedPairs
+pub mod WithOwnees

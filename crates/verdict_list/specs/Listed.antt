@@ -1,5 +1,6 @@
 -- How a list of verdicts goes on, and by what its paths are shown.
-use Rattle.std.specs.Prelude.{◌≡◌, ℕ, List, ◌++◌, map, Bool, true, false, Option, Some, IfSome, unwrap_or, slice_get}
+use Rattle.std.specs.Prelude.{◌≡◌, ℕ, ◌+◌, ◌*◌, List, ◌++◌, map, Bool, true, false, Option, Some, IfSome, unwrap_or, slice_get}
+use Rattle.heap_base.specs.declared.limits.TheConstants.{MOST_OBJECTS, MOST_KINDS}
 use Rattle.graph_meaning.specs.declared.collection.Verdict.{Verdict}
 use Rattle.graph_meaning.specs.declared.paths.Shown.{Shown}
 use Rattle.graph_meaning.specs.declared.paths.Shown.TheVariants.{LeftOut}
@@ -12,6 +13,10 @@ use Rattle.assert_registry.specs.Laws.{StandFor}
 use Rattle.object_paths.specs.PlainPaths.{PlainTable, ArePlainLevels}
 use Rattle.reference_search.specs.declared.cell_reference.FirstReferences.{FirstReferences}
 use Rattle.reference_search.specs.References.{AreFirst}
+
+-- there is one verdict at most of each object for each of three assertions, and of each type
+abbrev pub most_verdicts : ℕ
+most_verdicts = 3 * MOST_OBJECTS + MOST_KINDS
 
 -- the path, or none
 abbrev pub path_if : Bool → Shown → Shown

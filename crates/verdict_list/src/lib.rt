@@ -1,4 +1,4 @@
-//! The verdicts of a collection but those on ownees, by what was counted in the heap, whoever counted it.
+//! The verdicts of a collection, by what was counted in the heap, whoever counted it.
 #![tactic(auto)]
 
 mod counts;
@@ -6,6 +6,7 @@ mod dead;
 mod instances;
 mod listing;
 mod over_limit;
+mod ownees;
 mod past_limit;
 mod shown_paths;
 mod unshared;
@@ -13,4 +14,4 @@ mod violating;
 
 pub use counts::HeapCounts;
 pub use listing::first_verdicts;
-pub use shown_paths::shown;
+pub use ownees::push_ownees;

@@ -14,7 +14,7 @@ use object_paths::PlainLevels;
 use object_table::ObjectTable;
 
 /// The path as a verdict shows it, if there is one.
-pub fn shown(path: Option<PathView>) -> Shown
+pub(crate) fn shown(path: Option<PathView>) -> Shown
     ensures { (w : Option Way) → path ≡ option_map view_of w → result ≡ shown_path w }
 {
     match path {

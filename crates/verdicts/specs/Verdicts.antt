@@ -1,7 +1,6 @@
 -- The verdicts of a collection by the counts of a trace.
-use Rattle.std.specs.Prelude.{ℕ, ◌+◌, ◌*◌}
+use Rattle.std.specs.Prelude.{ℕ}
 use Rattle.std.specs.Option.{option_map_or}
-use Rattle.heap_base.specs.declared.limits.TheConstants.{MOST_OBJECTS, MOST_KINDS}
 use Rattle.header_rule.specs.ClosedWords.{count_in}
 use Rattle.object_table.specs.Placed.{Placed, cell_of}
 use Rattle.heap_trace.specs.Results.{TraceResult}
@@ -14,7 +13,3 @@ counted_in p t id = option_map_or (count_in t.words) (cell_of p id) 0
 -- what a trace counted
 abbrev pub counts_of : TraceResult → CountTable
 counts_of t = record { cells = t.words.cells; references = count_in t.words; instances = t.instances; kept = t.kept }
-
--- there is one verdict at most of each object for each of three assertions, and of each type
-abbrev pub most_verdicts : ℕ
-most_verdicts = 3 * MOST_OBJECTS + MOST_KINDS

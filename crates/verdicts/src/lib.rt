@@ -3,6 +3,5 @@
 
 mod counted;
 mod listing;
-mod ownees;
 
 pub use listing::verdicts;

@@ -5,17 +5,17 @@ ghost use Rattle.graph_meaning.specs.Heap.{Heap};
 ghost use Rattle.graph_meaning.specs.Roles.{AreRolesOf};
 ghost use Rattle.assert_registry.specs.Laws.{StandFor};
 ghost use Rattle.heap_trace.specs.Traces.{IsTraceOf};
-ghost use Rattle.verdicts.specs.Verdicts.{counted_in, most_verdicts};
+ghost use Rattle.verdict_list.specs.Listed.{most_verdicts};
+ghost use Rattle.verdicts.specs.Verdicts.{counted_in};
 
 use crate::counted::CountedTrace;
-use crate::ownees::push_ownees;
 use graph_meaning::{Roles, VerdictList};
 use heap_base::OutOfMemory;
 use heap_trace::Traced;
 use object_table::ObjectTable;
 use ownership_check::check_owners;
 use std::alloc::Global;
-use verdict_list::first_verdicts;
+use verdict_list::{first_verdicts, push_ownees};
 
 /// The violated assertions of a heap that was traced, in order: what is asserted dead, by id; the types over their limit, by name; what
 /// is asserted unshared, by id; and the ownees, by id. So many of the first carry their paths. The counts are those of the trace.

@@ -1,8 +1,9 @@
 use Rattle.std.proofs.Common.{◌++◌, [], ◌∷◌, cond, take, filter, sym, ap, ◌∙◌, arith}
 use Rattle.std.proofs.lemmas.List.{append-nil}
 use Rattle.std.proofs.lemmas.List.Elements.{filter_more}
-use Rattle.ownership_check.specs.Cells.{cells_by_id, is_in_doubt}
-use Rattle.ownership_check.proofs.CellsById.{nth-cell, nth-held, count-cells}
+use Rattle.ownee_check.specs.Cells.{cells_by_id}
+use Rattle.ownership_check.specs.Cells.{is_in_doubt}
+use Rattle.ownee_check.proofs.CellsById.{nth-cell, nth-held, count-cells}
 use Rattle.ownership_check.proofs.doubts.doubtful_ownees.Goals as goal
 use Rattle.ownership_check.proofs.doubts.doubtful_ownees.Goals.{then-is_in_doubt+in_ok-push, else-is_in_doubt}
 

@@ -1,5 +1,6 @@
 use Rattle.std.proofs.Common.{◌≡◌, take, filter}
-use Rattle.ownership_check.specs.Cells.{cells_by_id, is_in_doubt}
+use Rattle.ownee_check.specs.Cells.{cells_by_id}
+use Rattle.ownership_check.specs.Cells.{is_in_doubt}
 use Rattle.ownership_check.proofs.doubts.doubtful_ownees.Given as goal
 
 -- of the objects so far

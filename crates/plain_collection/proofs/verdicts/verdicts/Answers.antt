@@ -10,8 +10,8 @@ use Rattle.ownee_check.proofs.Violating.{doubts-held}
 use Rattle.plain_collection.specs.PlainTraces.{counts_of}
 use Rattle.plain_collection.proofs.AllOwnees.{ownees-doubted}
 use Rattle.plain_collection.proofs.Found.{verdicts-agree}
-use Rattle.plain_collection.proofs.OwnedPairs.{ownees-are}
-use Rattle.plain_collection.proofs.WholeLists.{whole, ownees-few}
+use Rattle.verdict_list.proofs.OwnedPairs.{ownees-are}
+use Rattle.verdict_list.proofs.WithOwnees.{whole, ownees-few}
 use Rattle.plain_collection.proofs.verdicts.verdicts.Goals as goal
 
 pub check_ownees-requires-clause-doubts : goal.check_ownees-requires-clause-doubts

@@ -8,8 +8,8 @@ use Rattle.verdict_list.specs.Counts.{AreCountsOf}
 use Rattle.verdict_list.specs.Listed.{GoesOn, owned_pair}
 use Rattle.verdict_list.proofs.WholeLists.{map_pairs}
 use Rattle.verdicts.specs.Verdicts.{counted_in, counts_of}
-use Rattle.verdicts.proofs.OwnedPairs.{ownees-are}
-use Rattle.verdicts.proofs.WholeLists.{whole, ownees-few}
+use Rattle.verdict_list.proofs.OwnedPairs.{ownees-are}
+use Rattle.verdict_list.proofs.WithOwnees.{whole, ownees-few}
 use Rattle.verdicts.proofs.listing.verdicts.Goals as goal
 
 -- what a trace of the heap counted is counted of the heap

@@ -11,12 +11,12 @@ ghost use Rattle.assert_registry.specs.Laws.{StandFor};
 ghost use Rattle.ownee_check.specs.Ownership.{AreViolating};
 ghost use Rattle.verdict_list.specs.Listed.{path_if, verdict_if, owned_pair, GoesOn};
 
+use crate::shown_paths::shown;
 use graph_meaning::{OwnerRole, Roles, Shown, Verdict, VerdictList};
 use heap_base::OutOfMemory;
 use object_table::ObjectTable;
 use ownee_check::OwnershipCheck;
 use path_cert::{object_id, object_kind};
-use verdict_list::shown;
 
 // The owner of an ownee: its id, and whether it was freed.
 #[derive(Clone, Copy)]
@@ -90,7 +90,7 @@ fn ownee_verdict(
 }
 
 /// Puts the verdicts on the violating ownees last.
-pub(crate) fn push_ownees(
+pub fn push_ownees(
     list: &mut VerdictList,
     table: &ObjectTable,
     roles: &Roles,

@@ -3,7 +3,7 @@ use Rattle.std.proofs.lemmas.List.{length-append}
 use Rattle.graph_meaning.specs.Collecting.{ownedby_verdict}
 use Rattle.verdict_list.specs.Listed.{verdict_if, owned_pair, GoesOn}
 use Rattle.verdict_list.proofs.GoingOn.{begins, goes_by_nth, ends_at}
-use Rattle.plain_collection.proofs.ownees.push_ownees.Goals as goal
+use Rattle.verdict_list.proofs.ownees.push_ownees.Goals as goal
 
 pub loop-cell-init : goal.loop-cell-init
 loop-cell-init c = record {

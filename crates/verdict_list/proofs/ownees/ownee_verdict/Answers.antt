@@ -5,9 +5,9 @@ use Rattle.graph_meaning.specs.Heap.{Table, kind_at}
 use Rattle.graph_meaning.specs.Paths.{shown_path, unowned_way}
 use Rattle.path_cert.proofs.HeldObjects.{id-held}
 use Rattle.verdict_list.specs.Listed.{path_if, verdict_if}
-use Rattle.plain_collection.proofs.OwnedPairs.{ownee_at, owner-is, is_owned, pair-is}
-use Rattle.plain_collection.proofs.WholeLists.{ownedby-is}
-use Rattle.plain_collection.proofs.ownees.ownee_verdict.Goals as goal
+use Rattle.verdict_list.proofs.OwnedPairs.{ownee_at, owner-is, is_owned, pair-is}
+use Rattle.verdict_list.proofs.WithOwnees.{ownedby-is}
+use Rattle.verdict_list.proofs.ownees.ownee_verdict.Goals as goal
 
 pub object_kind-requires : goal.object_kind-requires
 object_kind-requires c =

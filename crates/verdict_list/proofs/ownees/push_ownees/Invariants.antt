@@ -5,7 +5,7 @@ use Rattle.assert_registry.specs.Laws.{StandFor}
 use Rattle.ownee_check.specs.Ownership.{AreViolating}
 use Rattle.verdict_list.specs.Listed.{owned_pair}
 use Rattle.verdict_list.proofs.GoingOn.{HasGoneOn}
-use Rattle.plain_collection.proofs.ownees.push_ownees.Given as goal
+use Rattle.verdict_list.proofs.ownees.push_ownees.Given as goal
 
 abbrev pub invariant-loop-cell : goal.invariant-loop-cell
 invariant-loop-cell l = record {

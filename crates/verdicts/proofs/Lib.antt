@@ -1,2 +1,0 @@
-pub mod OwnedPairs
-pub mod WholeLists
