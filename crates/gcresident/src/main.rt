@@ -1,0 +1,58 @@
+//! Audits a trace on standard input by workers that stay parked between collections, and writes the report to standard output.
+#![tactic(auto)]
+
+use console::{
+    NO_WORDS, NoWords, OptionRule, Remembering, Takes, borrowed_words, exit_code, first_fault,
+    owned_words, tell, tell_no_words,
+};
+use heap_base::{MOST_WORKERS, OpenGate, Status, StdSink, StdSource};
+use resident_crew::audit_resident;
+use settings::LEAST_WORKERS;
+use std::process::ExitCode;
+use std::sync::Arc;
+
+const PROGRAM: &str = "gcresident";
+
+/// The options, for whoever wrote a word that is refused. Which words are taken is for `audit_resident` to say.
+const OPTIONS: [OptionRule; 1] = [OptionRule {
+    name: "workers",
+    takes: Takes::Number(LEAST_WORKERS, MOST_WORKERS),
+}];
+
+fn main(rt: HostRuntime) -> ExitCode {
+    let owned = match owned_words(&rt) {
+        Ok(owned) => owned,
+        // Where there is no memory for the words nothing is written, on either stream.
+        Err(NoWords::OutOfMemory) => return exit_code(Status::NoMemory),
+        Err(NoWords::NotText) => {
+            tell_no_words(&rt, PROGRAM);
+            return ExitCode::from(NO_WORDS);
+        }
+    };
+    let Ok(words) = borrowed_words(rt.alloc(), &owned) else {
+        return exit_code(Status::NoMemory);
+    };
+    let mut stdin = Remembering::over(rt.stdin());
+    let mut stdout = Remembering::over(rt.stdout());
+    let mut source = StdSource::over(&mut stdin);
+    let mut sink = StdSink::over(&mut stdout);
+    let status = match Arc::new(rt.alloc(), OpenGate) {
+        Ok(gate) => audit_resident(&rt, rt.alloc(), &words, &mut source, &mut sink, gate),
+        Err(_) => Status::NoMemory,
+    };
+    match status {
+        Status::Usage => tell_fault(&rt, &words),
+        _ => tell(&rt, PROGRAM, status, stdin.why(), stdout.why()),
+    }
+    exit_code(status)
+}
+
+// Tells a person on standard error which of the words is refused, and why.
+fn tell_fault(rt: &HostRuntime, words: &[&str]) {
+    let _ = match first_fault(rt.alloc(), &OPTIONS, words) {
+        Some(fault) => eprintln!(rt; "{PROGRAM}: {fault}; --help lists the options"),
+        None => eprintln!(rt;
+            "{PROGRAM}: --workers and its number are two words; --help lists the options"
+        ),
+    };
+}
