@@ -1,0 +1,7 @@
+-- The parts of a nursery, as it has them.
+use Rattle.std.specs.Vec.{vec_capacity}
+use Rattle.minor_gc.specs.declared.nursery.Nursery.TheInside.{Inside}
+use Rattle.minor_gc.specs.Nurseries.{Parts}
+
+abbrev pub parts_in : Inside → Parts
+parts_in n = record { placed = n.table; old_up_to = n.old_up_to; greatest = n.greatest; marks = n.search.marks.items; work = n.search.work.items; counts = n.counts.items; remembered = n.remembered.items; room = vec_capacity n.remembered }

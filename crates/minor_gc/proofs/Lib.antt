@@ -1,0 +1,9 @@
+pub mod Added
+pub mod Inside
+pub mod Keeping
+pub mod Lists
+pub mod Marking
+pub mod Rooted
+pub mod Settled
+pub mod Stored
+pub mod Targets

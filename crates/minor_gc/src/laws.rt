@@ -1,0 +1,16 @@
+ghost use Rattle.minor_gc.specs.Laws.{MinorKeepsMore, MinorKeepsOld, NoneYoungAfter};
+
+/// A minor collection frees no object that a full one would keep.
+pub fn a_minor_collection_keeps_what_a_full_one_keeps()
+    ensures { MinorKeepsMore }
+{}
+
+/// A minor collection frees no old object.
+pub fn a_minor_collection_frees_no_old_object()
+    ensures { MinorKeepsOld }
+{}
+
+/// No object is young after a collection.
+pub fn no_object_is_young_after_a_collection()
+    ensures { NoneYoungAfter }
+{}

@@ -1,0 +1,17 @@
+//! Minor collections: a heap in two generations, which remembers exactly the old objects that hold young ones.
+#![tactic(auto)]
+
+mod following;
+mod laws;
+mod minor;
+mod nursery;
+mod room;
+mod search;
+mod tally;
+
+pub use laws::{
+    a_minor_collection_frees_no_old_object, a_minor_collection_keeps_what_a_full_one_keeps,
+    no_object_is_young_after_a_collection,
+};
+pub use minor::Minor;
+pub use nursery::Nursery;
