@@ -1,51 +1,19 @@
-//! Two workers of one crew work at the same time, in each of two runs.
+//! Two workers of one crew work at the same time: in each of two runs, in each of two traces, and in a collection of an audit.
+//!
+//! Each run may have 1,000 tasks or more at a worker, since a smaller one goes without threads.
 
+use crate::families::{family_table, family_trace};
+use crate::gates::Meeting;
 use crate::runs::run_cells;
 use crew_support::{Cells, Counter, Shape, times_seen};
-use heap_base::{Gate, OutOfMemory};
+use heap_base::{MemSink, MemSource, OutOfMemory, Status};
+use object_table::ObjectTable;
+use resident_crew::{ResidentJob, ResidentScan, audit_resident, trace_resident};
 use resident_rounds::Residents;
 use std::alloc::Global;
-use std::sync::atomic::{AtomicBool, AtomicU64, Ordering};
 use std::sync::{Arc, Wait};
 use std::test::Fail;
-
-/// How many turns a worker is held at most.
-const PATIENCE: u64 = 100_000_000;
-
-/// Holds each of two workers in the first task of a run until the other has begun one.
-#[derive(Drop)]
-struct Meeting {
-    // How often a worker began the first task of a run.
-    begun: AtomicU64,
-    gave_up: AtomicBool,
-}
-
-impl Meeting {
-    fn wait(&self, least: u64) {
-        for _ in 0..PATIENCE {
-            if self.begun.load(Ordering::SeqCst) >= least {
-                return;
-            }
-            std::hint::spin_loop();
-        }
-        self.gave_up.store(true, Ordering::SeqCst);
-    }
-}
-
-impl Gate for Meeting {
-    fn task(&self, _worker: u32, nth: u64) {
-        if nth == 1 {
-            let before = self.begun.fetch_add(1, Ordering::SeqCst);
-            self.wait(if before % 2 == 0 {
-                before.saturating_add(2)
-            } else {
-                before
-            });
-        }
-    }
-
-    fn idle(&self, _worker: u32, _turn: u32) {}
-}
+use test_support::{SampleHeap, roles_in};
 
 // A run in which each of two workers has a first task. The first cell leads to 1,000 others, which lead nowhere; the second is done once more.
 fn runs_well<R: Wait>(
@@ -64,19 +32,60 @@ fn runs_well<R: Wait>(
 
 #[test]
 fn both_workers_begin_in_each_run(rt: HostRuntime) -> Result<(), Fail> {
-    let gate = Arc::new(
-        rt.alloc(),
-        Meeting {
-            begun: AtomicU64::new(0),
-            gave_up: AtomicBool::new(false),
-        },
-    )?;
+    let gate = Arc::new(rt.alloc(), Meeting::new())?;
     let mut crew = Residents::start(&rt, rt.alloc(), 2, gate.clone()?)?;
     let first = runs_well(&rt, rt.alloc(), &mut crew)?;
     let second = runs_well(&rt, rt.alloc(), &mut crew)?;
     crew.end(&rt);
     assert!(rt; first && second);
-    assert!(rt; !gate.gave_up.load(Ordering::SeqCst));
-    assert_eq!(rt; gate.begun.load(Ordering::SeqCst), 4);
+    assert!(rt; gate.met_in(2));
+    Ok(())
+}
+
+// How many objects are traced in the table, of which nothing is asserted.
+fn count_traced<R: Wait>(
+    rt: &R,
+    alloc: Global,
+    crew: &mut Residents<ResidentScan, ResidentJob, Meeting>,
+    table: &ObjectTable,
+) -> Result<u32, Fail> {
+    let roles = roles_in(alloc, table, SampleHeap::EMPTY)?;
+    let traced = trace_resident(rt, alloc, crew, table, &roles)?;
+    Ok(traced.traced())
+}
+
+#[test]
+fn both_workers_begin_in_each_trace(rt: HostRuntime) -> Result<(), Fail> {
+    let table = family_table(rt.alloc())?;
+    let gate = Arc::new(rt.alloc(), Meeting::new())?;
+    let mut crew = Residents::start(&rt, rt.alloc(), 2, gate.clone()?)?;
+    let first = count_traced(&rt, rt.alloc(), &mut crew, &table)?;
+    let met_once = gate.met_in(1);
+    let second = count_traced(&rt, rt.alloc(), &mut crew, &table)?;
+    crew.end(&rt);
+    assert_eq!(rt; (first, second), (1_002, 1_002));
+    assert!(rt; met_once && gate.met_in(2));
+    Ok(())
+}
+
+#[test]
+fn both_workers_begin_in_a_collection(rt: HostRuntime) -> Result<(), Fail> {
+    let trace = family_trace(rt.alloc())?;
+    let gate = Arc::new(rt.alloc(), Meeting::new())?;
+    let mut source = MemSource::make(rt.alloc(), trace.as_bytes(), 4096, &[])?;
+    let mut sink = MemSink::make(rt.alloc(), 4096, 4096, &[])?;
+    let words = ["gcresident", "--workers", "2"];
+    let status = audit_resident(
+        &rt,
+        rt.alloc(),
+        &words,
+        &mut source,
+        &mut sink,
+        gate.clone()?,
+    );
+    assert_eq!(rt; status, Status::Clean);
+    let report = b"gc 1 live 1002 traced 1002 freed 0\nend gcs 1 violations 0\n";
+    assert_eq!(rt; sink.bytes(), report.as_slice());
+    assert!(rt; gate.met_in(1));
     Ok(())
 }
