@@ -5,9 +5,12 @@ mod following;
 mod laws;
 mod minor;
 mod nursery;
+mod program;
 mod room;
+mod running;
 mod search;
 mod tally;
+mod texts;
 
 pub use laws::{
     a_minor_collection_frees_no_old_object, a_minor_collection_keeps_what_a_full_one_keeps,
@@ -15,3 +18,4 @@ pub use laws::{
 };
 pub use minor::Minor;
 pub use nursery::Nursery;
+pub use running::minor_run;

@@ -19,4 +19,5 @@ pub use examples::{
     each_collection_has_its_lines, paths_past_the_number_shown_are_left_out,
     what_force_cleared_has_a_line,
 };
+pub use parts::{put, put_number};
 pub use texts::{collection_text, end_text, fault_text, halt_text};
