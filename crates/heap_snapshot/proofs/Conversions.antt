@@ -1,0 +1,121 @@
+-- What a run over the bytes of a snapshot does.
+use Rattle.std.proofs.Common.{◌≡◌, ℕ, ◌<◌, ◌≤◌, ltb, List, [], ◌++◌, length, take, Option, None, Some, IfSome, Result, Ok, Err, sym, refl, ap, ◌∙◌, subst, ⊎_elim, arith, append-nil, length-append}
+use Rattle.std.proofs.lemmas.List.{take-append-le}
+use Rattle.std.specs.Io.KnownBytes.{Appends, Consumes, Keeps}
+use Rattle.std.proofs.KnownBytes.{Appends-nil}
+use Rattle.std.proofs.lemmas.Bool.{cases_lt, cond-true, lt-ltb}
+use Rattle.heap_base.specs.Sinks.{AppendsPart}
+use Rattle.heap_base.specs.Streams.{Stream}
+use Rattle.heap_base.specs.declared.status.Status.{Status}
+use Rattle.heap_base.specs.declared.status.Status.TheVariants.{Clean, Violated, TraceFault, ReadFault, WriteFault, NoMemory, Usage}
+use Rattle.graph_meaning.specs.declared.views.HeapView.{HeapView}
+use Rattle.snapshot_text.specs.declared.read.TheConstants.{LONGEST_SNAPSHOT}
+use Rattle.snapshot_text.specs.declared.refusal.SnapWhy.TheVariants.{TooLong}
+use Rattle.snapshot_text.specs.Reading.{Refusal, refused, line_behind, snapshot_in}
+use Rattle.trace_run.specs.Outcome.{Outside, WritesOnce}
+use Rattle.heap_snapshot.specs.ToTrace.{IsRead, WritesPart, Converted, status_by, status_of, text_by, text_of}
+
+-- the bytes past the most that a snapshot may have don't matter
+same_reading : (text more : List ℕ) → LONGEST_SNAPSHOT < length text → snapshot_in (text ++ more) ≡ snapshot_in text
+unfolding snapshot_in
+same_reading text more long =
+    let le : LONGEST_SNAPSHOT ≤ length text = omega arith in
+    let long_all : LONGEST_SNAPSHOT < length (text ++ more) = omega (arith, length-append text more) in
+    let all : snapshot_in (text ++ more) ≡ refused (line_behind (take LONGEST_SNAPSHOT (text ++ more))) TooLong = cond-true (ltb LONGEST_SNAPSHOT (length (text ++ more))) _ _ (lt-ltb LONGEST_SNAPSHOT (length (text ++ more)) long_all) in
+    let some : snapshot_in text ≡ refused (line_behind (take LONGEST_SNAPSHOT text)) TooLong = cond-true (ltb LONGEST_SNAPSHOT (length text)) _ _ (lt-ltb LONGEST_SNAPSHOT (length text) long) in
+    all ∙ ap (λ (t : List ℕ). refused (line_behind t) TooLong) (take-append-le LONGEST_SNAPSHOT text more le) ∙ sym some
+
+-- where the bytes are a snapshot, they are no more than one may have
+short_if_clean : (text : List ℕ) → status_of text ≡ Clean → length text ≤ LONGEST_SNAPSHOT
+unfolding snapshot_in
+short_if_clean text clean =
+    ⊎_elim (λ (long : LONGEST_SNAPSHOT < length text).
+    let long_text : snapshot_in text ≡ refused (line_behind (take LONGEST_SNAPSHOT text)) TooLong = cond-true (ltb LONGEST_SNAPSHOT (length text)) _ _ (lt-ltb LONGEST_SNAPSHOT (length text) long) in
+    let fault : status_of text ≡ TraceFault = ap status_by long_text in absurd (cc))
+    (λ (short : length text ≤ LONGEST_SNAPSHOT). short) (cases_lt LONGEST_SNAPSHOT (length text))
+
+-- the bytes that the source had left, or those that were read where it doesn't tell them
+pub record IsAll (before : Option (List ℕ)) (text bytes : List ℕ) : Type 0 where
+  pub told : IfSome before (λ left. left ≡ bytes)
+  pub same : snapshot_in bytes ≡ snapshot_in text
+  pub short : length text ≤ LONGEST_SNAPSHOT → bytes ≡ text
+
+all_of : (before after : Option (List ℕ)) (text : List ℕ) → IsRead before after text → (bytes : List ℕ) × IsAll before text bytes
+all_of None after text read = (text, record { told = tt; same = refl; short = λ _. refl })
+all_of (Some left) None text read = absurd read.consumed
+all_of (Some left) (Some rest) text read =
+    ⊎_elim (λ (long : LONGEST_SNAPSHOT < length text).
+    (text ++ rest, record { told = read.consumed; same = same_reading text rest long; short = λ short. absurd (omega arith) }))
+    (λ (short : length text ≤ LONGEST_SNAPSHOT).
+    let whole : text ++ rest ≡ text = ap (λ (t : List ℕ). text ++ t) (read.whole short) ∙ append-nil text in
+    (text, record { told = read.consumed ∙ whole; same = refl; short = λ _. refl })) (cases_lt LONGEST_SNAPSHOT (length text))
+
+-- what is read leads to one of two statuses
+never : (read : Result HeapView Refusal) (status : Status) → status_by read ≡ status → (Clean ≡ status → ⊥) → (TraceFault ≡ status → ⊥) → ⊥
+never (Ok v) status is clean fault = clean is
+never (Err r) status is clean fault = fault is
+
+module _ (old new : Outside) (text bytes : List ℕ) (read : IsRead old.source.bytes new.source.bytes text) (all : IsAll old.source.bytes text bytes) where
+  same_text : text_of text ≡ text_of bytes
+  same_text = ap text_by (sym all.same)
+
+  same_status : status_of bytes ≡ status_of text
+  same_status = ap status_by all.same
+
+  whole_part : AppendsPart old.sink.bytes new.sink.bytes (text_of text) → WritesPart old new
+  whole_part part = record { bytes = bytes; snapshot = all.told; part = subst (λ (t : List ℕ). AppendsPart old.sink.bytes new.sink.bytes t) same_text part }
+
+  written : (status : Status) → status_of text ≡ status → Appends old.sink.bytes new.sink.bytes (text_of text) → Converted old new status
+  written Clean is appends = record {
+    bytes = bytes;
+    snapshot = all.told;
+    read = subst (Consumes old.source.bytes new.source.bytes) (sym (all.short (short_if_clean text is))) read.consumed;
+    taken = same_status ∙ is;
+    text = subst (λ (t : List ℕ). Appends old.sink.bytes new.sink.bytes t) same_text appends;
+  }
+  written TraceFault is appends = record {
+    bytes = bytes;
+    snapshot = all.told;
+    refused = same_status ∙ is;
+    text = subst (λ (t : List ℕ). Appends old.sink.bytes new.sink.bytes t) same_text appends;
+  }
+  written Violated is appends = never (snapshot_in text) Violated is (λ x. cc) (λ x. cc)
+  written ReadFault is appends = absurd (never (snapshot_in text) ReadFault is (λ x. cc) (λ x. cc))
+  written WriteFault is appends = absurd (never (snapshot_in text) WriteFault is (λ x. cc) (λ x. cc))
+  written NoMemory is appends = absurd (never (snapshot_in text) NoMemory is (λ x. cc) (λ x. cc))
+  written Usage is appends = absurd (never (snapshot_in text) Usage is (λ x. cc) (λ x. cc))
+
+-- what was read, and then written once
+pub converted : (old new : Outside) (text : List ℕ) (status : Status) → IsRead old.source.bytes new.source.bytes text → WritesOnce (text_of text) (status_of text) old.sink new.sink status → Converted old new status
+converted old new text status read writes =
+    let all = all_of old.source.bytes new.source.bytes text read in
+    ⊎_elim
+    (λ done. subst (Converted old new) (sym done.0) (written old new text all.0 read all.1 (status_of text) refl done.1))
+    (λ failed. subst (Converted old new) (sym failed.0) (failed.1, whole_part old new text all.0 read all.1 failed.2)) writes
+
+some_bytes : (left : Option (List ℕ)) → (bytes : List ℕ) × IfSome left (λ told. told ≡ bytes)
+some_bytes None = ([], tt)
+some_bytes (Some left) = (left, refl)
+
+-- memory ran out before anything was written
+pub nothing_converted : (old new : Outside) → new.sink ≡ old.sink → WritesPart old new
+nothing_converted old new same =
+    let some = some_bytes old.source.bytes in
+    record {
+      bytes = some.0;
+      snapshot = some.1;
+      part = subst (λ (k : Stream). AppendsPart old.sink.bytes k.bytes (text_of some.0)) (sym same) (0, omega arith, Appends-nil old.sink.bytes);
+    }
+
+pub keeps_same : (held : Option (List ℕ)) → Keeps held held
+keeps_same None = tt
+keeps_same (Some xs) = refl
+
+-- the same, of a text and a status that are those of the bytes
+pub converted_by : (old new : Outside) (text text' written : List ℕ) (status answer : Status) → IsRead old.source.bytes new.source.bytes text → text' ≡ text → written ≡ text_of text' → status ≡ status_of text'
+    → WritesOnce written status old.sink new.sink answer → Converted old new answer
+converted_by old new text text' written status answer read same is_text is_status writes =
+    let what : written ≡ text_of text = is_text ∙ ap text_of same in
+    let how : status ≡ status_of text = is_status ∙ ap status_of same in
+    let with_text : WritesOnce (text_of text) status old.sink new.sink answer = subst (λ (t : List ℕ). WritesOnce t status old.sink new.sink answer) what writes in
+    converted old new text answer read (subst (λ (s : Status). WritesOnce (text_of text) s old.sink new.sink answer) how with_text)

@@ -1,0 +1,3 @@
+pub mod FromTrace
+pub mod ToTrace
+pub mod Words

@@ -1,0 +1,121 @@
+//! A snapshot of the heap that a trace makes.
+ghost use Rattle.std.specs.Prelude.{ℕ, Result};
+ghost use Rattle.heap_base.specs.Streams.{stream_of};
+ghost use Rattle.trace_run.specs.Program.{Takes, report_by};
+ghost use Rattle.trace_run.specs.Outcome.{Ended, seen};
+ghost use Rattle.graph_meaning.specs.Heap.{Heap, empty_heap};
+ghost use Rattle.graph_meaning.specs.Step.{step};
+ghost use Rattle.graph_meaning.specs.declared.event.Event.TheVariants.{Alloc, Root, Store};
+ghost use Rattle.graph_meaning.specs.declared.refusal.Refusal.{Refusal};
+ghost use Rattle.heap_snapshot.specs.FromTrace.{Answers, effect_of_step, heap_of, snapshot_meaning};
+ghost use Rattle.heap_snapshot.specs.declared.from_trace.TheConstants.{LONGEST_TRACE};
+
+use graph_meaning::{Event, Refusal, Stop};
+use heap_base::{Name, ObjId, OutOfMemory, Sink, Source, Status};
+use object_table::ObjectTable;
+use snapshot_text::write_snapshot;
+use std::alloc::Global;
+use trace_run::{LastText, Program, Taken, run};
+
+/// A trace that a snapshot is made of has at most so many bytes: 2^28.
+pub(crate) const LONGEST_TRACE: u64 = 268_435_456;
+
+/// The heap that the operations so far made.
+#[derive(Drop)]
+struct Making {
+    alloc: Global,
+    table: ObjectTable,
+}
+
+impl Program for Making {
+    ghost State = { Heap };
+
+    ghost meaning = { snapshot_meaning };
+
+    ghost state = { λ m. heap_of m.table.table };
+
+    ghost events = { λ m. 0 };
+
+    fn last(&self) -> Result<LastText, OutOfMemory> {
+        let view = self.table.view()?;
+        Ok(LastText {
+            text: write_snapshot(self.alloc, &view)?,
+            violated: false,
+        })
+    }
+}
+
+/// Writes the snapshot of the heap that a trace makes, at its end.
+pub(crate) fn from_trace<S: Source, K: Sink>(alloc: Global, source: &mut S, sink: &mut K) -> Status
+    ensures { let old = seen (stream_of S.left S.faults source.old) (stream_of K.held K.faults sink.old) in
+        let new = seen (stream_of S.left S.faults source.new) (stream_of K.held K.faults sink.new) in
+        Ended LONGEST_TRACE (report_by snapshot_meaning empty_heap) old new result }
+{
+    let Ok(table) = ObjectTable::make(alloc) else {
+        return Status::NoMemory;
+    };
+    let mut making = Making { alloc, table };
+    run(alloc, LONGEST_TRACE, &mut making, take_event, source, sink)
+}
+
+fn take_event(making: &mut Making, event: &Event) -> Result<Taken, Stop>
+    ensures { Takes (snapshot_meaning.takes (heap_of making.old.table.table) event.now) result (heap_of making.new.table.table) }
+{
+    match event {
+        Event::Alloc {
+            id,
+            kind,
+            slots,
+            ..
+        } => nothing_due(
+            making.alloc,
+            alloc_object(&mut making.table, *id, kind, *slots),
+        ),
+        Event::Store { at, slot, to } => {
+            nothing_due(making.alloc, store(&mut making.table, *at, *slot, *to))
+        }
+        Event::Root { name, to } => nothing_due(
+            making.alloc,
+            set_root(&mut making.table, name, *to),
+        ),
+        Event::SetWeak { .. }
+        | Event::AssertDead { .. }
+        | Event::StartRegion { .. }
+        | Event::AssertAllDead { .. }
+        | Event::AssertInstances { .. }
+        | Event::AssertUnshared { .. }
+        | Event::AssertOwnedBy { .. }
+        | Event::Collect => Err(Stop::Refused(Refusal::UnknownOp)),
+    }
+}
+
+// An operation makes no text due.
+fn nothing_due(alloc: Global, done: Result<(), Stop>) -> Result<Taken, Stop>
+    ensures { (found : Result Heap Refusal) → (after : Heap) → Answers found done after → Takes (effect_of_step found) result after }
+{
+    match done {
+        Ok(()) => Ok(Taken::GoesOn(Vec::new(alloc))),
+        Err(stop) => Err(stop),
+    }
+}
+
+fn store(table: &mut ObjectTable, at: ObjId, slot: u32, to: Option<ObjId>) -> Result<(), Stop>
+    ensures { Answers (step (heap_of table.old.table) (Store at slot to)) result (heap_of table.new.table) }
+{
+    match table.store(at, slot, to) {
+        Ok(()) => Ok(()),
+        Err(refusal) => Err(Stop::Refused(refusal)),
+    }
+}
+
+fn alloc_object(table: &mut ObjectTable, id: ObjId, kind: &Name, slots: u32) -> Result<(), Stop>
+    ensures { (thread : ℕ) → Answers (step (heap_of table.old.table) (Alloc id kind.now slots thread)) result (heap_of table.new.table) }
+{
+    table.alloc_object(id, kind, slots)
+}
+
+fn set_root(table: &mut ObjectTable, name: &Name, to: Option<ObjId>) -> Result<(), Stop>
+    ensures { Answers (step (heap_of table.old.table) (Root name.now to)) result (heap_of table.new.table) }
+{
+    table.set_root(name, to)
+}

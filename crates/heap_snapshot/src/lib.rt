@@ -1,0 +1,12 @@
+//! Snapshots of a heap, from a trace and to a trace.
+#![tactic(auto)]
+
+mod fault;
+mod from_trace;
+mod run;
+mod to_trace;
+mod whole;
+
+pub use run::{Command, snap_run};
+pub use snapshot_text::{LONGEST_SNAPSHOT, SnapError, SnapWhy, read_snapshot, write_snapshot};
+pub use snapshot_trace::trace_text;
