@@ -1,10 +1,16 @@
 //! Runs of a crew: that each task is done once, by few and many workers, and how long those without a task wait.
 
+ghost use Rattle.std.specs.Prelude.{◌≡◌, ◌<◌, ◌≤◌};
+ghost use Rattle.steal_pool.specs.Runs.{room_of};
+
 use crate::counters::{is_done_once, run_cells};
-use crew_support::{Cells, Shape, are_seen, times_seen};
-use heap_base::{Gate, OpenGate, Task};
+use crew_support::{Cells, Counter, Shape, are_seen, times_seen};
+use heap_base::{Gate, OpenGate, OutOfMemory, Task};
+use std::alloc::Global;
+use std::process::Abort;
 use std::sync::atomic::{AtomicU64, Ordering};
 use std::test::Fail;
+use std::thread::Threads;
 use steal_pool::{Crew, FirstTasks, Outbox};
 
 /// Few cells, and so many that each worker has a thread of its own or some share one.
@@ -27,36 +33,65 @@ fn each_cell_is_done_once(rt: HostRuntime) -> Result<(), Fail> {
     Ok(())
 }
 
-#[test]
-fn a_crew_runs_again(rt: HostRuntime) -> Result<(), Fail> {
-    let cells = Cells {
-        count: 100,
-        shape: Shape::Tree,
-    };
-    let mut crew = Crew::make(rt.alloc(), 3, 105)?;
-    let once = run_cells(&rt, rt.alloc(), &mut crew, &cells, &[(1, 0)], &OpenGate)?;
-    assert!(rt; are_seen(once.as_slice(), 100, 1));
-    let never = run_cells(&rt, rt.alloc(), &mut crew, &cells, &[], &OpenGate)?;
-    assert!(rt; are_seen(never.as_slice(), 100, 0));
-    let firsts = [(0, 0), (1, 0)];
-    let twice = run_cells(&rt, rt.alloc(), &mut crew, &cells, &firsts, &OpenGate)?;
-    assert!(rt; times_seen(twice.as_slice(), 0) == 2);
+const TREE: Cells = Cells {
+    count: 100,
+    shape: Shape::Tree,
+};
+
+// How often one more run of the crew does the first cell.
+fn times_done<R: Threads + Sync>(
+    rt: &R,
+    alloc: Global,
+    crew: &mut Crew<Counter>,
+    firsts: &[(u32, u32)],
+) -> Result<u64, OutOfMemory>
+    requires { 105 ≤ room_of crew.old }
+    ensures { room_of crew.new ≡ room_of crew.old }
+{
+    let jobs = run_cells(rt, alloc, crew, &TREE, firsts, &OpenGate)?;
+    Ok(times_seen(jobs.as_slice(), 0))
+}
+
+fn check_runs<R: Threads + Sync + Abort>(
+    rt: &R,
+    alloc: Global,
+    crew: &mut Crew<Counter>,
+) -> Result<(), Fail>
+    requires { 105 ≤ room_of crew.old }
+{
+    assert_eq!(rt; times_done(rt, alloc, crew, &[(1, 0)])?, 1);
+    assert_eq!(rt; times_done(rt, alloc, crew, &[])?, 0);
+    assert_eq!(rt; times_done(rt, alloc, crew, &[(0, 0), (1, 0)])?, 2);
     Ok(())
 }
 
 #[test]
-fn lists_of_tasks_hold_what_was_put(rt: HostRuntime) -> Result<(), Fail> {
+fn a_crew_runs_again(rt: HostRuntime) -> Result<(), Fail> {
+    let mut crew = Crew::make(rt.alloc(), 3, 105)?;
+    check_runs(&rt, rt.alloc(), &mut crew)
+}
+
+#[test]
+fn first_tasks_are_those_that_were_added(rt: HostRuntime) -> Result<(), Fail> {
     let task = Task { cell: 7, tag: 1 };
     let mut first = FirstTasks::make(rt.alloc(), 2, 4)?;
     first.add(1, task);
-    assert!(rt; first.of(0).is_empty() && first.of(1).len() == 1 && first.of(1)[0] == task);
+    let added = (first.of(0).first().copied(), first.of(1).first().copied());
     first.clear();
-    assert!(rt; first.of(1).is_empty());
+    let cleared = first.of(1).is_empty();
+    assert_eq!(rt; (added, cleared), ((None, Some(task)), true));
+    Ok(())
+}
+
+#[test]
+fn an_outbox_has_what_was_put(rt: HostRuntime) -> Result<(), Fail> {
+    let task = Task { cell: 7, tag: 1 };
     let mut out = Outbox::make(rt.alloc(), 2)?;
     out.put(task);
-    assert!(rt; out.tasks().len() == 1 && out.tasks()[0] == task && out.spare() == 1);
+    let put = (out.tasks().first().copied(), out.spare());
     out.clear();
-    assert!(rt; out.tasks().is_empty() && out.spare() == 2);
+    let cleared = (out.tasks().first().copied(), out.spare());
+    assert_eq!(rt; [put, cleared], [(Some(task), 1), (None, 2)]);
     Ok(())
 }
 
@@ -92,19 +127,32 @@ impl Counting {
     }
 }
 
+// How many tasks and idle turns a run has that does each of the cells so often, from the task of the first cell for one worker on,
+// or from no task.
+fn turns_of_run<R: Threads + Sync>(
+    rt: &R,
+    alloc: Global,
+    workers: u32,
+    cells: &Cells,
+    firsts: &[(u32, u32)],
+    times: u64,
+) -> Result<Option<(u64, u64)>, OutOfMemory>
+    requires some { 0 < workers }
+    requires few { workers ≤ 16 }
+    requires cells { cells.now.count ≤ 1_000 }
+{
+    let gate = Counting::make();
+    let mut crew = Crew::make(alloc, workers, cells.count as u64 + 5)?;
+    let jobs = run_cells(rt, alloc, &mut crew, cells, firsts, &gate)?;
+    Ok(are_seen(jobs.as_slice(), cells.count, times).then_some(gate.seen()))
+}
+
 /// Nobody else is waited for: each worker stops at its first turn without a task.
 #[test]
 fn a_short_run_has_one_thread(rt: HostRuntime) -> Result<(), Fail> {
-    let cells = Cells {
-        count: 100,
-        shape: Shape::Tree,
-    };
     for first in [3, 0, 15] {
-        let gate = Counting::make();
-        let mut crew = Crew::make(rt.alloc(), 16, 105)?;
-        let jobs = run_cells(&rt, rt.alloc(), &mut crew, &cells, &[(first, 0)], &gate)?;
-        assert!(rt; are_seen(jobs.as_slice(), 100, 1));
-        assert_eq!(rt; gate.seen(), (100, 16));
+        let turns = turns_of_run(&rt, rt.alloc(), 16, &TREE, &[(first, 0)], 1)?;
+        assert_eq!(rt; turns, Some((100, 16)));
     }
     Ok(())
 }
@@ -116,10 +164,7 @@ fn nobody_waits_where_nobody_has_a_task(rt: HostRuntime) -> Result<(), Fail> {
         count: 1_000,
         shape: Shape::Tree,
     };
-    let gate = Counting::make();
-    let mut crew = Crew::make(rt.alloc(), 2, 1_005)?;
-    let jobs = run_cells(&rt, rt.alloc(), &mut crew, &cells, &[], &gate)?;
-    assert!(rt; are_seen(jobs.as_slice(), 1_000, 0));
-    assert_eq!(rt; gate.seen(), (0, 16));
+    let turns = turns_of_run(&rt, rt.alloc(), 2, &cells, &[], 0)?;
+    assert_eq!(rt; turns, Some((0, 16)));
     Ok(())
 }

@@ -3,13 +3,16 @@
 //!
 //! Each crew has room for 1,000 tasks or more at a worker, since a smaller one runs on one thread.
 
+ghost use Rattle.std.specs.Prelude.{◌≤◌};
+
 use crate::counters::run_cells;
 use crate::traces::trace_table;
-use crew_support::{Cells, Shape, are_seen};
-use heap_base::Name;
+use crew_support::{Cells, Counter, Shape, are_seen};
+use heap_base::{Gate, Name, OutOfMemory};
 use object_table::ObjectTable;
 use std::alloc::Global;
 use std::test::Fail;
+use std::thread::Threads;
 use steal_pool::Crew;
 use test_support::{
     Holding, SampleHeap, UNTIL_BOTH_BEGIN, UntilOneIsStolen, Watch, id, name, table_of,
@@ -22,17 +25,52 @@ const FAN: Cells = Cells {
     shape: Shape::Fan,
 };
 
+// A run of two workers.
+fn run_two<R: Threads + Sync, G: Gate>(
+    rt: &R,
+    alloc: Global,
+    cells: &Cells,
+    firsts: &[(u32, u32)],
+    gate: &G,
+) -> Result<Vec<Counter>, OutOfMemory>
+    requires { cells.now.count ≤ 1_001 }
+{
+    let mut crew = Crew::make(alloc, 2, 1_006)?;
+    run_cells(rt, alloc, &mut crew, cells, firsts, gate)
+}
+
+// How many tasks each of two workers began, where nobody gave up waiting.
+fn begun(watch: &Watch) -> Option<(u64, u64)> {
+    if watch.gave_up() {
+        None
+    } else {
+        Some((watch.begun(0), watch.begun(1)))
+    }
+}
+
+fn have_both_begun(watch: &Watch) -> bool {
+    begun(watch).is_some_and(|begun| begun.0 > 0 && begun.1 > 0)
+}
+
 #[test]
 fn both_workers_begin(rt: HostRuntime) -> Result<(), Fail> {
     let gate = Holding {
         holds: &UNTIL_BOTH_BEGIN,
         watch: Watch::new(),
     };
-    let mut crew = Crew::make(rt.alloc(), 2, 1_006)?;
-    run_cells(&rt, rt.alloc(), &mut crew, &FAN, &[(0, 0), (1, 1)], &gate)?;
-    assert!(rt; !gate.watch.gave_up());
-    assert!(rt; gate.watch.begun(0) > 0 && gate.watch.begun(1) > 0);
+    run_two(&rt, rt.alloc(), &FAN, &[(0, 0), (1, 1)], &gate)?;
+    assert!(rt; have_both_begun(&gate.watch));
     Ok(())
+}
+
+// How many cells the second of two workers did, where it didn't do the first cell, and each cell was done once.
+fn stolen(jobs: &[Counter]) -> Option<u64> {
+    let thief = jobs.get(1)?;
+    if thief.seen.get(0).copied() == Some(0) && are_seen(jobs, 1_001, 1) {
+        Some(thief.seen.iter().filter(|times| **times > 0).count() as u64)
+    } else {
+        None
+    }
 }
 
 /// Worker 1 has no first task, and what it does puts none. So it has each of its tasks from worker 0, who was in the middle of a
@@ -42,16 +80,9 @@ fn a_worker_without_a_task_steals(rt: HostRuntime) -> Result<(), Fail> {
     let gate = UntilOneIsStolen {
         watch: Watch::new(),
     };
-    let mut crew = Crew::make(rt.alloc(), 2, 1_006)?;
-    let jobs = run_cells(&rt, rt.alloc(), &mut crew, &FAN, &[(0, 0)], &gate)?;
-    assert!(rt; !gate.watch.gave_up());
-    assert!(rt; are_seen(jobs.as_slice(), 1_001, 1));
-    let Some(thief) = jobs.get(1) else {
-        return Err("there is no job for the second worker".into());
-    };
-    let stolen = thief.seen.iter().filter(|times| **times > 0).count();
-    assert!(rt; stolen > 0 && thief.seen.get(0).copied() == Some(0));
-    assert_eq!(rt; stolen as u64, gate.watch.begun(1));
+    let jobs = run_two(&rt, rt.alloc(), &FAN, &[(0, 0)], &gate)?;
+    assert!(rt; have_both_begun(&gate.watch));
+    assert_eq!(rt; stolen(jobs.as_slice()), Some(gate.watch.begun(1)));
     Ok(())
 }
 
@@ -67,11 +98,13 @@ fn a_worker_goes_on_while_another_is_held(rt: HostRuntime) -> Result<(), Fail> {
         holds: &holds,
         watch: Watch::new(),
     };
-    let mut crew = Crew::make(rt.alloc(), 2, 1_006)?;
-    run_cells(&rt, rt.alloc(), &mut crew, &cells, &[(0, 0), (1, 2)], &gate)?;
-    assert!(rt; !gate.watch.gave_up());
-    assert_eq!(rt; (gate.watch.begun(0), gate.watch.begun(1)), (3, 1));
+    run_two(&rt, rt.alloc(), &cells, &[(0, 0), (1, 2)], &gate)?;
+    assert_eq!(rt; begun(&gate.watch), Some((3, 1)));
     Ok(())
+}
+
+fn did_all(job: Option<&Counter>) -> bool {
+    job.is_some_and(|job| job.seen.iter().all(|times| *times == 1))
 }
 
 /// While worker 1 is held, worker 0 does all that it put: none of it was dealt to worker 1.
@@ -82,14 +115,9 @@ fn a_worker_that_asks_for_nothing_gets_nothing(rt: HostRuntime) -> Result<(), Fa
         holds: &holds,
         watch: Watch::new(),
     };
-    let mut crew = Crew::make(rt.alloc(), 2, 1_006)?;
-    let jobs = run_cells(&rt, rt.alloc(), &mut crew, &FAN, &[(0, 0), (1, 1)], &gate)?;
-    assert!(rt; !gate.watch.gave_up());
-    let Some(first) = jobs.get(0) else {
-        return Err("there is no job for the first worker".into());
-    };
-    assert!(rt; first.seen.iter().all(|times| *times == 1));
-    assert_eq!(rt; (gate.watch.begun(0), gate.watch.begun(1)), (1_001, 1));
+    let jobs = run_two(&rt, rt.alloc(), &FAN, &[(0, 0), (1, 1)], &gate)?;
+    assert!(rt; did_all(jobs.first()));
+    assert_eq!(rt; begun(&gate.watch), Some((1_001, 1)));
     Ok(())
 }
 
@@ -114,16 +142,26 @@ fn wide_table(alloc: Global) -> Result<ObjectTable, Fail> {
     Ok(table)
 }
 
+// How many objects a trace by two workers has traced.
+fn count_traced<R: Threads + Sync, G: Gate>(
+    rt: &R,
+    alloc: Global,
+    table: &ObjectTable,
+    gate: &G,
+) -> Result<u32, Fail> {
+    let traced = trace_table(rt, alloc, table, &[], 2, gate)?;
+    Ok(traced.traced())
+}
+
 #[test]
 fn both_workers_of_a_trace_begin(rt: HostRuntime) -> Result<(), Fail> {
-    let table = wide_table(rt.alloc())?;
     let gate = Holding {
         holds: &UNTIL_BOTH_BEGIN,
         watch: Watch::new(),
     };
-    let traced = trace_table(&rt, rt.alloc(), &table, &[], 2, &gate)?;
-    assert_eq!(rt; traced.traced(), 1_002);
-    assert!(rt; !gate.watch.gave_up());
-    assert!(rt; gate.watch.begun(0) > 0 && gate.watch.begun(1) > 0);
+    let table = wide_table(rt.alloc())?;
+    let traced = count_traced(&rt, rt.alloc(), &table, &gate)?;
+    assert_eq!(rt; traced, 1_002);
+    assert!(rt; have_both_begun(&gate.watch));
     Ok(())
 }

@@ -54,29 +54,39 @@ fn marks_of(words: &Words, cell: u32) -> (bool, bool, bool)
     )
 }
 
-#[test]
-fn a_meet_counts_and_marks_its_cell(rt: HostRuntime) -> Result<(), Fail> {
-    let (headers, mut passes) = Headers::make(rt.alloc(), 2, 2)?;
-    for (place, pass) in passes.iter().enumerate() {
-        assert_eq!(rt; pass.number() as usize, place);
-        assert_eq!(rt; pass.left(), 2_251_799_813_685_248);
-    }
-    assert_eq!(rt; passes.len(), 2);
+// Whether the passes have these numbers in order, and each may meet so often.
+fn are_as_made(passes: &[Pass], left: u64) -> bool {
+    passes.len() == 2
+        && passes.iter().enumerate().all(|(place, pass)| pass.number() as usize == place
+            && pass.left() == left)
+}
+
+// Meets cell 1 by both passes, and says which of them won it.
+fn meet_by_both(headers: &Headers, passes: &mut Vec<Pass>) -> (bool, bool)
+    requires cells { headers.now.cells ≡ 2 }
+    requires passes { ArePassesOf headers.now passes.old.items }
+    ensures { ArePassesOf headers.now passes.new.items }
+{
     let found = Marks {
         found: true,
         ..NONE
     };
-    assert!(rt; meet_with(&headers, &mut passes, 0, NONE));
-    assert!(rt; !meet_with(&headers, &mut passes, 1, found));
-    assert!(rt;
-        passes
-            .iter()
-            .all(|pass| pass.left() == 2_251_799_813_685_247)
-    );
+    let first = meet_with(headers, passes, 0, NONE);
+    let second = meet_with(headers, passes, 1, found);
+    (first, second)
+}
+
+#[test]
+fn a_meet_counts_and_marks_its_cell(rt: HostRuntime) -> Result<(), Fail> {
+    let (headers, mut passes) = Headers::make(rt.alloc(), 2, 2)?;
+    let made = are_as_made(passes.as_slice(), 2_251_799_813_685_248);
+    let won = meet_by_both(&headers, &mut passes);
+    let met = are_as_made(passes.as_slice(), 2_251_799_813_685_247);
     let words = headers.close(passes);
+    assert!(rt; made && met && won == (true, false));
     assert_eq!(rt; (words.count(0), words.count(1)), (0, 2));
-    assert_eq!(rt; marks_of(&words, 0), (false, false, false));
-    assert_eq!(rt; marks_of(&words, 1), (true, false, false));
+    let marks = [marks_of(&words, 0), marks_of(&words, 1)];
+    assert_eq!(rt; marks, [(false, false, false), (true, false, false)]);
     Ok(())
 }
 

@@ -1,6 +1,6 @@
 //! Heaps of 100,000 objects and more, and of as many as there may be, traced by few and many workers.
 
-use crate::traces::{Wanted, check_table, found, kept, met};
+use crate::traces::{FOUND_ONCE, KEPT_ONCE, KEPT_TWICE, MET_ONCE, Wanted, check_table};
 use heap_base::Name;
 use object_table::ObjectTable;
 use std::alloc::Global;
@@ -50,7 +50,7 @@ fn chain(alloc: Global) -> Result<ObjectTable, Fail> {
 #[test]
 fn a_chain_of_300_000_objects(rt: HostRuntime) -> Result<(), Fail> {
     let table = chain(rt.alloc())?;
-    let objects = [(1, 300_000, kept(1))];
+    let objects = [(1, 300_000, KEPT_ONCE)];
     let wanted = Wanted {
         objects: &objects,
         instances: &[300_000],
@@ -83,7 +83,7 @@ fn hub(alloc: Global) -> Result<ObjectTable, Fail> {
 #[test]
 fn a_hub_that_holds_each_other_object_twice(rt: HostRuntime) -> Result<(), Fail> {
     let table = hub(rt.alloc())?;
-    let objects = [(1, 1, kept(1)), (2, 1_048_576, kept(2))];
+    let objects = [(1, 1, KEPT_ONCE), (2, 1_048_576, KEPT_TWICE)];
     let wanted = Wanted {
         objects: &objects,
         instances: &[1, 1_048_575],
@@ -113,17 +113,23 @@ fn owner(alloc: Global) -> Result<ObjectTable, Fail> {
     Ok(table)
 }
 
+// The owner 1 with each of its ownees.
+fn pairs(alloc: Global) -> Result<Vec<(u32, u32)>, Fail> {
+    let mut pairs = Vec::new(alloc);
+    for ownee in 2..=100_002u32 {
+        pairs.push((1, ownee))?;
+    }
+    Ok(pairs)
+}
+
 #[test]
 fn an_owner_of_100_000_ownees_and_one_that_it_lost(rt: HostRuntime) -> Result<(), Fail> {
     let table = owner(rt.alloc())?;
-    let mut owned = Vec::new(rt.alloc());
-    for ownee in 2..=100_002u32 {
-        owned.push((1, ownee))?;
-    }
+    let owned = pairs(rt.alloc())?;
     let objects = [
-        (1, 1, kept(1)),
-        (2, 100_001, found(1)),
-        (100_002, 100_002, met(1)),
+        (1, 1, KEPT_ONCE),
+        (2, 100_001, FOUND_ONCE),
+        (100_002, 100_002, MET_ONCE),
     ];
     let wanted = Wanted {
         objects: &objects,
@@ -164,7 +170,7 @@ fn tree(alloc: Global) -> Result<ObjectTable, Fail> {
 #[test]
 fn a_tree_of_300_000_objects(rt: HostRuntime) -> Result<(), Fail> {
     let table = tree(rt.alloc())?;
-    let objects = [(1, 300_000, kept(1))];
+    let objects = [(1, 300_000, KEPT_ONCE)];
     let wanted = Wanted {
         objects: &objects,
         instances: &[150_000, 150_000],

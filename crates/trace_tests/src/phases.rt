@@ -5,6 +5,7 @@ ghost use Rattle.graph_meaning.specs.Roles.{AreRolesOf};
 ghost use Rattle.header_rule.specs.Passes.{ArePassesOf};
 ghost use Rattle.trace_tests.specs.NewJobs.{AreAllJobs, CountKinds, passes_of};
 
+use graph_meaning::Roles;
 use header_rule::{Headers, Words};
 use heap_base::{OpenGate, OutOfMemory};
 use object_table::ObjectTable;
@@ -15,7 +16,7 @@ use std::alloc::Global;
 use std::test::Fail;
 use std::thread::Threads;
 use steal_pool::{Crew, FirstTasks};
-use test_support::{SampleHeap, cell, registry_of, roles_of, table_of};
+use test_support::{SampleHeap, cell, id_or_zero, roles_in, table_of};
 
 // Headers of the table's cells, and a job for each worker.
 fn start(
@@ -120,17 +121,6 @@ fn all_held(jobs: &[ScanJob]) -> usize {
     sum
 }
 
-// The id of the object in a cell, and 0 where there is none.
-fn id_or_zero(table: &ObjectTable, cell: u32) -> u32 {
-    if cell >= table.cells() {
-        return 0;
-    }
-    match table.id_at(cell) {
-        Some(id) => id.number(),
-        None => 0,
-    }
-}
-
 // The object of first task number k, which stands in the list of worker k modulo the number of workers; 0 where there
 // are fewer.
 fn first_object(table: &ObjectTable, first: &FirstTasks, workers: u32, k: u32) -> u32
@@ -170,6 +160,30 @@ fn met_of_five(table: &ObjectTable, words: &Words) -> [Met; 5]
     ]
 }
 
+// What the owner phase leaves of a table, and take-up where it is asked for.
+fn owners_leave<R: Threads + Sync>(
+    rt: &R,
+    alloc: Global,
+    table: &ObjectTable,
+    roles: &Roles,
+    workers: u32,
+    taken: bool,
+) -> Result<(usize, [Met; 5]), OutOfMemory>
+    requires workers { (0 < workers) × (workers ≤ MOST_WORKERS) }
+    requires roles { AreRolesOf table.now.cells (length table.now.table.kinds) roles.now }
+{
+    let (headers, mut jobs) = start(alloc, table, workers)?;
+    let shared = ScanShared {
+        headers: &headers,
+        table,
+        roles,
+    };
+    run_owners(rt, alloc, &shared, &mut jobs, workers, taken)?;
+    let held = all_held(jobs.as_slice());
+    let words = close(alloc, headers, jobs)?;
+    Ok((held, met_of_five(table, &words)))
+}
+
 /// What the owner phase leaves, and take-up where it is asked for: how many cells are held, and what is known of the objects 1 to 5.
 pub fn after_owners<R: Threads + Sync>(
     rt: &R,
@@ -181,18 +195,8 @@ pub fn after_owners<R: Threads + Sync>(
     requires { (0 < workers) × (workers ≤ MOST_WORKERS) }
 {
     let table = table_of(alloc, heap)?;
-    let mut registry = registry_of(alloc, heap)?;
-    let roles = roles_of(&mut registry, &table)?;
-    let (headers, mut jobs) = start(alloc, &table, workers)?;
-    let shared = ScanShared {
-        headers: &headers,
-        table: &table,
-        roles: &roles,
-    };
-    run_owners(rt, alloc, &shared, &mut jobs, workers, taken)?;
-    let held = all_held(jobs.as_slice());
-    let words = close(alloc, headers, jobs)?;
-    Ok((held, met_of_five(&table, &words)))
+    let roles = roles_in(alloc, &table, heap)?;
+    Ok(owners_leave(rt, alloc, &table, &roles, workers, taken)?)
 }
 
 /// What the root phase alone leaves: how many objects were won, the objects of the first tasks, by their numbers, and what is known
@@ -202,6 +206,37 @@ pub struct AfterRoots {
     pub won: u64,
     pub first: [u32; 3],
     pub met: [Met; 5],
+}
+
+// What the root phase alone leaves of a table.
+fn roots_leave<R: Threads + Sync>(
+    rt: &R,
+    alloc: Global,
+    table: &ObjectTable,
+    roles: &Roles,
+    workers: u32,
+) -> Result<AfterRoots, OutOfMemory>
+    requires workers { (0 < workers) × (workers ≤ MOST_WORKERS) }
+    requires roles { AreRolesOf table.now.cells (length table.now.table.kinds) roles.now }
+{
+    let (headers, mut jobs) = start(alloc, table, workers)?;
+    let shared = ScanShared {
+        headers: &headers,
+        table,
+        roles,
+    };
+    let first = run_roots(rt, alloc, &shared, &mut jobs, workers)?;
+    let won = all_won(table, jobs.as_slice());
+    let words = close(alloc, headers, jobs)?;
+    Ok(AfterRoots {
+        won,
+        first: [
+            first_object(table, &first, workers, 0),
+            first_object(table, &first, workers, 1),
+            first_object(table, &first, workers, 2),
+        ],
+        met: met_of_five(table, &words),
+    })
 }
 
 /// What the root phase alone leaves.
@@ -214,24 +249,6 @@ pub fn after_roots<R: Threads + Sync>(
     requires { (0 < workers) × (workers ≤ MOST_WORKERS) }
 {
     let table = table_of(alloc, heap)?;
-    let mut registry = registry_of(alloc, heap)?;
-    let roles = roles_of(&mut registry, &table)?;
-    let (headers, mut jobs) = start(alloc, &table, workers)?;
-    let shared = ScanShared {
-        headers: &headers,
-        table: &table,
-        roles: &roles,
-    };
-    let first = run_roots(rt, alloc, &shared, &mut jobs, workers)?;
-    let won = all_won(&table, jobs.as_slice());
-    let words = close(alloc, headers, jobs)?;
-    Ok(AfterRoots {
-        won,
-        first: [
-            first_object(&table, &first, workers, 0),
-            first_object(&table, &first, workers, 1),
-            first_object(&table, &first, workers, 2),
-        ],
-        met: met_of_five(&table, &words),
-    })
+    let roles = roles_in(alloc, &table, heap)?;
+    Ok(roots_leave(rt, alloc, &table, &roles, workers)?)
 }

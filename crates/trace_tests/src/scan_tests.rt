@@ -10,13 +10,13 @@ ghost use Rattle.trace_tests.specs.NewJobs.{IsOnlyJob};
 
 use graph_meaning::Roles;
 use header_rule::{Headers, Words};
-use heap_base::{ObjId, OutOfMemory, Task};
+use heap_base::{OutOfMemory, Task};
 use object_table::ObjectTable;
 use scan_job::{Mode, ScanJob, ScanShared};
 use std::alloc::Global;
 use std::test::Fail;
 use steal_pool::{Job, Outbox};
-use test_support::{SampleHeap, registry_of, roles_of, table_of};
+use test_support::{SampleHeap, cell, id_or_zero, roles_in, table_of};
 
 /// The Map 1 owns the Item 2; the owner 9 of the Item 4 is gone. A root names the Node 5.
 const HEAP: SampleHeap<'static> = SampleHeap {
@@ -42,16 +42,6 @@ const HEAP: SampleHeap<'static> = SampleHeap {
     owned: &[(1, 2), (9, 4)],
     ..SampleHeap::EMPTY
 };
-
-// The cell of the object with this id.
-fn cell(table: &ObjectTable, n: u32) -> Option<u32>
-    ensures { IfSome result (λ c. IsSome (id_in table.now c)) }
-{
-    match ObjId::of(n) {
-        Some(id) => table.cell_of(id),
-        None => None,
-    }
-}
 
 /// The cells of the objects 1 to 4.
 #[derive(Clone, Copy)]
@@ -149,14 +139,11 @@ fn first_task(shared: &ScanShared<'_>, mode: Mode, owner: u32) -> Option<Task>
     }
 }
 
-// The ids of the first objects in these cells, 0 where there are fewer.
+// The id of the object in the cell at this place, 0 where there are fewer.
 fn id_at(table: &ObjectTable, cells: &[u32], place: usize) -> u32 {
     match cells.get(place) {
-        Some(cell) if *cell < table.cells() => match table.id_at(*cell) {
-            Some(id) => id.number(),
-            None => 0,
-        },
-        _ => 0,
+        Some(cell) => id_or_zero(table, *cell),
+        None => 0,
     }
 }
 
@@ -165,7 +152,7 @@ fn ids_put(table: &ObjectTable, tasks: &[Task]) -> [u32; 3] {
     let mut ids = [0; 3];
     for place in 0..3 {
         if let Some(task) = tasks.get(place) {
-            ids[place] = id_at(table, &[task.cell], 0);
+            ids[place] = id_or_zero(table, task.cell);
         }
     }
     ids
@@ -257,18 +244,29 @@ fn scan_with(
     }))
 }
 
+// What one job does with one task of a table.
+fn scan_table(
+    alloc: Global,
+    table: &ObjectTable,
+    roles: &Roles,
+    mode: Mode,
+) -> Result<Option<Seen>, OutOfMemory>
+    requires { AreRolesOf table.now.cells (length table.now.table.kinds) roles.now }
+{
+    let Some(cells) = named_cells(table) else {
+        return Ok(None);
+    };
+    match start(alloc, table)? {
+        Some((headers, job)) => scan_with(alloc, table, roles, headers, job, cells, mode),
+        None => Ok(None),
+    }
+}
+
 // What one job does with one task of the heap.
 fn scan(alloc: Global, mode: Mode) -> Result<Option<Seen>, Fail> {
     let table = table_of(alloc, HEAP)?;
-    let mut registry = registry_of(alloc, HEAP)?;
-    let roles = roles_of(&mut registry, &table)?;
-    let Some(cells) = named_cells(&table) else {
-        return Ok(None);
-    };
-    match start(alloc, &table)? {
-        Some((headers, job)) => Ok(scan_with(alloc, &table, &roles, headers, job, cells, mode)?),
-        None => Ok(None),
-    }
+    let roles = roles_in(alloc, &table, HEAP)?;
+    Ok(scan_table(alloc, &table, &roles, mode)?)
 }
 
 #[test]
@@ -337,18 +335,28 @@ fn meet_twice(
     (once, again, job.room())
 }
 
-fn meet_root(alloc: Global) -> Result<Option<(bool, bool, u64)>, Fail> {
-    let table = table_of(alloc, HEAP)?;
-    let mut registry = registry_of(alloc, HEAP)?;
-    let roles = roles_of(&mut registry, &table)?;
+fn meet_in_table(
+    alloc: Global,
+    table: &ObjectTable,
+    roles: &Roles,
+) -> Result<Option<(bool, bool, u64)>, OutOfMemory>
+    requires { AreRolesOf table.now.cells (length table.now.table.kinds) roles.now }
+{
+    // what is true of every table
     table.cells();
-    let Some(cells) = named_cells(&table) else {
+    let Some(cell) = cell(table, 2) else {
         return Ok(None);
     };
-    match start(alloc, &table)? {
-        Some((headers, job)) => Ok(Some(meet_twice(&table, &roles, &headers, job, cells.ownee))),
+    match start(alloc, table)? {
+        Some((headers, job)) => Ok(Some(meet_twice(table, roles, &headers, job, cell))),
         None => Ok(None),
     }
+}
+
+fn meet_root(alloc: Global) -> Result<Option<(bool, bool, u64)>, Fail> {
+    let table = table_of(alloc, HEAP)?;
+    let roles = roles_in(alloc, &table, HEAP)?;
+    Ok(meet_in_table(alloc, &table, &roles)?)
 }
 
 #[test]

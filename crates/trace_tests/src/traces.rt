@@ -9,7 +9,7 @@ use std::alloc::Global;
 use std::process::Abort;
 use std::test::Fail;
 use std::thread::Threads;
-use test_support::{SampleHeap, cell, registry_of, roles_of, table_of};
+use test_support::{SampleHeap, cell, roles_in, table_of};
 
 /// What a trace says of an object: how many references there are to it, whether it is kept, whether it is marked found, and
 /// whether as met by roots.
@@ -20,30 +20,20 @@ pub type Want = (u64, bool, Option<bool>, bool);
 
 pub const UNTRACED: Want = (0, false, Some(false), false);
 
-/// Kept, with no mark.
-pub fn kept(references: u64) -> Want {
-    (references, true, Some(false), false)
-}
+/// Kept by one reference or by two, with no mark.
+pub const KEPT_ONCE: Want = (1, true, Some(false), false);
+
+pub const KEPT_TWICE: Want = (2, true, Some(false), false);
 
 /// Kept and found.
-pub fn found(references: u64) -> Want {
-    (references, true, Some(true), false)
-}
+pub const FOUND_ONCE: Want = (1, true, Some(true), false);
 
-/// Kept, and found or not.
-pub fn found_or_not(references: u64) -> Want {
-    (references, true, None, false)
-}
+pub const FOUND_TWICE: Want = (2, true, Some(true), false);
 
 /// Kept and met by roots.
-pub fn met(references: u64) -> Want {
-    (references, true, Some(false), true)
-}
+pub const MET_ONCE: Want = (1, true, Some(false), true);
 
-/// Kept, found and met by roots.
-pub fn found_and_met(references: u64) -> Want {
-    (references, true, Some(true), true)
-}
+pub const MET_TWICE: Want = (2, true, Some(false), true);
 
 /// The heap of the table, traced by so many workers.
 pub fn trace_table<R: Threads + Sync, G: Gate>(
@@ -62,8 +52,7 @@ pub fn trace_table<R: Threads + Sync, G: Gate>(
         owned,
         ..SampleHeap::EMPTY
     };
-    let mut registry = registry_of(alloc, heap)?;
-    let roles = roles_of(&mut registry, table)?;
+    let roles = roles_in(alloc, table, heap)?;
     let kit = Kit::prepare(alloc, table.cells(), table.kinds(), workers)?;
     Ok(trace(rt, kit, table, &roles, gate))
 }
@@ -130,6 +119,22 @@ pub struct Wanted<'a> {
     pub instances: &'a [u64],
 }
 
+// The first range of objects of which the trace says something else.
+fn first_amiss(
+    table: &ObjectTable,
+    traced: &Traced,
+    objects: &[(u32, u32, Want)],
+) -> Option<(u32, u32)>
+    requires { traced.now.words.cells ≡ length table.now.cells }
+{
+    for (first, last, want) in objects {
+        if !are_as_wanted(table, traced, *first, *last, *want) {
+            return Some((*first, *last));
+        }
+    }
+    None
+}
+
 /// Traces the table by so many workers, and compares.
 pub fn check_table<R: Threads + Sync + Abort>(
     rt: &R,
@@ -142,32 +147,21 @@ pub fn check_table<R: Threads + Sync + Abort>(
     requires { (0 < workers) × (workers ≤ MOST_WORKERS) }
 {
     let traced = trace_table(rt, alloc, table, owned, workers, &OpenGate)?;
-    for (first, last, want) in wanted.objects {
-        let are = are_as_wanted(table, &traced, *first, *last, *want);
-        assert!(rt; are, "objects {first} to {last} by {workers} workers");
-    }
+    let amiss = first_amiss(table, &traced, wanted.objects);
+    assert_eq!(rt; amiss, None, "by {workers} workers");
     let counts = counts_kinds(table, &traced, wanted.instances);
     assert!(rt; counts, "the types by {workers} workers");
     Ok(())
 }
 
 /// Traces a sample heap by 1, 2, 3 and 16 workers, and compares.
-pub fn check<R: Threads + Sync + Abort>(
+pub fn check_heap<R: Threads + Sync + Abort>(
     rt: &R,
     alloc: Global,
     heap: SampleHeap<'_>,
-    objects: &[(u32, Want)],
-    instances: &[u64],
+    wanted: Wanted<'_>,
 ) -> Result<(), Fail> {
     let table = table_of(alloc, heap)?;
-    let mut ranges = Vec::new(alloc);
-    for (object, want) in objects {
-        ranges.push((*object, *object, *want))?;
-    }
-    let wanted = Wanted {
-        objects: &ranges,
-        instances,
-    };
     for workers in [1, 2, 3, 16] {
         check_table(rt, alloc, &table, heap.owned, wanted, workers)?;
     }
