@@ -2,5 +2,4 @@ mod agreements;
 mod by_hand;
 mod calls;
 mod large;
-mod limits;
 mod lines;

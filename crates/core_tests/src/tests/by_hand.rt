@@ -5,7 +5,7 @@ ghost use Rattle.heap_trace.specs.Traces.{IsTraceOf};
 ghost use Rattle.audit_core.specs.Audit.{AreItsRoles, placed_of};
 
 use super::agreements::agrees;
-use super::lines::{Line, auditor_after, collect, text_of};
+use super::lines::{Line, auditor_after, text_of};
 use audit_core::{Auditor, Kit, Traced, trace};
 use graph_meaning::{Collection, Roles};
 use header_rule::{Headers, Marks, Pass, Words};
@@ -109,24 +109,19 @@ const COUNTS_OF_THE_TRACE: &str = "gc 1 live 2 traced 2 freed 0
 gc 1 unshared 9 Leaf refs 3: root p -> 1 Pair [0] -> 9 Leaf | root p -> 1 Pair [1] -> 9 Leaf
 ";
 
-#[test]
-fn a_collection_shows_the_counts_of_its_trace(rt: HostRuntime) -> Result<(), Fail> {
-    let alloc = rt.alloc();
-    let mut auditor = auditor_after(alloc, &PAIR)?;
-    let collection = collect_by_hand(&rt, alloc, &mut auditor)?;
-    assert_eq!(rt; text_of(alloc, &collection)?.as_str(), COUNTS_OF_THE_TRACE);
-    Ok(())
+fn report_by_hand<R: Threads + Sync>(
+    rt: &R,
+    alloc: Global,
+    auditor: &mut Auditor,
+) -> Result<String, Fail> {
+    let collection = collect_by_hand(rt, alloc, auditor)?;
+    text_of(alloc, &collection)
 }
 
-const REFERENCES: &str = "gc 1 live 2 traced 2 freed 0
-gc 1 unshared 9 Leaf refs 2: root p -> 1 Pair [0] -> 9 Leaf | root p -> 1 Pair [1] -> 9 Leaf
-";
-
 #[test]
-fn a_collection_of_its_own_counts_references(rt: HostRuntime) -> Result<(), Fail> {
-    let alloc = rt.alloc();
-    let mut auditor = auditor_after(alloc, &PAIR)?;
-    let collection = collect(&rt, &mut auditor)?;
-    assert_eq!(rt; text_of(alloc, &collection)?.as_str(), REFERENCES);
+fn a_collection_shows_the_counts_of_its_trace(rt: HostRuntime) -> Result<(), Fail> {
+    let mut auditor = auditor_after(rt.alloc(), &PAIR)?;
+    let report = report_by_hand(&rt, rt.alloc(), &mut auditor)?;
+    assert_eq!(rt; report.as_str(), COUNTS_OF_THE_TRACE);
     Ok(())
 }

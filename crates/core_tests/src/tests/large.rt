@@ -1,9 +1,10 @@
 //! Heaps that are as deep or as wide as they may be.
 ghost use Rattle.std.specs.Prelude.{◌≤◌};
 
-use super::lines::{Line, auditor_after, collect, follow, text_of};
+use super::lines::{Line, auditor_after, follow, report_of_next};
 use audit_core::Auditor;
 use std::alloc::Global;
+use std::process::Abort;
 use std::test::Fail;
 use std::thread::Threads;
 
@@ -31,16 +32,6 @@ fn make_chain(alloc: Global, auditor: &mut Auditor) -> Result<(), Fail> {
     follow(alloc, auditor, &[Line::Root("r", 1), Line::Dead(LINKS)])
 }
 
-// What the report says of the next collection.
-fn collected<R: Threads + Sync>(
-    rt: &R,
-    alloc: Global,
-    auditor: &mut Auditor,
-) -> Result<String, Fail> {
-    let collection = collect(rt, auditor)?;
-    text_of(alloc, &collection)
-}
-
 // The steps to these links of the chain.
 fn put_steps(alloc: Global, text: &mut String, first: u32, last: u32) -> Result<(), Fail> {
     for id in first..=last {
@@ -62,15 +53,22 @@ fn report_on_chain(alloc: Global) -> Result<String, Fail> {
     Ok(text)
 }
 
+fn check_chain<R: Threads + Sync + Abort>(
+    rt: &R,
+    alloc: Global,
+    auditor: &mut Auditor,
+) -> Result<(), Fail> {
+    make_chain(alloc, auditor)?;
+    let want = report_on_chain(alloc)?;
+    let report = report_of_next(rt, alloc, auditor)?;
+    assert_eq!(rt; report.as_str(), want.as_str());
+    Ok(())
+}
+
 #[test]
 fn the_end_of_a_long_chain_is_found(rt: HostRuntime) -> Result<(), Fail> {
-    let alloc = rt.alloc();
-    let want = report_on_chain(alloc)?;
-    let mut auditor = auditor_after(alloc, &[])?;
-    make_chain(alloc, &mut auditor)?;
-    let text = collected(&rt, alloc, &mut auditor)?;
-    assert_eq!(rt; text.as_str(), want.as_str());
-    Ok(())
+    let mut auditor = auditor_after(rt.alloc(), &[])?;
+    check_chain(&rt, rt.alloc(), &mut auditor)
 }
 
 /// How many objects there are with the hub and its leaves.
@@ -128,13 +126,20 @@ fn is_on_hub(alloc: Global, text: &str) -> Result<bool, Fail> {
     Ok(lines.next().is_none())
 }
 
+fn check_hub<R: Threads + Sync + Abort>(
+    rt: &R,
+    alloc: Global,
+    auditor: &mut Auditor,
+) -> Result<(), Fail> {
+    add_leaves(alloc, auditor)?;
+    let report = report_of_next(rt, alloc, auditor)?;
+    assert!(rt; is_on_hub(alloc, report.as_str())?);
+    Ok(())
+}
+
 #[test]
 fn each_leaf_of_a_wide_hub_is_found(rt: HostRuntime) -> Result<(), Fail> {
-    let alloc = rt.alloc();
     let hub = [Line::Alloc(1, "Hub", 2_097_150, 0), Line::Root("r", 1)];
-    let mut auditor = auditor_after(alloc, &hub)?;
-    add_leaves(alloc, &mut auditor)?;
-    let text = collected(&rt, alloc, &mut auditor)?;
-    assert!(rt; is_on_hub(alloc, text.as_str())?);
-    Ok(())
+    let mut auditor = auditor_after(rt.alloc(), &hub)?;
+    check_hub(&rt, rt.alloc(), &mut auditor)
 }

@@ -1,6 +1,6 @@
 //! The operations of a trace in short, and what an auditor answers to them.
 use audit_core::Auditor;
-use graph_meaning::{Collection, Event, Stop};
+use graph_meaning::{Collection, Event};
 use heap_base::{ObjId, OpenGate, ThreadNo};
 use report::collection_text;
 use std::alloc::Global;
@@ -88,23 +88,19 @@ fn event(alloc: Global, line: Line<'_>) -> Result<Event, Fail> {
     Ok(assertion(alloc, line)?.ok_or("no operation")?)
 }
 
-/// What the auditor answers to an operation.
-pub(super) fn answer(
-    alloc: Global,
-    auditor: &mut Auditor,
-    line: Line<'_>,
-) -> Result<Result<(), Stop>, Fail> {
+// Applies an operation, which is not refused.
+fn apply(alloc: Global, auditor: &mut Auditor, line: Line<'_>) -> Result<(), Fail> {
     let event = event(alloc, line)?;
     if let Event::Collect = event {
         return Err("a collection is no operation".into());
     }
-    Ok(auditor.apply(&event))
+    Ok(auditor.apply(&event)?)
 }
 
 /// Applies these operations, none of which is refused.
 pub(super) fn follow(alloc: Global, auditor: &mut Auditor, lines: &[Line<'_>]) -> Result<(), Fail> {
     for line in lines {
-        answer(alloc, auditor, *line)??;
+        apply(alloc, auditor, *line)?;
     }
     Ok(())
 }
@@ -116,14 +112,21 @@ pub(super) fn auditor_after(alloc: Global, lines: &[Line<'_>]) -> Result<Auditor
     Ok(auditor)
 }
 
-pub(super) fn collect<R: Threads + Sync>(
-    rt: &R,
-    auditor: &mut Auditor,
-) -> Result<Collection, Fail> {
+fn collect<R: Threads + Sync>(rt: &R, auditor: &mut Auditor) -> Result<Collection, Fail> {
     if auditor.collections() >= 1_000 {
         return Err("too many collections".into());
     }
     Ok(auditor.collect(rt, &OpenGate)?)
+}
+
+/// What the report says of the next collection.
+pub(super) fn report_of_next<R: Threads + Sync>(
+    rt: &R,
+    alloc: Global,
+    auditor: &mut Auditor,
+) -> Result<String, Fail> {
+    let collection = collect(rt, auditor)?;
+    text_of(alloc, &collection)
 }
 
 /// The lines of the report on the collection.
