@@ -1,0 +1,38 @@
+//! Makes a snapshot of the heap of a trace on standard input, or a trace of a snapshot, and writes it to standard output.
+#![tactic(auto)]
+
+use console::{
+    NO_WORDS, NoWords, Remembering, borrowed_words, exit_code, owned_words, tell, tell_no_words,
+};
+use heap_base::{Status, StdSink, StdSource};
+use heap_snapshot::snap_run;
+use std::process::ExitCode;
+
+const PROGRAM: &str = "gcsnap";
+
+fn main(rt: HostRuntime) -> ExitCode {
+    let owned = match owned_words(&rt) {
+        Ok(owned) => owned,
+        // Where there is no memory for the words nothing is written, on either stream.
+        Err(NoWords::OutOfMemory) => return exit_code(Status::NoMemory),
+        Err(NoWords::NotText) => {
+            tell_no_words(&rt, PROGRAM);
+            return ExitCode::from(NO_WORDS);
+        }
+    };
+    let Ok(words) = borrowed_words(rt.alloc(), &owned) else {
+        return exit_code(Status::NoMemory);
+    };
+    let mut stdin = Remembering::over(rt.stdin());
+    let mut stdout = Remembering::over(rt.stdout());
+    let mut source = StdSource::over(&mut stdin);
+    let mut sink = StdSink::over(&mut stdout);
+    let status = snap_run(rt.alloc(), &words, &mut source, &mut sink);
+    match status {
+        Status::Usage => {
+            let _ = eprintln!(rt; "{PROGRAM}: one word is taken, from-trace or to-trace");
+        }
+        _ => tell(&rt, PROGRAM, status, stdin.why(), stdout.why()),
+    }
+    exit_code(status)
+}
