@@ -1,11 +1,11 @@
 #!/usr/bin/env python3
 """Times a whole `rt ci` from nothing: processor time by crate and by kind, and the dearest checks of each kind.
 
-Usage: bench/gate.py [WORDS OF rt ci]     (where nothing is said: --anew, if the kit's rt ci keeps work from run to run and has that word)
+Usage: bench/gate.py [--plot FILE] [WORDS OF rt ci]     (where no word is said: --anew, if the kit's rt ci keeps work from run to run and has it)
 What rt ci prints comes first, as it is. Then stands for each crate the processor time, user and system together, of its own proof, of the
 proof of it with its tests, and of its edits that must be refused. A check is a process `rattle` below rt ci, and is looked at five times a second,
 so what it does after the last look is missed. The whole time is that of the kernel: what it has more than the table is rt ci itself, programs and tests
-that ran, and what was missed. Linux only. Nothing here is part of the gate.
+that ran, and what was missed. A picture of the dearest crates goes to FILE, as SVG. Linux only. Nothing here is part of the gate.
 """
 import collections
 import os
@@ -17,10 +17,13 @@ import time
 from dataclasses import dataclass
 from pathlib import Path
 
+from plot import bars
+
 TOP = Path(__file__).resolve().parent.parent
 KINDS = ("own proof", "tests", "edits", "build")
 EVERY = 0.2
 DEAREST = 5
+PLOTTED = 15
 TICK = os.sysconf("SC_CLK_TCK")
 
 
@@ -146,10 +149,22 @@ def crates_in_order():
     return [row[0] for row in rows if row]
 
 
-def table(checks):
+def times_of(checks):
     spent = collections.defaultdict(float)
     for check in checks:
         spent[check.crate, check.kind] += check.processor
+    return spent
+
+
+def plot(path, checks):
+    """The crates that took most."""
+    spent = times_of(checks)
+    rows = [(crate, [spent[crate, kind] / 60 for kind in KINDS[:3]]) for crate in {crate for crate, _ in spent}]
+    bars(path, "Processor minutes of a whole gate: the dearest crates", KINDS[:3], sorted(rows, key=lambda row: -sum(row[1]))[:PLOTTED])
+
+
+def table(checks):
+    spent = times_of(checks)
     found = {crate for crate, _ in spent}
     yield "Processor time, minutes and seconds"
     yield f"| {'Crate':<18} | " + " | ".join(f"{kind:>9}" for kind in (*KINDS, "all")) + " |"
@@ -179,7 +194,10 @@ def words_for_all():
 
 
 def main():
-    words = sys.argv[1:] or words_for_all()
+    words, picture = sys.argv[1:], None
+    if words[:1] == ["--plot"]:
+        picture, words = words[1], words[2:]
+    words = words or words_for_all()
     begun = time.monotonic()
     child = subprocess.Popen(["rt", "ci", *words], cwd=TOP, stdin=subprocess.DEVNULL)
     watch = Watch(child.pid)
@@ -191,6 +209,8 @@ def main():
     used = resource.getrusage(resource.RUSAGE_CHILDREN)
     checks = list(watch.checks.values())
     print("\n".join(["", *table(checks), "", *dearest(checks), ""]))
+    if picture:
+        plot(picture, checks)
     print(f"{' '.join(['rt', 'ci', *words])} ended with status {status} after {clock(took)} on {len(os.sched_getaffinity(0))} processors;")
     print(f"processor time {clock(used.ru_utime + used.ru_stime)} (user {clock(used.ru_utime)}, system {clock(used.ru_stime)})")
     sys.exit(status)

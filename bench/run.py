@@ -1,9 +1,9 @@
 #!/usr/bin/env python3
 """Runs the built program over large traces, and prints lines and megabytes a second and peak memory.
 
-Usage: bench/run.py [--small] [--before PROGRAM]     (--small: a tenth of the sizes)
+Usage: bench/run.py [--small] [--before PROGRAM] [--plot FILE]     (--small: a tenth of the sizes)
 Where another program is named, as one built before, it runs over the same traces in turn: the last columns say how many times as long
-it took, and its peak of memory.
+it took, and its peak of memory. A picture of the times beside plain Rust goes to FILE, as SVG.
 The program must be built: ./gcaudit < examples/first.jsonl builds it. Nothing here is part of the gate.
 Each trace is run at one size and at twice that size, so that the ratio of the two times can be read;
 `wc -l` over the same file, in the same run, is the yardstick for the machine. Where cargo can build it, the plain
@@ -16,6 +16,8 @@ import sys
 import tempfile
 import threading
 import time
+
+from plot import bars
 
 TOP = os.path.dirname(os.path.dirname(os.path.abspath(__file__)))
 PROGRAM = os.path.join(TOP, "crates", "gcaudit", "out", "gcaudit")
@@ -177,7 +179,7 @@ def main():
     plain = plain_rust()
     if plain is None:
         print("bench/plain_rust can't be built here: its column stays empty")
-    scale = 10 if "--small" in sys.argv else 1
+    scale, plotted = 10 if "--small" in sys.argv else 1, []
     shapes = [(chain, 200_000), (tree, 250_000), (sparse, 250_000), (collections, 150_000), (roots, 250_000), (names, 250_000), (long_names, 130_000), (lone_roots, 130_000), (service, 100_000)]
     print(f'{"trace":<12} {"lines":>9} {"MB":>6} {"lines/s":>10} {"MB/s":>6} {"peak MB":>8} {"x wc -l":>8} {"x plain Rust":>12} {"x only read":>11} {"twice":>6} {"earlier":>8} {"its MB":>7}  end')
     with tempfile.TemporaryDirectory() as folder:
@@ -202,8 +204,11 @@ def main():
                 if others:
                     ratio = f"{seconds / others[0][0]:.2f}" if others[0][3] == output else "DIFFERS"
                     only_read = f"{seconds / others[1][0]:.2f}"
+                    plotted.append((f"{shape.__name__}, {lines:,} lines", [seconds / other[0] for other in others]))
                 end = output.decode().splitlines()[-1] if output else f"status {status}"
                 print(f"{shape.__name__:<12} {lines:>9} {megabytes:>6.1f} {lines / seconds:>10.0f} {megabytes / seconds:>6.1f} {peak / 1024:>8.1f} {seconds / counted[0]:>8.1f} {ratio:>12} {only_read:>11} {twice:>6} {then:>16}  {end}", flush=True)
+    if "--plot" in sys.argv:
+        bars(sys.argv[sys.argv.index("--plot") + 1], "Time of gcaudit beside plain Rust, one worker", ("as a part of plain Rust's time", "as a part of only reading's"), plotted, mark=1)
 
 
 if __name__ == "__main__":

@@ -1,14 +1,15 @@
 #!/usr/bin/env python3
 """Runs the built program with 1, 2 and 4 workers over large traces, and prints times, their ratios, and peak memory.
 
-Usage: bench/workers.py [--small] [--before PROGRAM]     (--small: a tenth of the sizes)
+Usage: bench/workers.py [--small] [--before PROGRAM] [--plot FILE]     (--small: a tenth of the sizes)
 Where another program is named, as one built before, it runs over the same trace in turn, without an option for workers; its
-time is that of the last column. The program must be built. Nothing here is part of the gate.
+time is that of the last column. A picture of the ratios goes to FILE, as SVG. The program must be built. Nothing here is part of the gate.
 """
 import os
 import sys
 import tempfile
 
+from plot import bars
 from run import PROGRAM, TRIES, alloc, chain, store, timed, tree
 
 WORKERS = (1, 2, 4)
@@ -68,7 +69,7 @@ def owned_service(n):
 
 def main():
     before = sys.argv[sys.argv.index("--before") + 1] if "--before" in sys.argv else None
-    scale = 10 if "--small" in sys.argv else 1
+    scale, plotted = 10 if "--small" in sys.argv else 1, []
     shapes = [(chain, 200_000), (tree, 500_000), (mesh, 300_000), (hub, 300_000), (small_heaps, 150_000), (owned_service, 100_000)]
     commands = [[PROGRAM, "--workers", str(workers)] for workers in WORKERS] + ([[before]] if before else [])
     print(f'{"trace":<14} {"seconds":>8} ' + " ".join(f"{w} workers" for w in WORKERS[1:]) + f'  {"peak MB":>8} {"with 4":>8} {"before":>7}  end')
@@ -82,9 +83,12 @@ def main():
             outputs = {run[3] for run in best[:len(WORKERS)]}
             first = best[0]
             ratios = " ".join(f"{run[0] / first[0]:>9.2f}" for run in best[1:len(WORKERS)])
+            plotted.append((shape.__name__.replace("_", " "), [run[0] / first[0] for run in best[1:len(WORKERS)]]))
             old = f"{best[-1][0] / first[0]:7.2f}" if before else ""
             same = "" if len(outputs) == 1 else "REPORTS DIFFER "
             print(f"{shape.__name__:<14} {first[0]:>8.2f} {ratios}  {first[1] / 1024:>8.1f} {best[len(WORKERS) - 1][1] / 1024:>8.1f} {old:>7}  {same}{first[3].decode().splitlines()[-1]}", flush=True)
+    if "--plot" in sys.argv:
+        bars(sys.argv[sys.argv.index("--plot") + 1], "Time of whole runs, as a part of one worker's", [f"{workers} workers" for workers in WORKERS[1:]], plotted, mark=1)
 
 
 if __name__ == "__main__":

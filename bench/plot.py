@@ -1,0 +1,41 @@
+"""A table of numbers as a picture: for each row a bar for each column, in one SVG without scripts or fonts of its own."""
+from xml.sax.saxutils import escape
+
+_LEFT, _WIDTH, _BAR, _GAP, _TOP = 170, 460, 11, 12, 64
+_COLOURS = ("#2f6f9f", "#d98c2b", "#7a9a3a", "#9a4f7a")
+
+
+def bars(path, title, columns, rows, mark=None):
+    """Writes the picture: `rows` are pairs of a name and a number for each of the columns, None where there is none.
+
+    `mark` is a number at which a line stands, as 1 in a picture of ratios.
+    """
+    most = max([value for _, values in rows for value in values if value is not None] + [mark or 0])
+    scale = _WIDTH / most if most else 0
+    parts, y = [], _TOP
+    for name, values in rows:
+        middle = y + len(columns) * _BAR / 2 + 4
+        parts.append(f'<text x="{_LEFT - 8}" y="{middle:.0f}" text-anchor="end">{escape(name)}</text>')
+        for value, colour in zip(values, _COLOURS):
+            if value is not None:
+                parts.append(f'<rect x="{_LEFT}" y="{y}" width="{max(1, value * scale):.1f}" height="{_BAR - 1}" fill="{colour}"/>')
+                parts.append(f'<text x="{_LEFT + value * scale + 5:.0f}" y="{y + _BAR - 2}" class="number">{_short(value)}</text>')
+            y += _BAR
+        y += _GAP
+    if mark is not None:
+        parts.append(f'<line x1="{_LEFT + mark * scale:.1f}" x2="{_LEFT + mark * scale:.1f}" y1="{_TOP - 6}" y2="{y - _GAP + 6}" stroke="#555" stroke-dasharray="4 3"/>')
+    x = _LEFT
+    for column, colour in zip(columns, _COLOURS):
+        parts.append(f'<rect x="{x}" y="36" width="10" height="10" fill="{colour}"/><text x="{x + 15}" y="45">{escape(column)}</text>')
+        x += 30 + 7 * len(column)
+    width = max(_LEFT + _WIDTH + 60, x)
+    with open(path, "w", encoding="utf-8") as file:
+        file.write(f'<svg xmlns="http://www.w3.org/2000/svg" viewBox="0 0 {width} {y}" width="{width}" height="{y}" role="img">\n'
+                   f"<title>{escape(title)}</title>\n"
+                   "<style>text{font:12px sans-serif;fill:#222}.number{font-size:10px}.title{font-weight:bold;font-size:14px}</style>\n"
+                   f'<rect width="{width}" height="{y}" fill="#fff"/><text x="12" y="20" class="title">{escape(title)}</text>\n'
+                   + "\n".join(parts) + "\n</svg>\n")
+
+
+def _short(value):
+    return f"{value:.2f}" if value < 10 else f"{value:.0f}"
