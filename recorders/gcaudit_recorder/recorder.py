@@ -449,29 +449,32 @@ class Recorder:
         walk.find_proxied()
         now, known = walk.now, self._known
         old_places = {number: place for place, number in enumerate(known.numbers) if number}
-        text, starts = self._labels.text, now.starts
+        endings = list(map(self._trace.ending, self._labels.texts))
+        start = 0
         for place, number in enumerate(now.numbers):
+            first, start = start, now.starts[place + 1]
             old = old_places.get(number)
-            if old is None and starts[place] == starts[place + 1] and number not in now.proxied:
-                continue
-            slots = now.slots(place)
-            if old is None:
-                if len(slots) <= now.rooms[place]:
-                    self._trace.fill(number, [(text(label) if to else "", to, label == WEAK_LABEL) for to, label in slots])
-                else:
-                    self._write_slots(now, place, [], slots)
-                continue
-            more = known.more.get(number)
-            if more is not None:
-                now.more[number] = more
-            if number in known.owns:
-                now.owns.add(number)
-            was = known.slots(old)
-            if was != slots:
-                self._write_slots(now, place, was, slots)
+            if old is not None:
+                self._write_changes(now, place, old)
+            elif number in now.proxied:
+                self._write_slots(now, place, [], now.slots(place))
+            elif first != start:    # a new object has room for all that it holds
+                self._trace.fill_by_endings(number, now.fillings(first, start, endings))
         for place in walk.gone():
             if known.numbers[place] in known.owns:  # gcaudit traces from it, until this collection frees it
                 self._write_slots(known, place, known.slots(place), [])
+
+    def _write_changes(self, now: Traced, place: int, old: int) -> None:
+        """Writes what an object holds now and didn't hold at the last collection."""
+        number, known = now.numbers[place], self._known
+        more = known.more.get(number)
+        if more is not None:
+            now.more[number] = more
+        if number in known.owns:
+            now.owns.add(number)
+        was, slots = known.slots(old), now.slots(place)
+        if was != slots:
+            self._write_slots(now, place, was, slots)
 
     def _write_slots(self, traced: Traced, place: int, was: List[Tuple[int, int]], slots: List[Tuple[int, int]]) -> None:
         """Writes the slots that differ from what the trace has."""

@@ -75,6 +75,12 @@ class Traced:
         to = self.proxied.get(numbers[place])
         return found if to is None else found + [(to, WEAK_LABEL)]
 
+    def fillings(self, first: int, end: int, endings: List[str]) -> List[Tuple[str, int, bool]]:
+        """The same of a new object that holds these edges, as `TraceWriter.fill_by_endings` takes it; `endings` has those of the labels that are texts."""
+        numbers = self.numbers
+        return [(endings[label] if label >= 0 else ',"label":"[%d]"}\n' % (-1 - label), 0 if to == _NONE else numbers[to], label == WEAK_LABEL)
+                for to, label in zip(self.targets[first:end], self.labels[first:end])]
+
 
 class Walk:
     """What the roots, the owners and the assertions of a recorder lead to, nearest first."""
@@ -175,7 +181,8 @@ class Walk:
     def _end_object(self, found: List[Tuple[Label, Any]], shape: Shape) -> None:
         """Notes what the next object holds: what was met for the first time is put behind the others."""
         place = self._read
-        obj, now, place_of = self.objects[place], self.now, self.now.place_of
+        objects, now, place_of, first_edges = self.objects, self.now, self.now.place_of, self.first_edges
+        obj = objects[place]
         targets, labels, number_of, recorded_of, is_traced = now.targets, now.labels, self._labels.number, self._recorded, self.is_traced
         for label, held in found:
             kind = type(held)
@@ -191,11 +198,16 @@ class Walk:
                 continue
             to = place_of.get(id(held))
             if to is None:
-                to = self._put(held, True, len(targets))
+                to = place_of[id(held)] = len(objects)
+                objects.append(held)
+                first_edges.append(len(targets))
+                is_traced.append(1)
             elif not is_traced[to]:
                 is_traced[to] = 1       # an owner that nothing had reached so far
             targets.append(to)
             labels.append(-1 - label if type(label) is int else number_of(label))
+        if len(objects) > MOST_OBJECTS:
+            raise self._too_many()
         now.starts.append(len(targets))
         self.shapes.append(shape)
         self.sizes.append(size_of(obj, shape, found))

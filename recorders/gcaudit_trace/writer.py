@@ -160,14 +160,23 @@ class TraceWriter:
         labelled = ',"label":' + self._quote(label) if label else ""
         self._write(f'{{"op":"store","at":{at},"slot":{slot},"to":{held}{labelled}}}\n')
 
+    def ending(self, label: str) -> str:
+        """How the line of a store with this label ends."""
+        return ',"label":%s}\n' % (self._quoted.get(label) or self._quote(label))
+
     def fill(self, at: int, contents: Iterable[Tuple[str, int, bool]]) -> None:
         """Fills the slots of a new object from the first on: label, the object that is held or 0, whether weakly."""
-        quoted, quote, lines = self._quoted.get, self._quote, []
-        for slot, (label, to, weak) in enumerate(contents):
+        ending = self.ending
+        self.fill_by_endings(at, [(ending(label) if to else "", to, weak) for label, to, weak in contents])
+
+    def fill_by_endings(self, at: int, contents: Iterable[Tuple[str, int, bool]]) -> None:
+        """The same, with the endings of the labels in their place."""
+        lines, head = [], f'{{"op":"store","at":{at},"slot":'
+        for slot, (ending, to, weak) in enumerate(contents):
             if weak:
                 lines.append(f'{{"op":"set-weak","at":{at},"slot":{slot},"weak":true}}\n')
             if to:
-                lines.append(f'{{"op":"store","at":{at},"slot":{slot},"to":{to},"label":{quoted(label) or quote(label)}}}\n')
+                lines.append(f'{head}{slot},"to":{to}{ending}')
         if lines:
             self._write("".join(lines))
 
