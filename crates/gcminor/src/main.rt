@@ -1,0 +1,44 @@
+//! Makes minor and full collections over a trace on standard input, and writes a line for each to standard output.
+#![tactic(auto)]
+
+use console::{
+    NO_WORDS, NoWords, Remembering, borrowed_words, exit_code, owned_words, tell, tell_no_words,
+};
+use heap_base::{Status, StdSink, StdSource};
+use minor_gc::minor_run;
+use std::process::ExitCode;
+
+const PROGRAM: &str = "gcminor";
+
+fn main(rt: HostRuntime) -> ExitCode {
+    let owned = match owned_words(&rt) {
+        Ok(owned) => owned,
+        // Where there is no memory for the words nothing is written, on either stream.
+        Err(NoWords::OutOfMemory) => return exit_code(Status::NoMemory),
+        Err(NoWords::NotText) => {
+            tell_no_words(&rt, PROGRAM);
+            return ExitCode::from(NO_WORDS);
+        }
+    };
+    let Ok(words) = borrowed_words(rt.alloc(), &owned) else {
+        return exit_code(Status::NoMemory);
+    };
+    let mut stdin = Remembering::over(rt.stdin());
+    let mut stdout = Remembering::over(rt.stdout());
+    let mut source = StdSource::over(&mut stdin);
+    let mut sink = StdSink::over(&mut stdout);
+    let status = minor_run(rt.alloc(), &words, &mut source, &mut sink);
+    match status {
+        Status::Usage => tell_usage(&rt, &words),
+        _ => tell(&rt, PROGRAM, status, stdin.why(), stdout.why()),
+    }
+    exit_code(status)
+}
+
+// Tells a person on standard error which word is refused: the program takes none.
+fn tell_usage(rt: &HostRuntime, words: &[&str]) {
+    let _ = match words.get(1) {
+        Some(word) => eprintln!(rt; "{PROGRAM}: it takes no words, and there is '{word}'"),
+        None => eprintln!(rt; "{PROGRAM}: there is no name of the program"),
+    };
+}
