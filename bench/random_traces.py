@@ -1,7 +1,8 @@
 #!/usr/bin/env python3
 """Compares the built program with a plain reading of the definitions, on random traces of all operations.
 
-Usage: bench/random_traces.py [COUNT] [FIRST_SEED]     (1,000 traces from seed 1 where nothing is said)
+Usage: bench/random_traces.py [gcminor] [COUNT] [FIRST_SEED]     (1,000 traces from seed 1 where nothing is said)
+With the word gcminor it compares that program in place of gcaudit, on traces of what it takes.
 Each trace is made from its seed alone, so a seed that is printed can be run again. It has some hundred operations of
 all kinds and several collections. `report_of` below follows docs/DEFINITIONS.md and the specs it names, by sets and
 by ids, with no care for speed. Of three traces one is audited with each reaction, and of five one with few paths. The program
@@ -16,6 +17,7 @@ import sys
 
 TOP = os.path.dirname(os.path.dirname(os.path.abspath(__file__)))
 PROGRAM = os.path.join(TOP, "crates", "gcaudit", "out", "gcaudit")
+MINOR_PROGRAM = os.path.join(TOP, "crates", "gcminor", "out", "gcminor")
 WORKERS = (1, 2, 3, 16)
 PATHS = 100
 END_STEPS = 32
@@ -357,6 +359,122 @@ def random_trace(seed):
     return events
 
 
+# ---- minor collections
+
+
+class YoungHeap(Heap):
+    """The heap of a trace of gcminor, with its young objects."""
+
+    def __init__(self):
+        super().__init__()
+        self.young = set()
+
+    def step(self, e):
+        if e["op"] not in ("alloc", "store", "root"):
+            raise Refused("UnknownOp")
+        super().step(e)
+        if e["op"] == "alloc":
+            self.young.add(e["id"])
+
+    def holds_young(self, x):
+        return any(y in self.young for _, y in self.edges(x))
+
+    def remembered(self):
+        return [x for x in sorted(self.kind) if x not in self.young and self.holds_young(x)]
+
+    def collect(self, number):
+        live, remembered, starts = len(self.kind), self.remembered(), set(self.roots.values())
+        if number % 4 == 0:
+            kept = self.reach(starts, lambda x: True)
+        else:
+            old = set(self.kind) - self.young
+            starts |= {y for x in old for _, y in self.edges(x)}
+            kept = old | self.young_reach(starts & self.young)
+        self.kind = {x: self.kind[x] for x in self.kind if x in kept}
+        self.slots = {x: [[y if y in kept else None, weak] for y, weak in self.slots[x]] for x in self.kind}
+        self.young = set()
+        freed = live - len(self.kind)
+        return f"full {number} live {live} freed {freed}" if number % 4 == 0 else f"minor {number} live {live} freed {freed} remembered {len(remembered)}"
+
+    def young_reach(self, starts):
+        met, work = set(starts), list(starts)
+        while work:
+            for _, y in self.edges(work.pop()):
+                if y in self.young and y not in met:
+                    met.add(y)
+                    work.append(y)
+        return met
+
+
+def minor_report_of(events):
+    """The lines that gcminor must print, and its status."""
+    heap, lines, collections = YoungHeap(), [], 0
+    for number, event in enumerate(events, 1):
+        if event["op"] == "collect":
+            collections += 1
+            lines.append(heap.collect(collections))
+            continue
+        try:
+            heap.step(event)
+        except Refused as refusal:
+            return [*lines, f"fault line {number}: {refusal}"], 2
+    return [*lines, f"end gcs {collections}"], 0
+
+
+def random_minor_trace(seed):
+    """Operations that gcminor takes; one trace in ten has a line that is refused."""
+    rng = random.Random(seed)
+    heap, greatest, events, collections = YoungHeap(), 0, [], 0
+    roots = [f"r{n}" for n in range(rng.randint(1, 8))]
+    size, most_slots = rng.randint(10, 250), rng.choice((1, 2, 4))
+    collect_often = rng.choice((0.02, 0.06, 0.15))
+    refuse_at = rng.randint(1, size) if rng.random() < 0.1 else None
+    for n in range(size):
+        live, roll = list(heap.kind), rng.random()
+        holders = [x for x in live if heap.slots[x]]
+        if refuse_at is not None and n >= refuse_at:
+            event = rng.choice(({"op": "store", "at": greatest + 1, "slot": 0, "to": None}, {"op": "assert-dead", "id": greatest + 1}, {"op": "alloc", "id": max(greatest, 1), "type": "K"} if greatest else {"op": "start-region"}))
+        elif roll < collect_often:
+            event = {"op": "collect"}
+        elif not live or roll < 0.4:
+            greatest += rng.choice((1, 1, 1, 2, 7))
+            event = {"op": "alloc", "id": greatest, "type": f"K{rng.randint(0, 3)}", "slots": rng.randint(0, most_slots)}
+        elif roll < 0.85 and holders:
+            at = rng.choice(holders)
+            event = {"op": "store", "at": at, "slot": rng.randrange(len(heap.slots[at])), "to": rng.choice(live) if rng.random() < 0.75 else None}
+        else:
+            event = {"op": "root", "name": rng.choice(roots), "to": rng.choice(live) if rng.random() < 0.6 else None}
+        events.append(event)
+        if event["op"] == "collect":
+            collections += 1
+            heap.collect(collections)
+        else:
+            try:
+                heap.step(event)
+            except Refused:
+                break
+    events.append({"op": "collect"})
+    return events
+
+
+def minor_main(count, first):
+    wrong = collections = 0
+    for seed in range(first, first + count):
+        events = random_minor_trace(seed)
+        lines, status = minor_report_of(events)
+        collections += sum(1 for line in lines if " live " in line)
+        trace = "".join(json.dumps(e, separators=(",", ":")) + "\n" for e in events).encode()
+        run = subprocess.run([MINOR_PROGRAM], input=trace, capture_output=True, timeout=120)
+        if (run.stdout, run.returncode) != (("\n".join(lines) + "\n").encode(), status):
+            wrong += 1
+            print(f"seed {seed}: status {run.returncode}, not {status}\n  got  {run.stdout.decode().splitlines()}\n  want {lines}")
+    print(f"{count} traces of gcminor from seed {first}: {collections} collections, {wrong} wrong")
+    sys.exit(1 if wrong else 0)
+
+
+# ---- comparing
+
+
 def differs(words, trace, expected):
     """Runs the program with these words and each number of workers, and says where it first differs, or None."""
     lines, status = expected
@@ -371,6 +489,9 @@ def differs(words, trace, expected):
 
 
 def main():
+    if sys.argv[1:2] == ["gcminor"]:
+        numbers = [int(word) for word in sys.argv[2:4]]
+        minor_main(*(numbers + [1000, 1][len(numbers):]))
     count = int(sys.argv[1]) if len(sys.argv) > 1 else 1000
     first = int(sys.argv[2]) if len(sys.argv) > 2 else 1
     wrong = verdicts = 0
