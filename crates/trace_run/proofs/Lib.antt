@@ -1,6 +1,6 @@
 pub mod Causes
 pub mod Endings
 mod Lines
-mod Progress
+pub mod Progress
 pub mod Runs
 mod Turns
