@@ -1,0 +1,4 @@
+pub mod Digits
+pub mod Events
+pub mod Lines
+pub mod Running

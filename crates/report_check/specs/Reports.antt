@@ -1,0 +1,44 @@
+-- How a report compares with the one that is defined for a trace.
+use Rattle.std.specs.Prelude.{ℕ, List, Option, IfSome, codes, ◌++◌, decimal}
+use Rattle.std.specs.Io.KnownBytes.{Keeps}
+use Rattle.heap_base.specs.Streams.{Stream}
+use Rattle.heap_base.specs.declared.status.Status.{Status}
+use Rattle.heap_base.specs.declared.status.Status.TheVariants.{Clean, Violated, NoMemory}
+use Rattle.heap_base.specs.declared.limits.TheConstants.{LONGEST_TRACE}
+use Rattle.graph_meaning.specs.declared.reaction.React.TheVariants.{Report}
+use Rattle.trace_reader.specs.Items.{items_of}
+use Rattle.report.specs.Report.{report_of}
+use Rattle.trace_run.specs.Outcome.{WritesOnce}
+use Rattle.trace_run.specs.Program.{report_by}
+use Rattle.audit_program.specs.Audits.{AuditState, audit_meaning, rules_by}
+use Rattle.text_comparison.specs.Comparing.{Tells}
+use Rattle.text_comparison.specs.declared.outcome.Compared.{Compared}
+use Rattle.text_comparison.specs.declared.outcome.Compared.TheVariants.{Equal, Differs}
+
+-- the report on these bytes of a trace that shows so many paths of each collection
+abbrev pub report_text : ℕ → List ℕ → List ℕ
+report_text paths bytes = report_of (rules_by paths Report) (items_of LONGEST_TRACE bytes)
+
+-- The report of a source compares so with that on the trace of another, where both tell their bytes.
+abbrev pub TellsOfReports : ℕ → Option (List ℕ) → Option (List ℕ) → Compared → Type 0
+TellsOfReports paths trace report compared = IfSome trace (λ bytes. Tells report (report_text paths bytes) compared)
+
+-- The report of a source compares so with that of the run from a state over the trace of another, where both tell their bytes.
+abbrev pub TellsOfRun : AuditState → Option (List ℕ) → Option (List ℕ) → Compared → Type 0
+TellsOfRun first trace report compared =
+    IfSome trace (λ bytes. Tells report (report_by audit_meaning first (items_of LONGEST_TRACE bytes)).text compared)
+
+-- the line that says how they compare
+abbrev pub line_of : Compared → List ℕ
+line_of Equal = codes "report equal\n"
+line_of (Differs n) = codes "report differs at byte " ++ decimal n ++ codes "\n"
+
+-- the status of a check by how they compare
+abbrev pub status_of : Compared → Status
+status_of Equal = Clean
+status_of (Differs n) = Violated
+
+-- The line was appended, or a beginning of it where the sink failed, or nothing where memory ran out.
+abbrev pub Writes : Compared → Stream → Stream → Status → Type 0
+Writes compared old new NoMemory = Keeps old.bytes new.bytes
+Writes compared old new answer = WritesOnce (line_of compared) (status_of compared) old new answer

@@ -1,0 +1,16 @@
+//! The checker of reports: whether a report is the one that is defined for a trace. It runs the trace on one thread, by collections that know no
+//! crew, and compares text by text.
+#![tactic(auto)]
+
+mod checking;
+mod comparing;
+mod due;
+mod laws;
+mod line;
+mod outcome;
+mod top_call;
+mod words;
+
+pub use laws::a_check_without_faults_ends;
+pub use top_call::check_run;
+pub use words::{MOST_DIGITS, MOST_PATHS};
