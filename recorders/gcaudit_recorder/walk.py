@@ -198,7 +198,10 @@ class Walk:
                 continue
             to = place_of.get(id(held))
             if to is None:
-                to = place_of[id(held)] = len(objects)
+                to = len(objects)
+                if to >= MOST_OBJECTS:
+                    raise self._too_many()
+                place_of[id(held)] = to
                 objects.append(held)
                 first_edges.append(len(targets))
                 is_traced.append(1)
@@ -206,8 +209,6 @@ class Walk:
                 is_traced[to] = 1       # an owner that nothing had reached so far
             targets.append(to)
             labels.append(-1 - label if type(label) is int else number_of(label))
-        if len(objects) > MOST_OBJECTS:
-            raise self._too_many()
         now.starts.append(len(targets))
         self.shapes.append(shape)
         self.sizes.append(size_of(obj, shape, found))
