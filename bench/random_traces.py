@@ -1,8 +1,9 @@
 #!/usr/bin/env python3
 """Compares the built program with a plain reading of the definitions, on random traces of all operations.
 
-Usage: bench/random_traces.py [gcminor] [COUNT] [FIRST_SEED]     (1,000 traces from seed 1 where nothing is said)
-With the word gcminor it compares that program in place of gcaudit, on traces of what it takes.
+Usage: bench/random_traces.py [gcminor|gccheck] [COUNT] [FIRST_SEED]     (1,000 traces from seed 1 where nothing is said)
+With the word gcminor it compares that program in place of gcaudit, on traces of what it takes. With gccheck it has the reports of gcaudit checked, with one
+number of workers each, and once more with a byte changed, whose place must be named.
 Each trace is made from its seed alone, so a seed that is printed can be run again. It has some hundred operations of
 all kinds and several collections. `report_of` below follows docs/DEFINITIONS.md and the specs it names, by sets and
 by ids, with no care for speed. Of three traces one is audited with each reaction, and of five one with few paths. The program
@@ -14,9 +15,11 @@ import os
 import random
 import subprocess
 import sys
+import tempfile
 
 TOP = os.path.dirname(os.path.dirname(os.path.abspath(__file__)))
 PROGRAM = os.path.join(TOP, "crates", "gcaudit", "out", "gcaudit")
+CHECKER = os.path.join(TOP, "crates", "gccheck", "out", "gccheck")
 MINOR_PROGRAM = os.path.join(TOP, "crates", "gcminor", "out", "gcminor")
 WORKERS = (1, 2, 3, 16)
 PATHS = 100
@@ -488,10 +491,33 @@ def differs(words, trace, expected):
     return None
 
 
+def check_main(count, first):
+    """Has the reports of random traces checked."""
+    wrong = 0
+    with tempfile.TemporaryDirectory() as folder:
+        trace, report = (os.path.join(folder, name) for name in ("trace", "report"))
+        for seed in range(first, first + count):
+            with open(trace, "w") as file:
+                file.writelines(json.dumps(e, separators=(",", ":")) + "\n" for e in random_trace(seed))
+            paths = str(PATHS if seed % 5 else seed % 7)
+            with open(trace, "rb") as given:
+                said = subprocess.run([PROGRAM, "--workers", str(WORKERS[seed % len(WORKERS)]), "--paths", paths], stdin=given, stdout=subprocess.PIPE).stdout
+            at = seed * 7919 % len(said)
+            for text, want in ((said, (b"report equal\n", 0)), (said[:at] + bytes([said[at] ^ 1]) + said[at + 1:], (b"report differs at byte %d\n" % (at + 1), 1))):
+                with open(report, "wb") as file:
+                    file.write(text)
+                ran = subprocess.run([CHECKER, trace, report, paths], stdout=subprocess.PIPE)
+                if (ran.stdout, ran.returncode) != want:
+                    wrong += 1
+                    print(f"seed {seed}: {ran.stdout} with status {ran.returncode}, in place of {want}")
+    print(f"{count} traces from seed {first}, each with its report and with a byte of that changed: {wrong} wrong")
+    sys.exit(1 if wrong else 0)
+
+
 def main():
-    if sys.argv[1:2] == ["gcminor"]:
+    if sys.argv[1:2] in (["gcminor"], ["gccheck"]):
         numbers = [int(word) for word in sys.argv[2:4]]
-        minor_main(*(numbers + [1000, 1][len(numbers):]))
+        (minor_main if sys.argv[1] == "gcminor" else check_main)(*(numbers + [1000, 1][len(numbers):]))
     count = int(sys.argv[1]) if len(sys.argv) > 1 else 1000
     first = int(sys.argv[2]) if len(sys.argv) > 2 else 1
     wrong = verdicts = 0
