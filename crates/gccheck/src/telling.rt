@@ -24,8 +24,12 @@ pub fn tell_memory(rt: &HostRuntime) {
 /// Which of the words are refused, by how many there are, the program's name among them.
 pub fn tell_words(rt: &HostRuntime, count: usize) {
     let _ = match count {
-        0..=2 => eprintln!(rt; "{PROGRAM}: the names of a trace and of a report are needed; --help says more"),
-        4 => eprintln!(rt; "{PROGRAM}: the number of paths is one from 0 to 10000, in at most 5 digits; --help says more"),
+        0..=2 => eprintln!(rt;
+            "{PROGRAM}: the names of a trace and of a report are needed; --help says more"
+        ),
+        4 => eprintln!(rt;
+            "{PROGRAM}: the number of paths is one from 0 to 10000, in at most 5 digits; --help says more"
+        ),
         _ => eprintln!(rt; "{PROGRAM}: there are too many words; --help says more"),
     };
 }
