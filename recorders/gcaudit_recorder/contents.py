@@ -8,7 +8,7 @@ import sys
 import types
 import weakref
 from collections import deque
-from typing import Any, Callable, Dict, Iterable, List, NamedTuple, Optional, Tuple, Union
+from typing import Any, Callable, Dict, List, NamedTuple, Optional, Tuple, Union
 
 from gcaudit_trace.names import cut, legal_name
 
@@ -29,7 +29,7 @@ _UNCHANGING = frozenset({tuple, frozenset})
 _HAS_GC = 1 << 14       # a type's objects have a head for Python's collector
 _IS_HEAP_TYPE = 1 << 9
 _GC_HEAD = 16
-_LONG_TEXT = 256        # a text or bytes of more than this count for the object that holds them
+LONG_TEXT = 256         # a text or bytes of more than this count for the object that holds them
 _OPTIMIZED = 1          # code whose variables don't stand in a dict
 _class_dict = type.__dict__["__dict__"].__get__
 _module_dict = types.ModuleType.__dict__["__dict__"].__get__
@@ -189,17 +189,13 @@ def contents(obj: Any, shape: Shape, deep: bool = False) -> List[Content]:
     return found
 
 
-def size_of(obj: Any, shape: Shape, held: Iterable[Content]) -> int:
-    """The bytes of an object: itself, its __dict__, and the long texts that it holds."""
+def size_of(obj: Any, shape: Shape) -> int:
+    """The bytes of an object itself and of its __dict__."""
     size = shape.size(obj) + shape.head
     if shape.own_dict is not None and not shape.inner:
         merged = shape.own_dict.__get__(obj)
         if type(merged) is dict:
             size += dict.__sizeof__(merged) + _GC_HEAD
-    for _, one in held:
-        kind = type(one)
-        if (kind is str or kind is bytes) and len(one) > _LONG_TEXT:
-            size += kind.__sizeof__(one)
     return size
 
 
@@ -234,7 +230,7 @@ def _items(obj: dict) -> List[Content]:
         kind = type(held)
         if kind not in PLAIN:
             found.append((key_label(key), held))
-        elif (kind is str or kind is bytes) and len(held) > _LONG_TEXT:
+        elif (kind is str or kind is bytes) and len(held) > LONG_TEXT:
             found.append(("(text)", held))
         if type(key) not in PLAIN:
             found.append(("(key)", key))

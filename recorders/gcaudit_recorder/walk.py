@@ -9,7 +9,7 @@ from gcaudit_trace.growth import Counts
 from gcaudit_trace.paths import Holder, is_between, named_holder
 from gcaudit_trace.writer import MOST_OBJECTS, TraceError
 
-from .contents import PLAIN, PROXIES, WEAK, Label, Shape, contents, object_name, shape_of, size_of
+from .contents import LONG_TEXT, PLAIN, PROXIES, WEAK, Label, Shape, contents, object_name, shape_of, size_of
 
 _NONE = 0xFFFFFFFF
 WEAK_LABEL = 0          # the number of the label WEAK
@@ -174,9 +174,15 @@ class Walk:
             if shape is None:
                 shape = shapes[type(obj)] = shape_of(obj)
             if shape.inner and not self._deep and id(obj) not in self._inner_roots:
-                self._end_object([], shape)
+                found = []
+            elif self._deep:
+                found = contents(obj, shape, True)
             else:
-                self._end_object(contents(obj, shape, self._deep), shape)
+                try:
+                    found = shape.reader(obj, shape)
+                except RuntimeError:    # another thread changed it meanwhile
+                    found = contents(obj, shape)
+            self._end_object(found, shape)
 
     def _end_object(self, found: List[Tuple[Label, Any]], shape: Shape) -> None:
         """Notes what the next object holds: what was met for the first time is put behind the others."""
@@ -184,9 +190,12 @@ class Walk:
         objects, now, place_of, first_edges = self.objects, self.now, self.now.place_of, self.first_edges
         obj = objects[place]
         targets, labels, number_of, recorded_of, is_traced = now.targets, now.labels, self._labels.number, self._recorded, self.is_traced
+        texts = 0       # the bytes of the long texts that it holds
         for label, held in found:
             kind = type(held)
             if kind in PLAIN:
+                if (kind is str or kind is bytes) and len(held) > LONG_TEXT:
+                    texts += kind.__sizeof__(held)
                 continue
             recorded = recorded_of.get(kind)
             if not recorded and (recorded is False or not self._records(held)):
@@ -211,7 +220,7 @@ class Walk:
             labels.append(-1 - label if type(label) is int else number_of(label))
         now.starts.append(len(targets))
         self.shapes.append(shape)
-        self.sizes.append(size_of(obj, shape, found))
+        self.sizes.append(size_of(obj, shape) + texts)
         if type(obj) in PROXIES:
             self._proxies[id(obj)] = place
         self._read = place + 1
