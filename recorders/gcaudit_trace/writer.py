@@ -1,4 +1,4 @@
-"""Writing a trace: a line for each operation, and a file that appears under its name only when it is whole."""
+"""Writing a trace, a line for each operation, or a heap snapshot; and a file that appears under its name only when it is whole."""
 import contextlib
 import json
 import os
@@ -11,6 +11,7 @@ MOST_SLOTS = 16777216
 MOST_ROOTS = 65536
 MOST_TYPES = 65536
 MOST_ID = 4294967295
+LONGEST_SNAPSHOT = 268435456    # bytes
 _LINES_AT_A_TIME = 4096
 
 
@@ -100,22 +101,65 @@ class Batch:
         self._lines.clear()
 
 
-class TraceWriter:
-    """Writes the operations of a trace with `write`, and refuses what gcaudit would refuse by its limits.
+class Counted:
+    """What a trace or a snapshot has so far, `what` of the two it is; refuses what gcaudit would refuse by its limits.
 
-    Names must be legal (see names.py). What is freed by a collection is told by `freed`. A trace that isn't for gcaudit
-    need not be `limited`.
+    What isn't for gcaudit need not be `limited`.
     """
 
-    def __init__(self, write: Callable[[str], Any], limited: bool = True) -> None:
-        self._write = write
+    def __init__(self, what: str, limited: bool = True) -> None:
+        self._what = what
         self._limited = limited
-        self._quoted: Dict[str, str] = {}
         self._types = set()
         self._roots = set()
         self.last_id = 0
         self.objects = 0
         self.slots = 0
+
+    def _see_type(self, type_name: str) -> None:
+        if type_name not in self._types:
+            if len(self._types) >= MOST_TYPES and self._limited:
+                raise self._too_many("%d types" % MOST_TYPES)
+            self._types.add(type_name)
+
+    def _see_object(self, type_name: str, slots: int) -> int:
+        """Counts one object more; the answer is its id."""
+        if type_name not in self._types:
+            self._see_type(type_name)
+        if self.objects >= MOST_OBJECTS and self._limited:
+            raise self._too_many("%d live objects" % MOST_OBJECTS)
+        if self.slots + slots > MOST_SLOTS and self._limited:
+            raise self._too_many("%d live slots" % MOST_SLOTS)
+        if self.last_id >= MOST_ID:
+            raise TraceError("the %s would have an id above %d, which gcaudit doesn't take" % (self._what, MOST_ID))
+        self.last_id += 1
+        self.objects += 1
+        self.slots += slots
+        return self.last_id
+
+    def _see_root(self, name: str) -> None:
+        self._roots.add(name)
+        if len(self._roots) > MOST_ROOTS and self._limited:
+            raise self._too_many("%d roots" % MOST_ROOTS)
+
+    def roots(self) -> int:
+        """How many roots there are."""
+        return len(self._roots)
+
+    def _too_many(self, what: str) -> TraceError:
+        return TraceError("the %s would have more than %s, which gcaudit doesn't take" % (self._what, what))
+
+
+class TraceWriter(Counted):
+    """Writes the operations of a trace with `write`, and refuses what gcaudit would refuse by its limits.
+
+    Names must be legal (see names.py). What is freed by a collection is told by `freed`.
+    """
+
+    def __init__(self, write: Callable[[str], Any], limited: bool = True) -> None:
+        super().__init__("trace", limited)
+        self._write = write
+        self._quoted: Dict[str, str] = {}
 
     def _quote(self, text: str) -> str:
         quoted = self._quoted.get(text)
@@ -125,29 +169,13 @@ class TraceWriter:
                 self._quoted[text] = quoted
         return quoted
 
-    def _see_type(self, type_name: str) -> None:
-        if type_name not in self._types:
-            if len(self._types) >= MOST_TYPES and self._limited:
-                raise TraceError("the trace would have more than %d types, which gcaudit doesn't take" % MOST_TYPES)
-            self._types.add(type_name)
-
     def alloc(self, type_name: str, slots: int, thread: int = 0, size: Optional[int] = None) -> int:
         """A new object; the answer is its id. Its size in bytes stands there for other readers; gcaudit ignores it."""
-        if type_name not in self._types:
-            self._see_type(type_name)
-        if self.objects >= MOST_OBJECTS and self._limited:
-            raise TraceError("the trace would have more than %d live objects, which gcaudit doesn't take" % MOST_OBJECTS)
-        if self.slots + slots > MOST_SLOTS and self._limited:
-            raise TraceError("the trace would have more than %d live slots, which gcaudit doesn't take" % MOST_SLOTS)
-        if self.last_id >= MOST_ID:
-            raise TraceError("the trace would have an id above %d, which gcaudit doesn't take" % MOST_ID)
-        self.last_id += 1
-        self.objects += 1
-        self.slots += slots
+        number = self._see_object(type_name, slots)
         on_thread = ',"thread":%d' % thread if thread else ""
         sized = "" if size is None else ',"bytes":%d' % size
-        self._write(f'{{"op":"alloc","id":{self.last_id},"type":{self._quoted.get(type_name) or self._quote(type_name)},"slots":{slots}{on_thread}{sized}}}\n')
-        return self.last_id
+        self._write(f'{{"op":"alloc","id":{number},"type":{self._quoted.get(type_name) or self._quote(type_name)},"slots":{slots}{on_thread}{sized}}}\n')
+        return number
 
     def freed(self, objects: int, slots: int) -> None:
         """A collection freed so many objects, with so many slots in all."""
@@ -187,9 +215,7 @@ class TraceWriter:
         if to is None:
             self._roots.discard(name)
         else:
-            self._roots.add(name)
-        if len(self._roots) > MOST_ROOTS and self._limited:
-            raise TraceError("the trace would have more than %d roots, which gcaudit doesn't take" % MOST_ROOTS)
+            self._see_root(name)
         self._write('{"op":"root","name":%s,"to":%s}\n' % (self._quote(name), "null" if to is None else "%d" % to))
 
     def assert_dead(self, number: int) -> None:
@@ -213,3 +239,36 @@ class TraceWriter:
 
     def collect(self) -> None:
         self._write('{"op":"collect"}\n')
+
+
+class SnapshotWriter(Counted):
+    """Writes the text of a heap snapshot, as gcsnap reads it, with `write`: each object with what it holds, then `finish` with the roots.
+
+    Names must be legal. Slots have no labels there, and a weak slot is an empty one.
+    """
+
+    def __init__(self, write: Callable[[str], Any]) -> None:
+        super().__init__("snapshot")
+        self._write_text = write
+        self._bytes = 0
+        self._write("heapsnap 1\n")
+
+    def _write(self, text: str) -> None:
+        self._bytes += len(text) if text.isascii() else len(text.encode("utf-8"))
+        if self._bytes > LONGEST_SNAPSHOT:
+            raise TraceError("the snapshot would have more than %d bytes, which gcsnap doesn't take" % LONGEST_SNAPSHOT)
+        self._write_text(text)
+
+    def object(self, type_name: str, contents: List[Tuple[str, int, bool]]) -> int:
+        """A new object, by what its slots hold: label, the object that is held or 0, whether weakly. The answer is its id."""
+        number = self._see_object(type_name, len(contents))
+        held = [f"slot {slot} {to}\n" for slot, (_, to, weak) in enumerate(contents) if to and not weak]
+        self._write(f"object {number} {len(contents)} {type_name}\n" + "".join(held))
+        return number
+
+    def finish(self, roots: Iterable[Tuple[str, int]]) -> None:
+        """The roots by name, each name once, and the end."""
+        for name, number in sorted(roots, key=lambda root: root[0].encode("utf-8")):
+            self._see_root(name)
+            self._write("root %d %s\n" % (number, name))
+        self._write("end\n")

@@ -8,7 +8,7 @@ from operator import floordiv, mod
 from typing import BinaryIO, Dict, Iterator, List, Set, Tuple
 
 from gcaudit_trace import TraceError
-from gcaudit_trace.dumps import DumpTrace, Progress, Wishes, say_left_out
+from gcaudit_trace.dumps import DumpFile, Progress, Wishes, output_of, say_left_out
 from gcaudit_trace.passing import LeftOut
 
 from .reader import Reader, read_members
@@ -246,7 +246,7 @@ class Snapshot:
         """The label of a reference of a left-out node."""
         return self._label(self._left_kinds[edge], self._left_names[edge])
 
-    def write(self, out: DumpTrace) -> None:
+    def write(self, out: DumpFile) -> None:
         """Writes the kept nodes, and behind them the joints."""
         for held, node in zip(self._holdings(), self.kept_nodes):
             out.object(self.class_of(node), self.sizes[node], held)
@@ -258,7 +258,7 @@ class Snapshot:
         weak, class_edges, label, from_all = self._weak, self._class_edges, self._label, bool(self.wishes.owners)
         number = 1
         contents: List[Tuple[str, int, bool]] = []
-        for edges in self._edges("writing the trace"):
+        for edges in self._edges("writing the objects"):
             for held, holder, kind, name in edges:
                 if not held or not holder:
                     continue
@@ -300,13 +300,13 @@ class Snapshot:
 
 
 def convert(file: BinaryIO, asked: argparse.Namespace, progress: Progress, limited: bool = True) -> None:
-    """Writes the trace of a snapshot, by the words of the command line."""
+    """Writes the trace of a snapshot of V8, or the snapshot for gcsnap, by the words of the command line."""
     wishes = Wishes(asked, limited)
     snapshot = Snapshot(file, asked.dump, wishes, progress)
     snapshot.read()
     stay = snapshot.pass_over()
-    say_left_out(snapshot.left_out, stay, snapshot.left, progress)
-    with DumpTrace(asked.trace, wishes) as out:
+    say_left_out(snapshot.left_out, stay, snapshot.left, wishes, progress)
+    with output_of(asked, wishes) as out:
         snapshot.write(out)
         if snapshot.weak_lost:
             progress.say("%d weak references to objects that are left out have no slot" % snapshot.weak_lost)

@@ -6,7 +6,7 @@ from itertools import chain
 from typing import BinaryIO, Dict, Iterable, Iterator, List, NamedTuple, Set, Tuple
 
 from gcaudit_trace import TraceError
-from gcaudit_trace.dumps import DumpTrace, Progress, Wishes, say_left_out
+from gcaudit_trace.dumps import DumpFile, Progress, Wishes, output_of, say_left_out
 from gcaudit_trace.passing import LeftOut
 
 from .codes import Codes
@@ -216,9 +216,9 @@ class Heap:
 
     # ---- the trace
 
-    def write(self, out: DumpTrace) -> None:
+    def write(self, out: DumpFile) -> None:
         """Writes the kept objects, and behind them the joints."""
-        for place in self._in_steps("writing the trace", self.kept_places):
+        for place in self._in_steps("writing the objects", self.kept_places):
             out.object(self._class_at(place), self._size_at(place), self._resolved(self.holdings(place)))
         for joint in self.left.staying():
             out.joint(self._class_at(self.left_places[joint.place]), joint)
@@ -290,13 +290,13 @@ class Heap:
 
 
 def convert(file: BinaryIO, asked: argparse.Namespace, progress: Progress, limited: bool = True) -> None:
-    """Writes the trace of a dump, by the words of the command line."""
+    """Writes the trace of a dump, or the snapshot, by the words of the command line."""
     wishes = Wishes(asked, limited)
     heap = Heap(Dump(file, asked.dump, progress), wishes, progress)
     heap.find_objects()
     stay = heap.pass_over()
-    say_left_out(heap.left_out, stay, heap.left, progress)
-    with DumpTrace(asked.trace, wishes) as out:
+    say_left_out(heap.left_out, stay, heap.left, wishes, progress)
+    with output_of(asked, wishes) as out:
         heap.write(out)
         if heap.weak_lost:
             progress.say("%d weak references to objects that are left out have no slot" % heap.weak_lost)

@@ -12,9 +12,17 @@ PROGRAMS = os.path.join(RECORDERS, "tests", "programs")
 if RECORDERS not in sys.path:
     sys.path.insert(0, RECORDERS)
 
-BUILT = os.path.join(os.path.dirname(RECORDERS), "crates", "gcaudit", "out", "gcaudit")
-PROGRAM = os.environ.get("GCAUDIT") or (BUILT if os.access(BUILT, os.X_OK) else None)
+
+
+def built(name):
+    """A program of the repository: the one that the variable of its name in capitals says, or the built one. None where there is neither."""
+    found = os.path.join(os.path.dirname(RECORDERS), "crates", name, "out", name)
+    return os.environ.get(name.upper()) or (found if os.access(found, os.X_OK) else None)
+
+
+PROGRAM, SNAPSHOTS = built("gcaudit"), built("gcsnap")
 needs_program = unittest.skipIf(PROGRAM is None, "gcaudit is not built")
+needs_snapshots = unittest.skipIf(PROGRAM is None or SNAPSHOTS is None, "gcaudit or gcsnap is not built")
 
 
 def needs_commands(*names):

@@ -16,7 +16,7 @@ import tempfile
 import unittest
 from unittest import mock
 
-from tests.support import PROGRAM, PROGRAMS, RECORDERS, InFolder, events, needs_commands, needs_program
+from tests.support import PROGRAM, PROGRAMS, RECORDERS, SNAPSHOTS, InFolder, events, needs_commands, needs_program
 
 from gcaudit_trace import audit
 from gcaudit_trace.command import Progress
@@ -132,8 +132,8 @@ class DumpTests:
     def test_a_full_disk(self):
         def limit():
             resource.setrlimit(resource.RLIMIT_FSIZE, (100000, 100000))
-        for name in ("none.jsonl", "é" * 120):
-            done = subprocess.run([sys.executable, "-B", "-m", type(self).convert.__module__, self.leak, self.path(name)], stderr=subprocess.PIPE,
+        for name, words in (("none.jsonl", []), ("é" * 120, []), ("none.snapshot", ["--snapshot"])):
+            done = subprocess.run([sys.executable, "-B", "-m", type(self).convert.__module__, self.leak, self.path(name), *words], stderr=subprocess.PIPE,
                                   env=dict(os.environ, PYTHONPATH=RECORDERS), preexec_fn=limit)
             self.assertEqual((done.returncode, os.listdir(self.folder)), (2, []))
             self.assertRegex(done.stderr.decode(), r"^(\w+: [^\n]+\n)*\w+: %s can't be written: File too large\n$" % self.path(name))
@@ -497,7 +497,7 @@ class WrittenDumps(InFolder):
 
 
 class Damaged(InFolder):
-    """1,000 damaged dumps: each is refused in a sentence with the status 2, or the trace is one that gcaudit takes."""
+    """1,000 damaged dumps: each is refused in a sentence with the status 2, or the trace is one that gcaudit takes, the snapshot one that gcsnap takes."""
 
     def damaged(self, whole, chance):
         """Some bytes changed, taken away, doubled or put in, or the end cut off."""
@@ -528,18 +528,25 @@ class Damaged(InFolder):
             convert, whole = wholes[number % len(wholes)]
             with open(self.path("dump"), "wb") as file:
                 file.write(self.damaged(whole, chance))
-            words = chance.choice(([], ["--without", "out."], ["--only", "kept."], ["--may-be-missing", "--dead", "A", "--unshared", "kept.D"]))
+            words = chance.choice(([], ["--without", "out."], ["--only", "kept."], ["--snapshot"], ["--may-be-missing", "--dead", "A", "--unshared", "kept.D"]))
             status, said = run(convert, self.path("dump"), self.path("trace.jsonl"), *words)
             self.assertIn(status, (0, 2), (number, said))
             self.assertRegex(said, r"^(\w+: [^\n]+\n)+$")
             self.assertEqual(os.path.exists(self.path("trace.jsonl")), status == 0)
             if status == 0:
                 taken += 1
-                if PROGRAM:
+                if "--snapshot" in words:
+                    self.is_a_snapshot(self.path("trace.jsonl"))
+                elif PROGRAM:
                     self.assertIn(audit(self.path("trace.jsonl"), PROGRAM).status, (0, 1))
                 os.unlink(self.path("trace.jsonl"))
         self.assertEqual(os.listdir(self.folder), ["dump"])
         self.assertTrue(100 < taken < 900, taken)
+
+    def is_a_snapshot(self, path):
+        if SNAPSHOTS:
+            with open(path, "rb") as snapshot:
+                self.assertEqual(subprocess.run([SNAPSHOTS, "to-trace"], stdin=snapshot, stdout=subprocess.DEVNULL).returncode, 0)
 
 
 class ProgressLines(unittest.TestCase):
