@@ -8,7 +8,7 @@ import os
 import sys
 import tempfile
 
-from run import PROGRAM, TOP, chain, service, timed
+from run import PROGRAM, TOP, chain, need_programs, service, timed
 from workers import hub, mesh, owned_service
 
 CHECKER = os.path.join(TOP, "crates", "gccheck", "out", "gccheck")
@@ -16,6 +16,7 @@ TURNS = 5
 
 
 def main():
+    need_programs(PROGRAM, CHECKER)
     scale = 10 if "--small" in sys.argv else 1
     print(f'{"trace":<14} {"gcaudit, s":>10} {"gccheck, s":>10} {"ratio":>6} {"peak MB":>8} {"of gccheck":>10}')
     with tempfile.TemporaryDirectory() as folder:

@@ -21,6 +21,8 @@ import subprocess
 import sys
 import tempfile
 
+from run import need_commands
+
 TOP = os.path.dirname(os.path.dirname(os.path.abspath(__file__)))
 CRATES = ["heap_base", "graph_meaning", "object_table", "header_rule", "instance_ledger", "steal_pool", "scan_job"]
 CELLS = 1_000_000
@@ -690,6 +692,7 @@ def peak(program, *words):
 
 
 def main():
+    need_commands("rt")
     with tempfile.TemporaryDirectory() as folder:
         crate = lay_out(folder)
         build = subprocess.run(["rt", "run"], cwd=crate, capture_output=True, text=True)

@@ -14,7 +14,7 @@ import subprocess
 import sys
 import tempfile
 
-from run import timed
+from run import need_commands, timed
 
 TOP = os.path.dirname(os.path.dirname(os.path.abspath(__file__)))
 CRATES = ["heap_base", "graph_meaning", "object_table"]
@@ -294,6 +294,7 @@ def times(built, kind, size, rising):
 
 
 def main():
+    need_commands("rt")
     with tempfile.TemporaryDirectory() as folder:
         program = lay_out(folder)
         run = subprocess.run(["rt", "run"], cwd=program, capture_output=True, text=True)

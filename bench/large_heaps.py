@@ -11,6 +11,8 @@ import sys
 import tempfile
 import time
 
+from run import need_programs
+
 TOP = os.path.dirname(os.path.dirname(os.path.abspath(__file__)))
 PROGRAM = os.path.join(TOP, "crates", "gcaudit", "out", "gcaudit")
 
@@ -108,6 +110,7 @@ def many_owners_report():
 
 
 def main():
+    need_programs(PROGRAM)
     wrong = 0
     with tempfile.TemporaryDirectory() as folder:
         for name, trace, report in (("chain", chain, chain_report), ("hub", hub, hub_report), ("one owner", one_owner, one_owner_report), ("many owners", many_owners, many_owners_report)):

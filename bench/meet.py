@@ -13,6 +13,8 @@ import subprocess
 import sys
 import tempfile
 
+from run import need_commands
+
 TOP = os.path.dirname(os.path.dirname(os.path.abspath(__file__)))
 CRATES = ["heap_base", "header_rule"]
 STEPS = 2_000_000
@@ -209,6 +211,7 @@ def lay_out(folder):
 
 
 def main():
+    need_commands("rt")
     with tempfile.TemporaryDirectory() as folder:
         program = lay_out(folder)
         run = subprocess.run(["rt", "run"], cwd=program, capture_output=True, text=True)

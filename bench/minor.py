@@ -13,6 +13,8 @@ import sys
 import tempfile
 import time
 
+from run import need_programs
+
 TOP = os.path.dirname(os.path.dirname(os.path.abspath(__file__)))
 PROGRAM = os.path.join(TOP, "crates", "gcminor", "out", "gcminor")
 OLD, YOUNG, SLOTS = 1_000_000, 1_000, 1_000_000
@@ -76,6 +78,7 @@ def stores(is_old):
 
 
 def main():
+    need_programs(PROGRAM)
     took = collections(int(sys.argv[1]) if len(sys.argv) > 1 else 1000)
     minor, full = (statistics.median(took[kind]) for kind in ("minor", "full"))
     print(f"{len(took['minor'])} minor collections: {1000 * minor:.3f} ms each, in the middle; {len(took['full'])} full ones: {1000 * full:.1f} ms; ratio {full / minor:.0f}")

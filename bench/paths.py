@@ -20,6 +20,8 @@ import subprocess
 import sys
 import tempfile
 
+from run import need_commands
+
 TOP = os.path.dirname(os.path.dirname(os.path.abspath(__file__)))
 CRATES = ["heap_base", "graph_meaning", "object_table", "path_cert"]
 OBJECTS = 1_000_000
@@ -498,6 +500,7 @@ def times(built, words, objects, answers):
 
 
 def main():
+    need_commands("rt")
     with tempfile.TemporaryDirectory() as folder:
         program = lay_out(folder)
         run = subprocess.run(["rt", "run"], cwd=program, capture_output=True, text=True)

@@ -1,4 +1,12 @@
-"""A table of numbers as a picture: for each row a bar for each column, in one SVG without scripts or fonts of its own."""
+#!/usr/bin/env python3
+"""A table of numbers as a picture: for each row a bar for each column, in one SVG without scripts or fonts of its own.
+
+Usage: bench/plot.py PAGE HEADING FILE [--mark NUMBER] COLUMN ..
+It draws these columns of the first table under the heading of the page, so that a picture beside a table has its figures. The scripts draw what
+they measured with their own word, --plot FILE.
+"""
+import re
+import sys
 from xml.sax.saxutils import escape
 
 _LEFT, _WIDTH, _BAR, _GAP, _TOP = 170, 460, 11, 12, 64
@@ -39,3 +47,34 @@ def bars(path, title, columns, rows, mark=None):
 
 def _short(value):
     return f"{value:.2f}" if value < 10 else f"{value:.0f}"
+
+
+def table_under(heading, page):
+    """The cells of the first table under a heading, row by row, the names of the columns first."""
+    with open(page, encoding="utf-8") as file:
+        section = re.split(r"(?m)^#+ ", file.read().split(f"# {heading}\n", 1)[1])[0]
+    rows = [[cell.strip() for cell in line.strip("|").split("|")] for line in section.splitlines() if line.startswith("|")]
+    return [row for row in rows if not set("".join(row)) <= set("-: ")]
+
+
+def number_in(cell):
+    return float(cell.replace(",", "")) if cell else None
+
+
+def main():
+    words = sys.argv[1:]
+    mark = None
+    if "--mark" in words:
+        at = words.index("--mark")
+        mark = float(words[at + 1])
+        del words[at:at + 2]
+    if len(words) < 4:
+        sys.exit(__doc__)
+    page, heading, path, *columns = words
+    head, *rows = table_under(heading, page)
+    places = [head.index(column) for column in columns]
+    bars(path, heading, columns, [(row[0].split(":")[0], [number_in(row[place]) for place in places]) for row in rows], mark)
+
+
+if __name__ == "__main__":
+    main()

@@ -17,6 +17,8 @@ import subprocess
 import sys
 import tempfile
 
+from run import need_programs
+
 TOP = os.path.dirname(os.path.dirname(os.path.abspath(__file__)))
 PROGRAM = os.path.join(TOP, "crates", "gcaudit", "out", "gcaudit")
 CHECKER = os.path.join(TOP, "crates", "gccheck", "out", "gccheck")
@@ -516,8 +518,10 @@ def check_main(count, first):
 
 def main():
     if sys.argv[1:2] in (["gcminor"], ["gccheck"]):
+        need_programs(*([MINOR_PROGRAM] if sys.argv[1] == "gcminor" else [PROGRAM, CHECKER]))
         numbers = [int(word) for word in sys.argv[2:4]]
         (minor_main if sys.argv[1] == "gcminor" else check_main)(*(numbers + [1000, 1][len(numbers):]))
+    need_programs(PROGRAM)
     count = int(sys.argv[1]) if len(sys.argv) > 1 else 1000
     first = int(sys.argv[2]) if len(sys.argv) > 2 else 1
     wrong = verdicts = 0

@@ -15,6 +15,8 @@ import subprocess
 import sys
 import tempfile
 
+from run import need_commands, need_programs
+
 HERE = os.path.dirname(os.path.abspath(__file__))
 PROGRAM = os.path.join(HERE, "..", "crates", "gcaudit", "out", "gcaudit")
 NO_MEMORY = 5
@@ -28,6 +30,8 @@ def run(library, trace, words, **settings):
 
 
 def main():
+    need_programs(PROGRAM)
+    need_commands("cc")
     traces = sys.argv[1:] or sorted(glob.glob(os.path.join(HERE, "..", "examples", "*.jsonl")))
     wrong = 0
     with tempfile.TemporaryDirectory() as folder:

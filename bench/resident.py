@@ -11,7 +11,7 @@ import sys
 import tempfile
 import time
 
-from run import PROGRAM, TOP, TRIES, alloc, store
+from run import PROGRAM, TOP, TRIES, alloc, need_programs, store
 
 RESIDENT = os.path.join(TOP, "crates", "gcresident", "out", "gcresident")
 WORKERS = (1, 2, 4)
@@ -87,9 +87,7 @@ def least(runs, of):
 
 def main():
     plain = sys.argv[sys.argv.index("--gcaudit") + 1] if "--gcaudit" in sys.argv else PROGRAM
-    for program in (plain, RESIDENT):
-        if not os.path.exists(program):
-            sys.exit(f"there is no {program}: build it first")
+    need_programs(plain, RESIDENT)
     collections = 100 if "--small" in sys.argv else 1_000
     print(f'{"service":<10} {"workers":>7}   {"gcaudit, s":>10} {"of processors":>13}   {"gcresident / gcaudit":>20} {"of processors":>13}')
     with tempfile.TemporaryDirectory() as folder:

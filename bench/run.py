@@ -1,16 +1,18 @@
 #!/usr/bin/env python3
 """Runs the built program over large traces, and prints lines and megabytes a second and peak memory.
 
-Usage: bench/run.py [--small] [--before PROGRAM] [--plot FILE]     (--small: a tenth of the sizes)
+Usage: bench/run.py [--small] [--before PROGRAM] [--plot FILE] [--plot-growth FILE] [--plot-memory FILE]     (--small: a tenth of the sizes)
 Where another program is named, as one built before, it runs over the same traces in turn: the last columns say how many times as long
-it took, and its peak of memory. A picture of the times beside plain Rust goes to FILE, as SVG.
-The program must be built: ./gcaudit < examples/first.jsonl builds it. Nothing here is part of the gate.
+it took, and its peak of memory. Pictures go to the FILEs, as SVG: of the times beside plain Rust, of the time of each trace beside that of
+half of it, and of the peaks of memory.
+The program must be built: ./gcaudit examples/first.jsonl builds it. Nothing here is part of the gate.
 Each trace is run at one size and at twice that size, so that the ratio of the two times can be read;
 `wc -l` over the same file, in the same run, is the yardstick for the machine. Where cargo can build it, the plain
 Rust program in bench/plain_rust runs over the same file as well, and must write the same report; once more it only
 reads the lines, which no program can beat that makes a `Value` of each.
 """
 import os
+import shutil
 import subprocess
 import sys
 import tempfile
@@ -172,14 +174,33 @@ def best(commands, path):
     return [min(tries, key=lambda run: run[0]) for tries in zip(*runs)]
 
 
+def need_programs(*programs):
+    """Ends the script with a sentence where a program isn't built."""
+    for program in programs:
+        if not os.access(program, os.X_OK):
+            sys.exit(f"{os.path.relpath(program, TOP)} is not there: scripts/build_program {os.path.basename(program)} builds it")
+
+
+def need_commands(*names):
+    """Ends the script with a sentence where the machine lacks a command."""
+    for name in names:
+        if shutil.which(name) is None:
+            sys.exit(f"the command {name} is not there")
+
+
+def picture(word, title, columns, rows, mark=None):
+    """Makes a picture where this word of the command line names a file for it."""
+    if word in sys.argv:
+        bars(sys.argv[sys.argv.index(word) + 1], title, columns, rows, mark)
+
+
 def main():
-    if not os.path.exists(PROGRAM):
-        sys.exit("build the program first: ./gcaudit < examples/first.jsonl")
+    need_programs(PROGRAM)
     earlier = sys.argv[sys.argv.index("--before") + 1] if "--before" in sys.argv else None
     plain = plain_rust()
     if plain is None:
         print("bench/plain_rust can't be built here: its column stays empty")
-    scale, plotted = 10 if "--small" in sys.argv else 1, []
+    scale, plotted, growth, memory = 10 if "--small" in sys.argv else 1, [], [], []
     shapes = [(chain, 200_000), (tree, 250_000), (sparse, 250_000), (collections, 150_000), (roots, 250_000), (names, 250_000), (long_names, 130_000), (lone_roots, 130_000), (service, 100_000)]
     print(f'{"trace":<12} {"lines":>9} {"MB":>6} {"lines/s":>10} {"MB/s":>6} {"peak MB":>8} {"x wc -l":>8} {"x plain Rust":>12} {"x only read":>11} {"twice":>6} {"earlier":>8} {"its MB":>7}  end')
     with tempfile.TemporaryDirectory() as folder:
@@ -195,6 +216,9 @@ def main():
                 lines = int(counted[3].split()[0])
                 seconds, peak, status, output = run
                 twice = f"{seconds / before:6.2f}" if before else ""
+                if before:
+                    growth.append((shape.__name__.replace("_", " "), [seconds / before]))
+                    memory.append((f"{shape.__name__.replace('_', ' ')}, {megabytes:.0f} MB", [peak / 1024] + [other[1] / 1024 for other in others[:1] if plain]))
                 before = seconds
                 ratio = only_read = ""
                 then = ""
@@ -204,11 +228,13 @@ def main():
                 if others:
                     ratio = f"{seconds / others[0][0]:.2f}" if others[0][3] == output else "DIFFERS"
                     only_read = f"{seconds / others[1][0]:.2f}"
-                    plotted.append((f"{shape.__name__}, {lines:,} lines", [seconds / other[0] for other in others]))
+                    if twice:
+                        plotted.append((shape.__name__.replace("_", " "), [seconds / others[0][0] if ratio != "DIFFERS" else None, seconds / others[1][0]]))
                 end = output.decode().splitlines()[-1] if output else f"status {status}"
                 print(f"{shape.__name__:<12} {lines:>9} {megabytes:>6.1f} {lines / seconds:>10.0f} {megabytes / seconds:>6.1f} {peak / 1024:>8.1f} {seconds / counted[0]:>8.1f} {ratio:>12} {only_read:>11} {twice:>6} {then:>16}  {end}", flush=True)
-    if "--plot" in sys.argv:
-        bars(sys.argv[sys.argv.index("--plot") + 1], "Time of gcaudit beside plain Rust, one worker", ("as a part of plain Rust's time", "as a part of only reading's"), plotted, mark=1)
+    picture("--plot", "Time of gcaudit with one worker", ("as a part of plain Rust's", "as a part of only reading's"), plotted, mark=1)
+    picture("--plot-growth", "Time of a trace as a part of that of half of it", ("times as long",), growth, mark=2)
+    picture("--plot-memory", "Peak of memory in MB, and the size of the trace", ("gcaudit", "plain Rust"), memory)
 
 
 if __name__ == "__main__":

@@ -9,8 +9,7 @@ import os
 import sys
 import tempfile
 
-from plot import bars
-from run import PROGRAM, TRIES, alloc, chain, store, timed, tree
+from run import PROGRAM, TRIES, alloc, chain, need_programs, picture, store, timed, tree
 
 WORKERS = (1, 2, 4)
 
@@ -68,6 +67,7 @@ def owned_service(n):
 
 
 def main():
+    need_programs(PROGRAM)
     before = sys.argv[sys.argv.index("--before") + 1] if "--before" in sys.argv else None
     scale, plotted = 10 if "--small" in sys.argv else 1, []
     shapes = [(chain, 200_000), (tree, 500_000), (mesh, 300_000), (hub, 300_000), (small_heaps, 150_000), (owned_service, 100_000)]
@@ -87,8 +87,7 @@ def main():
             old = f"{best[-1][0] / first[0]:7.2f}" if before else ""
             same = "" if len(outputs) == 1 else "REPORTS DIFFER "
             print(f"{shape.__name__:<14} {first[0]:>8.2f} {ratios}  {first[1] / 1024:>8.1f} {best[len(WORKERS) - 1][1] / 1024:>8.1f} {old:>7}  {same}{first[3].decode().splitlines()[-1]}", flush=True)
-    if "--plot" in sys.argv:
-        bars(sys.argv[sys.argv.index("--plot") + 1], "Time of whole runs, as a part of one worker's", [f"{workers} workers" for workers in WORKERS[1:]], plotted, mark=1)
+    picture("--plot", "Time of whole runs, as a part of one worker's", [f"{workers} workers" for workers in WORKERS[1:]], plotted, mark=1)
 
 
 if __name__ == "__main__":
