@@ -10,8 +10,9 @@ _LONGEST_LABEL = 120
 _READ_AT_A_TIME = 1 << 16
 _NUMBERS = re.compile(r"\d+")
 _MOST_IN_EXPRESSION = 4096                              # of more numbers an expression takes long to make
-_OF_OBJECT = r'(?:store","at|alloc","id)":'             # how lines begin that tell of one object, behind the word for the operation
-_NEVER_NAMED = r'set-weak"|assert-|start-region"'       # and those that tell no type, no label and no root
+# How lines begin that tell of one object, the expression for its number being between the two: as the recorders write them, and as gcsnap does.
+_OF_OBJECT = ((r'\{"op":"(?:store","at|alloc","id)":', ""), (r'\{"at":', r'[0-9]*,"op":"store"'), (r'\{"id":', r'[0-9]*,"op":"alloc"'))
+_NEVER_NAMED = r'\{"op":"(?:set-weak"|assert-|start-region")'    # and those that tell no type, no label and no root
 _HEADS = (
     ("dead", re.compile(r"gc (?P<collection>\d+) dead (?P<number>\d+) (?P<type>.*)", re.DOTALL)),
     ("unshared", re.compile(r"gc (?P<collection>\d+) unshared (?P<number>\d+) (?P<type>.*) refs (?P<count>\d+)", re.DOTALL)),
@@ -116,11 +117,13 @@ def _lines_finder(wanted: Set[int]) -> Callable[[bytes, int, int], Iterable[byte
     An object has millions of neighbours in a trace, and a step of Python for each of their lines would take longer than gcaudit itself.
     """
     if len(wanted) <= _MOST_IN_EXPRESSION:
-        other = r'%s(?!(?:%s)(?![0-9]))[0-9]' % (_OF_OBJECT, _one_of(wanted))
-        return re.compile((r'\n(?!\{"op":"(?:%s|%s))[^\n]*' % (other, _NEVER_NAMED)).encode()).findall
-    split = re.compile((r'\n(?!\{"op":"(?:%s))(?=(?:\{"op":"%s([0-9]+))?)([^\n]*)' % (_NEVER_NAMED, _OF_OBJECT)).encode()).findall
+        other = r'(?!(?:%s)(?![0-9]))[0-9]' % _one_of(wanted)
+        about_others = "|".join([before + other + behind for before, behind in _OF_OBJECT] + [_NEVER_NAMED])
+        return re.compile((r'\n(?!%s)[^\n]*' % about_others).encode()).findall
+    about_one = "|".join(before + "([0-9]+)" + behind.replace("[0-9]*", "") for before, behind in _OF_OBJECT)
+    split = re.compile((r'\n(?!%s)(?=(?:%s)?)([^\n]*)' % (_NEVER_NAMED, about_one)).encode()).findall
     numbers = {b"%d" % number for number in wanted}
-    return lambda text, start, end: [line for number, line in split(text, start, end) if not number or number in numbers]
+    return lambda text, start, end: [line for *found, line in split(text, start, end) if not any(found) or numbers.intersection(found)]
 
 
 def _one_of(numbers: Iterable[int]) -> str:

@@ -204,6 +204,31 @@ class LargeTraces(InFolder):
                 read_report(self.report, self.trace)
             self.assertLess(loads.call_count, 1000)
 
+    def test_a_trace_that_gcsnap_made(self):
+        """Its lines have their keys by the bytes of their names, and no labels; those of other objects are not read."""
+        with open(self.trace) as lines:
+            found = [json.loads(line) for line in lines]
+        with open(self.trace, "w") as file:
+            for event in found:
+                event.pop("label", None)
+                event.pop("bytes", None)
+                file.write(json.dumps(event, sort_keys=True, separators=(",", ":")) + "\n")
+        named = self.report.replace("[0]", "[slot 0]").replace("[1]", "[slot 1]")
+        for most in (4096, 50):
+            with mock.patch("gcaudit_trace.report._MOST_IN_EXPRESSION", most), mock.patch("gcaudit_trace.report.json.loads", side_effect=json.loads) as loads:
+                self.assertEqual(read_report(self.report, self.trace).named, named)
+            self.assertLess(loads.call_count, 1000)
+
+    def test_an_operation_behind_its_fields(self):
+        """A field that an operation doesn't name is no reason to pass its line over."""
+        with open(self.trace, "w") as file:
+            file.write('{"id":1,"op":"alloc","type":"A","slots":1}\n{"at":7,"op":"root","name":"top","to":1}\n{"id":7,"op":"root","name":"top","to":1}\n'
+                       '{"at":8,"op":"collect"}\n{"id":9,"op":"collect"}\n')
+        for most in (4096, 0):
+            with mock.patch("gcaudit_trace.report._MOST_IN_EXPRESSION", most):
+                found = read_report("gc 2 dead 1 A: root top -> 1 A", self.trace)
+                self.assertEqual([(verdict.kind, verdict.paths[0].root) for verdict in found.verdicts], [("dead", "top")])
+
     def test_its_time(self):
         """It takes about as long as to split each line at its first commas."""
         def seconds(work):
