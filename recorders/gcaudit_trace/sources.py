@@ -44,6 +44,8 @@ def as_trace(path: str, progress: Progress) -> Iterator[str]:
                 convert(file, asked, _Quiet(progress), limited=False)
                 yield trace
             return
+        if beginning.startswith(b"heapsnap "):
+            raise TraceError("%s is a snapshot for gcsnap: gcsnap to-trace makes a trace of it, and a collection belongs behind that" % path)
         if not beginning.lstrip().startswith(b"{") and beginning.strip():
             raise TraceError("%s is neither a trace nor a heap dump: HPROF, or a snapshot of V8" % path)
     with trace_file(path) as trace:

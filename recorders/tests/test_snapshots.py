@@ -11,6 +11,7 @@ from tests.support import PROGRAM, PROGRAMS, RECORDERS, SNAPSHOTS, InFolder, nee
 from tests.test_dumps import dump_java, run, written_hprof, written_snapshot
 
 from gcaudit_trace import audit, writer
+from gcaudit_trace.summary import main as summary
 from heapsnapshot_to_trace.__main__ import main as heapsnapshot_to_trace
 from hprof_to_trace.__main__ import main as hprof_to_trace
 
@@ -100,6 +101,13 @@ class Texts(Snapshots):
                 status, said = run(convert, self.path("dump"), self.path("none"), "--snapshot", *words)
                 self.assertEqual((status, os.listdir(self.folder)), (2, ["dump"]))
                 self.assertRegex(said, r"^\w+: a snapshot has no assertions; put them into the trace that gcsnap to-trace makes of it\n$")
+
+    def test_a_snapshot_is_no_trace(self):
+        words = self.write_dump(hprof_to_trace)
+        self.snapshot_of(hprof_to_trace, self.path("dump"), *words)
+        status, said = run(summary, self.path("heap.snapshot"))
+        self.assertEqual((status, said), (2, "gcaudit-summary: %s is a snapshot for gcsnap: gcsnap to-trace makes a trace of it, "
+                                          "and a collection belongs behind that\n" % self.path("heap.snapshot")))
 
     def test_the_dump_is_not_replaced(self):
         self.write_dump(hprof_to_trace)
