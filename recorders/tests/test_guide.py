@@ -7,7 +7,7 @@ import subprocess
 import sys
 import unittest
 
-from tests.support import PROGRAM, RECORDERS, InFolder, needs_commands, needs_program, python_with
+from tests.support import PROGRAM, RECORDERS, SNAPSHOTS, InFolder, needs_commands, needs_program, needs_snapshots, python_with
 
 GUIDE = os.path.join(os.path.dirname(RECORDERS), "docs", "GUIDE.md")
 PYTEST = python_with("pytest")
@@ -102,6 +102,12 @@ class Guide(InFolder):
     @needs_commands("node", "bash")
     def test_node(self):
         self.run_section("A program on Node")
+
+    @needs_snapshots
+    @needs_commands("node", "bash")
+    def test_snapshot(self):
+        self.command("gcsnap", SNAPSHOTS + ' "$@"')
+        self.run_section("A heap to ask later")
 
     def test_the_picture_is_there(self):
         with open(os.path.join(os.path.dirname(GUIDE), "view.png"), "rb") as file:
