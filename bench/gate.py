@@ -18,6 +18,7 @@ from dataclasses import dataclass
 from pathlib import Path
 
 from plot import bars
+from run import need_commands
 
 TOP = Path(__file__).resolve().parent.parent
 KINDS = ("own proof", "tests", "edits", "build")
@@ -194,6 +195,7 @@ def words_for_all():
 
 
 def main():
+    need_commands("rt")
     words, picture = sys.argv[1:], None
     if words[:1] == ["--plot"]:
         picture, words = words[1], words[2:]
