@@ -1,7 +1,12 @@
 pub mod Bounded
 pub mod Danglings
+pub mod Formed
 pub mod Lines
 pub mod Meanings
 pub mod Numbers
+pub mod OneText
 pub mod Roots
+pub mod Sound
+pub mod Spoken
+pub mod Texts
 pub mod Writing

@@ -13,7 +13,7 @@ use Rattle.snapshot_text.specs.Table.{Reading, is_ended, take_said}
 use Rattle.snapshot_text.specs.Reading.{refused, view_read, unless_dangling, at_end, after_line, meaning_from, meaning_of}
 use Rattle.snapshot_text.specs.Dangling.{first_dangling}
 
-whole_line : (line : List ℕ) → is_whole (line ++ 10 ∷ []) ≡ true
+pub whole_line : (line : List ℕ) → is_whole (line ++ 10 ∷ []) ≡ true
 whole_line [] = refl
 whole_line (b ∷ line) = or_right (eqb b 10) _ (whole_line line)
 

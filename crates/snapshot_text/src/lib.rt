@@ -3,6 +3,7 @@
 
 mod assembly;
 mod dangling;
+mod laws;
 mod line;
 mod read;
 mod refusal;
@@ -10,6 +11,10 @@ mod stage;
 mod types;
 mod write;
 
+pub use laws::{
+    a_dangling_id_stands_in_its_line, a_lawful_view_is_read_back, a_lawful_view_is_well_formed,
+    a_text_stands_for_one_view, bytes_that_stand_for_a_view_are_its_text,
+};
 pub use line::{Line, line_in};
 pub use read::{LONGEST_SNAPSHOT, read_snapshot};
 pub use refusal::{SnapError, SnapWhy};

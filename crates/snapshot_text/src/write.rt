@@ -3,6 +3,7 @@ ghost use Rattle.std.specs.Prelude.{◌≡◌, ◌++◌, ◌∷◌, [], List, �
 ghost use Rattle.std.specs.List.{flat_map};
 ghost use Rattle.snapshot_text.specs.declared.line.Line.TheVariants.{Object, Root, Slot};
 ghost use Rattle.snapshot_text.specs.Lines.{line_bytes};
+ghost use Rattle.snapshot_text.specs.Reading.{IsLawful, StandsFor};
 ghost use Rattle.snapshot_text.specs.Text.{object_lines, root_line, slot_line, slot_lines, snapshot_text};
 
 use graph_meaning::{HeapView, ObjectList, ObjectView, RootList, SlotList};
@@ -11,16 +12,23 @@ use itoa::Buffer;
 use std::alloc::Global;
 
 /// The text of a view. Of a lawful view it is the one that stands for it.
-#[tactic(auto, unfolding(crate::specs::Text::snapshot_text))]
 pub fn write_snapshot(alloc: Global, view: &HeapView) -> Result<Vec<u8>, OutOfMemory>
-    ensures { IfOk result (λ text. text.items ≡ snapshot_text view.now) }
+    ensures text { IfOk result (λ text. text.items ≡ snapshot_text view.now) }
+    ensures stands { IsLawful view.now → IfOk result (λ text. StandsFor text.items view.now) }
 {
     let mut text = Vec::new(alloc);
-    put(&mut text, b"heapsnap 1\n")?;
-    put_objects(&mut text, &view.objects)?;
-    put_roots(&mut text, &view.roots)?;
-    put(&mut text, b"end\n")?;
+    put_view(&mut text, view)?;
     Ok(text)
+}
+
+#[tactic(auto, unfolding(crate::specs::Text::snapshot_text))]
+fn put_view(text: &mut Vec<u8>, view: &HeapView) -> Result<(), OutOfMemory>
+    ensures { OnOk result (text.new.items ≡ text.old.items ++ snapshot_text view.now) }
+{
+    put(text, b"heapsnap 1\n")?;
+    put_objects(text, &view.objects)?;
+    put_roots(text, &view.roots)?;
+    put(text, b"end\n")
 }
 
 fn put_objects(text: &mut Vec<u8>, objects: &ObjectList) -> Result<(), OutOfMemory>

@@ -1,0 +1,135 @@
+-- A line that says something is written as that is written.
+use Rattle.std.proofs.Common.{◌≡◌, ℕ, ◌<◌, eqb, true, false, Bool, cond, ltb, List, ◌∷◌, ◌++◌, length, Option, None, Some, refl, ap, ◌∙◌, append_assoc, get_or}
+use Rattle.std.specs.Prelude.{codes, decimal}
+use Rattle.std.specs.List.{position_or_len, before_first, after_first}
+use Rattle.std.specs.Str.{bytes_eq, is_utf8}
+use Rattle.std.proofs.lemmas.Bool.{eqb-true, ltb-true}
+use Rattle.std.proofs.lemmas.Option.{cond_some, none-some, same_Some}
+use Rattle.std.proofs.lemmas.List.Sums.{split_at_first, passes_at_first}
+use Rattle.std.proofs.lemmas.Slice.Eq.{bytes_eq-Decides}
+use Rattle.heap_base.specs.Names.{is_name}
+use Rattle.trace_reader.specs.Meaning.{only_if}
+use Rattle.snapshot_text.specs.declared.line.Line.{Line}
+use Rattle.snapshot_text.specs.declared.line.Line.TheVariants.{Head, Object, Slot, Root, End}
+use Rattle.snapshot_text.specs.Lines.{line_text, line_in, text_in, words_in, said_by, object_in, slot_in, root_in, numbered, number_in, id_from, first_word, ◌>>=◌}
+use Rattle.snapshot_text.proofs.Numbers.{number_in-is}
+
+-- ---- what an answer comes from
+
+bind_some : {A B P : Type 0} (o : Option A) (f : A → Option B) (y : B) → o >>= f ≡ Some y → ((x : A) → o ≡ Some x → f x ≡ Some y → P) → P
+bind_some None f y is go = absurd (none-some y is)
+bind_some (Some x) f y is go = go x refl is
+
+-- one of two branches
+branch : {A P : Type 0} (b : Bool) (x y z : A) → cond b x y ≡ z → (b ≡ true → x ≡ z → P) → (y ≡ z → P) → P
+branch true x y z is first second = first refl is
+branch false x y z is first second = second is
+
+id_from-is : (n id : ℕ) → id_from n ≡ Some id → n ≡ id
+id_from-is n id is = branch (eqb n 0) None (Some n) (Some id) is (λ zero none. absurd (none-some id none)) (λ some. same_Some n id some)
+
+only_if-is : (text kept : List ℕ) → only_if is_name text ≡ Some kept → text ≡ kept
+only_if-is text kept is = (cond_some (is_name text) text kept is).1
+
+-- ---- words
+
+first_word-is : (text word rest : List ℕ) → first_word text ≡ Some (word, rest) → text ≡ word ++ (codes " " ++ rest)
+unfolding first_word
+first_word-is text word rest is =
+    let is_space : ℕ → Bool = λ b. eqb b 32 in
+    let place = position_or_len is_space text in
+    let parts = cond_some {A = List ℕ × List ℕ} (ltb place (length text)) (before_first is_space text, after_first is_space text) (word, rest) is in
+    let there : place < length text = ltb-true place (length text) parts.0 in
+    let space : get_or text place 0 ≡ 32 = eqb-true (get_or text place 0) 32 (passes_at_first is_space text 0 there) in
+    split_at_first is_space text 0 there
+    ∙ ap (λ b. before_first is_space text ++ (b ∷ after_first is_space text)) space
+    ∙ ap (λ (p : List ℕ × List ℕ). p.0 ++ (32 ∷ p.1)) parts.1
+
+numbered-is : (text : List ℕ) (found : ℕ × List ℕ) → numbered text ≡ Some found → text ≡ decimal found.0 ++ (codes " " ++ found.1)
+unfolding numbered
+numbered-is text found is =
+    bind_some (first_word text) (λ split. number_in split.0 >>= (λ n. Some (n, split.1))) found is (λ split at more.
+    bind_some (number_in split.0) (λ n. Some (n, split.1)) found more (λ n number pair.
+    let same : (n, split.1) ≡ found = same_Some {A = ℕ × List ℕ} (n, split.1) found pair in
+    first_word-is text split.0 split.1 at
+    ∙ ap (λ (w : List ℕ). w ++ (codes " " ++ split.1)) (number_in-is split.0 n number).0
+    ∙ ap (λ (p : ℕ × List ℕ). decimal p.0 ++ (codes " " ++ p.1)) same))
+
+-- ---- what stands behind the first word
+
+six : (a b c d e f : List ℕ) → a ++ (b ++ (c ++ (d ++ (e ++ f)))) ≡ a ++ b ++ c ++ d ++ e ++ f
+six a b c d e f = simp append_assoc
+
+four : (a b c d : List ℕ) → a ++ (b ++ (c ++ d)) ≡ a ++ b ++ c ++ d
+four a b c d = simp append_assoc
+
+object_in-is : (text : List ℕ) (l : Line) → object_in text ≡ Some l → codes "object " ++ text ≡ line_text l
+unfolding object_in
+object_in-is text l is =
+    bind_some (numbered text) (λ first. numbered first.1 >>= (λ second. id_from first.0 >>= (λ id. only_if is_name second.1 >>= (λ kind. Some (Object id second.0 kind))))) l is (λ first a more.
+    bind_some (numbered first.1) (λ second. id_from first.0 >>= (λ id. only_if is_name second.1 >>= (λ kind. Some (Object id second.0 kind)))) l more (λ second b more.
+    bind_some (id_from first.0) (λ id. only_if is_name second.1 >>= (λ kind. Some (Object id second.0 kind))) l more (λ id c more.
+    bind_some (only_if is_name second.1) (λ kind. Some (Object id second.0 kind)) l more (λ kind d last.
+    ap (λ (t : List ℕ). codes "object " ++ t) (numbered-is text first a
+    ∙ ap (λ n. decimal n ++ (codes " " ++ first.1)) (id_from-is first.0 id c)
+    ∙ ap (λ (t : List ℕ). decimal id ++ (codes " " ++ t)) (numbered-is first.1 second b ∙ ap (λ (k : List ℕ). decimal second.0 ++ (codes " " ++ k)) (only_if-is second.1 kind d)))
+    ∙ six (codes "object ") (decimal id) (codes " ") (decimal second.0) (codes " ") kind
+    ∙ ap line_text (same_Some (Object id second.0 kind) l last)))))
+
+slot_in-is : (text : List ℕ) (l : Line) → slot_in text ≡ Some l → codes "slot " ++ text ≡ line_text l
+unfolding slot_in
+slot_in-is text l is =
+    bind_some (numbered text) (λ first. number_in first.1 >>= (λ n. id_from n >>= (λ to. Some (Slot first.0 to)))) l is (λ first a more.
+    bind_some (number_in first.1) (λ n. id_from n >>= (λ to. Some (Slot first.0 to))) l more (λ n b more.
+    bind_some (id_from n) (λ to. Some (Slot first.0 to)) l more (λ to c last.
+    ap (λ (t : List ℕ). codes "slot " ++ t) (numbered-is text first a
+    ∙ ap (λ (t : List ℕ). decimal first.0 ++ (codes " " ++ t)) ((number_in-is first.1 n b).0 ∙ ap decimal (id_from-is n to c)))
+    ∙ four (codes "slot ") (decimal first.0) (codes " ") (decimal to)
+    ∙ ap line_text (same_Some (Slot first.0 to) l last))))
+
+root_in-is : (text : List ℕ) (l : Line) → root_in text ≡ Some l → codes "root " ++ text ≡ line_text l
+unfolding root_in
+root_in-is text l is =
+    bind_some (numbered text) (λ first. id_from first.0 >>= (λ to. only_if is_name first.1 >>= (λ name. Some (Root to name)))) l is (λ first a more.
+    bind_some (id_from first.0) (λ to. only_if is_name first.1 >>= (λ name. Some (Root to name))) l more (λ to b more.
+    bind_some (only_if is_name first.1) (λ name. Some (Root to name)) l more (λ name c last.
+    ap (λ (t : List ℕ). codes "root " ++ t) (numbered-is text first a
+    ∙ ap (λ n. decimal n ++ (codes " " ++ first.1)) (id_from-is first.0 to b)
+    ∙ ap (λ (k : List ℕ). decimal to ++ (codes " " ++ k)) (only_if-is first.1 name c))
+    ∙ four (codes "root ") (decimal to) (codes " ") name
+    ∙ ap line_text (same_Some (Root to name) l last))))
+
+-- ---- a line
+
+equal : (xs ys : List ℕ) → bytes_eq xs ys ≡ true → xs ≡ ys
+equal xs ys is = (bytes_eq-Decides xs ys).0 is
+
+said_by-is : (word rest : List ℕ) (l : Line) → said_by word rest ≡ Some l → word ++ (codes " " ++ rest) ≡ line_text l
+said_by-is word rest l is =
+    branch (bytes_eq word (codes "object")) (object_in rest) _ (Some l) is
+    (λ same said. ap (λ (w : List ℕ). w ++ (codes " " ++ rest)) (equal word (codes "object") same) ∙ object_in-is rest l said)
+    (λ is. branch (bytes_eq word (codes "slot")) (slot_in rest) _ (Some l) is
+    (λ same said. ap (λ (w : List ℕ). w ++ (codes " " ++ rest)) (equal word (codes "slot") same) ∙ slot_in-is rest l said)
+    (λ is. branch (bytes_eq word (codes "root")) (root_in rest) None (Some l) is
+    (λ same said. ap (λ (w : List ℕ). w ++ (codes " " ++ rest)) (equal word (codes "root") same) ∙ root_in-is rest l said)
+    (λ none. absurd (none-some l none))))
+
+words_in-is : (text : List ℕ) (l : Line) → words_in text ≡ Some l → text ≡ line_text l
+unfolding words_in
+words_in-is text l is =
+    bind_some (first_word text) (λ split. said_by split.0 split.1) l is (λ split at said.
+    first_word-is text split.0 split.1 at ∙ said_by-is split.0 split.1 l said)
+
+text_in-is : (text : List ℕ) (l : Line) → text_in text ≡ Some l → text ≡ line_text l
+unfolding text_in
+text_in-is text l is =
+    branch (bytes_eq text (codes "heapsnap 1")) (Some Head) _ (Some l) is
+    (λ same said. equal text (codes "heapsnap 1") same ∙ ap line_text (same_Some Head l said))
+    (λ is. branch (bytes_eq text (codes "end")) (Some End) (words_in text) (Some l) is
+    (λ same said. equal text (codes "end") same ∙ ap line_text (same_Some End l said))
+    (λ said. words_in-is text l said))
+
+-- a line that says something is written as that is written
+pub line_in-is : (line : List ℕ) (l : Line) → line_in line ≡ Some l → line ≡ line_text l
+line_in-is line l is =
+    branch (is_utf8 line) (text_in line) None (Some l) is (λ utf8 said. text_in-is line l said) (λ none. absurd (none-some l none))
