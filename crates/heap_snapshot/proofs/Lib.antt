@@ -1,3 +1,4 @@
+pub mod AtTheEnd
 pub mod Conversions
 pub mod Making
 pub mod Pieces

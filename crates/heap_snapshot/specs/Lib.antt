@@ -1,3 +1,4 @@
 pub mod FromTrace
+pub mod Laws
 pub mod ToTrace
 pub mod Words

@@ -1,4 +1,5 @@
 ghost use Rattle.std.specs.Prelude.{◌≡◌, Some, None, map};
+ghost use Rattle.std.specs.Io.KnownBytes.{Keeps};
 ghost use Rattle.heap_base.specs.Streams.{stream_of};
 ghost use Rattle.trace_run.specs.Program.{report_by};
 ghost use Rattle.trace_run.specs.Outcome.{Ended, RefusesWords, seen};
@@ -43,6 +44,9 @@ pub fn snap_run<S: Source, K: Sink>(
     ensures refused { let old = seen (stream_of S.left S.faults source.old) (stream_of K.held K.faults sink.old) in
         let new = seen (stream_of S.left S.faults source.new) (stream_of K.held K.faults sink.new) in
         command_in (map (λ w. w.now) words.now) ≡ None → RefusesWords usage_line old new result }
+    ensures unwritten { let old = seen (stream_of S.left S.faults source.old) (stream_of K.held K.faults sink.old) in
+        let new = seen (stream_of S.left S.faults source.new) (stream_of K.held K.faults sink.new) in
+        result ≡ Status.ReadFault → Keeps old.sink.bytes new.sink.bytes }
     ensures unread { command_in (map (λ w. w.now) words.now) ≡ None → source.new ≡ source.old }
 {
     match command_of(words) {
