@@ -2,10 +2,11 @@
 #![tactic(auto)]
 
 use console::{
-    NO_WORDS, NoWords, Remembering, borrowed_words, exit_code, owned_words, tell, tell_no_words,
+    NO_WORDS, NoWords, Remembering, borrowed_words, exit_code, owned_words, tell_no_words,
 };
 use heap_base::{Status, StdSink, StdSource};
 use heap_snapshot::snap_run;
+use std::io;
 use std::process::ExitCode;
 
 const PROGRAM: &str = "gcsnap";
@@ -28,11 +29,32 @@ fn main(rt: HostRuntime) -> ExitCode {
     let mut source = StdSource::over(&mut stdin);
     let mut sink = StdSink::over(&mut stdout);
     let status = snap_run(rt.alloc(), &words, &mut source, &mut sink);
-    match status {
-        Status::Usage => {
-            let _ = eprintln!(rt; "{PROGRAM}: one word is taken, from-trace or to-trace");
-        }
-        _ => tell(&rt, PROGRAM, status, stdin.why(), stdout.why()),
-    }
+    tell(&rt, status, stdin.why(), stdout.why());
     exit_code(status)
+}
+
+// Tells a person on standard error what the output doesn't say. A snapshot and the trace of one are written at the end alone, so a failed read
+// leaves nothing behind. Where standard error can't be written, the status still tells.
+fn tell(rt: &HostRuntime, status: Status, read: Option<io::Error>, write: Option<io::Error>) {
+    let _ = match status {
+        Status::Clean | Status::Violated | Status::TraceFault => Ok(()),
+        Status::ReadFault => match read {
+            Some(why) => eprintln!(rt;
+                "{PROGRAM}: standard input could not be read: {why}; nothing is written"
+            ),
+            None => eprintln!(rt;
+                "{PROGRAM}: standard input could not be read; nothing is written"
+            ),
+        },
+        Status::WriteFault => match write {
+            Some(why) => eprintln!(rt;
+                "{PROGRAM}: standard output could not be written: {why}; what is written is cut short"
+            ),
+            None => eprintln!(rt;
+                "{PROGRAM}: standard output could not be written; what is written is cut short"
+            ),
+        },
+        Status::NoMemory => eprintln!(rt; "{PROGRAM}: out of memory; what is written is cut short"),
+        Status::Usage => eprintln!(rt; "{PROGRAM}: one word is taken, from-trace or to-trace"),
+    };
 }
