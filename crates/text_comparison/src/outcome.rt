@@ -20,10 +20,15 @@ pub enum CompareError {
 }
 
 impl fmt::Display for CompareError {
+    ghost use Rattle.std.specs.Prelude.{Some};
+    ghost use Rattle.text_comparison.specs.Messages.{error_text};
+
+    ghost output = { λ e. Some (error_text e) };
+
     fn fmt<W: fmt::Write>(&self, f: &mut fmt::Formatter<W>) -> fmt::Result {
         match self {
-            CompareError::ReadFault => write!(f, "a read failed"),
-            CompareError::TooLong => write!(f, "the text is too long"),
+            CompareError::ReadFault => f.write_str("a read failed"),
+            CompareError::TooLong => f.write_str("the text is too long"),
         }
     }
 }
