@@ -1,4 +1,5 @@
 //! What is told a person on standard error, beside the line on standard output. Where standard error can't be written, the status still tells.
+use report_check::{MOST_DIGITS, MOST_PATHS};
 use std::io;
 
 pub const PROGRAM: &str = "gccheck";
@@ -28,7 +29,7 @@ pub fn tell_words(rt: &HostRuntime, count: usize) {
             "{PROGRAM}: the names of a trace and of a report are needed; --help says more"
         ),
         4 => eprintln!(rt;
-            "{PROGRAM}: the number of paths is one from 0 to 10000, in at most 5 digits; --help says more"
+            "{PROGRAM}: the number of paths is one from 0 to {MOST_PATHS}, in at most {MOST_DIGITS} digits; --help says more"
         ),
         _ => eprintln!(rt; "{PROGRAM}: there are too many words; --help says more"),
     };

@@ -16,6 +16,7 @@ use trace_reader::LineReader;
 #[derive(Drop)]
 pub struct Checking {
     pub alloc: Global,
+    pub reader: LineReader,
     /// How many verdicts of a collection carry their paths.
     pub paths: u32,
     pub parts: HeapParts,
@@ -41,6 +42,7 @@ impl Checking {
         let parts = HeapParts::make(alloc)?;
         Ok(Checking {
             alloc,
+            reader: LineReader::make(alloc),
             paths,
             parts,
             collections: 0,
@@ -49,17 +51,12 @@ impl Checking {
     }
 
     /// Takes the line with this number.
-    pub(crate) fn take_line(
-        &mut self,
-        reader: &mut LineReader,
-        line: &[u8],
-        number: u64,
-    ) -> Result<Due, OutOfMemory>
+    pub(crate) fn take_line(&mut self, line: &[u8], number: u64) -> Result<Due, OutOfMemory>
         requires few { self.old.collections < LONGEST_TRACE }
         ensures due { IfOk result (MakesDue (takes_item audit_meaning (state_in self.old) (item_of_line line.now)) number (state_in self.new)) }
         ensures few { self.new.collections ≤ self.old.collections + 1 }
     {
-        match reader.event_of(line) {
+        match self.reader.event_of(line) {
             Ok(None) => Ok(Due::GoesOn(Vec::new(self.alloc))),
             Ok(Some(event)) => self.take_event(&event, number),
             Err(Stop::Refused(refusal)) => Ok(Due::Ends(fault_text(self.alloc, number, &refusal)?)),

@@ -15,7 +15,7 @@ use graph_meaning::Refusal;
 use heap_base::{LONGEST_TRACE, Source};
 use std::alloc::Global;
 use text_comparison::{Compared, Comparison};
-use trace_reader::{CutError, LineCutter, LineReader};
+use trace_reader::{CutError, LineCutter};
 
 /// Runs the trace, and compares what the report on it is with the bytes of `report`. A text is compared before the next line of the trace is cut,
 /// and nothing more is read once the two differ.
@@ -31,21 +31,12 @@ pub(crate) fn compare_reports<A: Source, B: Source>(
     let mut cutter = LineCutter::make(alloc, LONGEST_TRACE)?;
     let mut comparison = Comparison::make(alloc)?;
     let mut checking = Checking::make(alloc, paths)?;
-    let mut reader = LineReader::make(alloc);
-    compare_lines(
-        &mut checking,
-        &mut reader,
-        &mut cutter,
-        &mut comparison,
-        trace,
-        report,
-    )
+    compare_lines(&mut checking, &mut cutter, &mut comparison, trace, report)
 }
 
 // Runs the trace line by line.
 fn compare_lines<A: Source, B: Source>(
     checking: &mut Checking,
-    reader: &mut LineReader,
     cutter: &mut LineCutter,
     comparison: &mut Comparison,
     trace: &mut A,
@@ -61,7 +52,7 @@ fn compare_lines<A: Source, B: Source>(
     'trace: loop {
         match cutter.next(trace) {
             Ok(Some(number)) => {
-                match compare_line(checking, reader, cutter.line(), number, comparison, report) {
+                match compare_line(checking, cutter.line(), number, comparison, report) {
                     Ok(Flow::GoesOn) => lines = number,
                     Ok(Flow::Ends(compared)) => return Ok(compared),
                     Err(error) => return Err(error),

@@ -19,7 +19,6 @@ use heap_base::Source;
 use report::fault_text;
 use std::alloc::Global;
 use text_comparison::{Compared, Comparison};
-use trace_reader::LineReader;
 
 /// Whether a check goes on behind a line, or how the reports compare.
 #[derive(Drop)]
@@ -31,7 +30,6 @@ pub enum Flow {
 /// Takes the line with this number, and compares what it makes due.
 pub(crate) fn compare_line<B: Source>(
     checking: &mut Checking,
-    reader: &mut LineReader,
     line: &[u8],
     number: u64,
     comparison: &mut Comparison,
@@ -44,7 +42,7 @@ pub(crate) fn compare_line<B: Source>(
     ensures later { B.faults report.old ≤ B.faults report.new }
     ensures cause { result ≡ Err ReadFault → Rose (B.faults report.old) (B.faults report.new) }
 {
-    match checking.take_line(reader, line, number)? {
+    match checking.take_line(line, number)? {
         Due::GoesOn(text) => compare_text(&text, comparison, report),
         Due::Ends(text) => Ok(Flow::Ends(comparison.take_last(report, &text)?)),
     }

@@ -1,27 +1,14 @@
 use heap_base::OutOfMemory;
-use std::error::Error;
-use std::fmt;
 use text_comparison::CompareError;
 
 /// Why a report could not be checked.
-#[derive(Clone, Copy, Debug, PartialEq, Eq)]
+#[derive(Clone, Copy)]
 pub enum CheckError {
     /// A read of the trace or of the report failed.
     ReadFault,
     /// Out of memory, or a place that can't be told.
     OutOfMemory,
 }
-
-impl fmt::Display for CheckError {
-    fn fmt<W: fmt::Write>(&self, f: &mut fmt::Formatter<W>) -> fmt::Result {
-        match self {
-            CheckError::ReadFault => write!(f, "a read failed"),
-            CheckError::OutOfMemory => write!(f, "out of memory"),
-        }
-    }
-}
-
-impl Error for CheckError {}
 
 impl From<OutOfMemory> for CheckError {
     ghost use Rattle.std.specs.Prelude.{◌≡◌};
