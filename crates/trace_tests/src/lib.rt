@@ -1,4 +1,4 @@
-//! Tests of the crates that trace a heap, over their public calls alone.
+//! Tests of a crew, and of the trace of a heap by one, over their public calls alone.
 #![tactic(auto)]
 
 #[cfg(test)]
@@ -10,16 +10,8 @@ mod crew_tests;
 #[cfg(test)]
 mod gate_tests;
 #[cfg(test)]
-mod header_tests;
-#[cfg(test)]
 mod heap_tests;
 #[cfg(test)]
 mod large_heap_tests;
-#[cfg(test)]
-mod phase_tests;
-#[cfg(test)]
-mod phases;
-#[cfg(test)]
-mod scan_tests;
 #[cfg(test)]
 mod traces;

@@ -1,5 +1,0 @@
-use Rattle.header_rule.specs.Passes.{IsSamePass}
-use Rattle.trace_tests.proofs.header_tests.meet_in_order.Given as goal
-
-abbrev pub invariant-loop-meet : goal.invariant-loop-meet
-invariant-loop-meet l = IsSamePass l.headers l.fn.pass l.pass
