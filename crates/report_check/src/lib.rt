@@ -5,6 +5,8 @@
 mod checking;
 mod comparing;
 mod due;
+#[cfg(test)]
+mod fault_tests;
 mod laws;
 mod line;
 mod outcome;
