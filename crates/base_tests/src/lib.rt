@@ -1,15 +1,11 @@
 //! The tests of the crates that heaps aren't needed for: names, numbers, sources and sinks; the plain types that
-//! travel between layers; the reader of traces; the generator; and the words of the command line.
+//! travel between layers; the generator; and the words of the command line.
 #![tactic(auto)]
 
-#[cfg(test)]
-mod cutting;
 #[cfg(test)]
 mod devices;
 #[cfg(test)]
 mod generated;
-#[cfg(test)]
-mod lines;
 #[cfg(test)]
 mod lists;
 #[cfg(test)]

@@ -3,12 +3,12 @@ ghost use Rattle.std.specs.Prelude.{length, IfOk};
 ghost use Rattle.graph_meaning.specs.Roles.{AreRolesOf};
 ghost use Rattle.path_cert.specs.Levels.{AreLevelsIn};
 
-use crate::heaps::{BOOK, DIAMOND, EMPTY_POOL, LEAF, MAP, NAMES, PAIR, TWICE, WEAK_DIAMOND};
 use crate::paths::{Asked, Shown, is, is_shown};
 use graph_meaning::{PathView, Roles, is_path};
 use heap_base::OutOfMemory;
 use object_table::ObjectTable;
 use path_cert::{Levels, Start, levels, owner_step, root_path};
+use path_heaps::{BOOK, DIAMOND, EMPTY_POOL, LEAF, MAP, NAMES, PAIR, TWICE, WEAK_DIAMOND};
 use std::alloc::Global;
 use std::test::Fail;
 use test_support::{SampleHeap, cell, cells_used_again, flags, roles_in, table_of};

@@ -3,12 +3,12 @@ ghost use Rattle.std.specs.Prelude.{◌≡◌, length, IfOk};
 ghost use Rattle.graph_meaning.specs.Roles.{RoleTable, AreRolesOf};
 ghost use Rattle.object_paths.specs.PlainPaths.{ArePlainLevels};
 
-use crate::heaps::{BOOK, DIAMOND, MAP, NAMES, PAIR, TWICE};
 use crate::paths::{Asked, Shown, is};
 use graph_meaning::{PathView, Roles};
 use heap_base::OutOfMemory;
 use object_paths::PlainLevels;
 use object_table::ObjectTable;
+use path_heaps::{BOOK, DIAMOND, MAP, NAMES, PAIR, TWICE};
 use reference_search::CellReference;
 use std::alloc::Global;
 use std::test::Fail;

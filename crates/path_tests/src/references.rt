@@ -3,10 +3,10 @@ ghost use Rattle.std.specs.Prelude.{◌≡◌, ◌≢◌, length, IsSome};
 ghost use Rattle.graph_meaning.specs.Roles.{AreRolesOf};
 ghost use Rattle.object_table.specs.Placed.{id_in};
 
-use crate::heaps::{LEAF, MAP, PAIR, TWICE};
 use graph_meaning::Roles;
 use heap_base::OutOfMemory;
 use object_table::ObjectTable;
+use path_heaps::{LEAF, MAP, PAIR, TWICE};
 use reference_search::{CellReference, FirstReferences, first_references};
 use std::alloc::Global;
 use std::test::Fail;

@@ -3,7 +3,6 @@ ghost use Rattle.std.specs.Prelude.{◌≡◌, ◌<◌, length, IfOk};
 ghost use Rattle.graph_meaning.specs.Roles.{AreRolesOf};
 ghost use Rattle.header_rule.specs.Passes.{IsPassOf, IsSamePass, ArePassesOf};
 
-use crate::heaps::{BOOK, EMPTY_POOL, ENTRY, LIST, POOLS};
 use graph_meaning::Roles;
 use header_rule::{Headers, Marks, Pass, Words};
 use heap_base::OutOfMemory;
@@ -11,6 +10,7 @@ use heap_trace::Traced;
 use instance_ledger::Tally;
 use object_table::ObjectTable;
 use ownership_check::check_owners;
+use path_heaps::{BOOK, EMPTY_POOL, ENTRY, LIST, POOLS};
 use std::alloc::Global;
 use std::test::Fail;
 use test_support::{SampleHeap, cell, cells_used_again, id_or_zero, roles_in, table_of};

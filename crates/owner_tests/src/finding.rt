@@ -2,12 +2,12 @@
 ghost use Rattle.std.specs.Prelude.{length};
 ghost use Rattle.graph_meaning.specs.Roles.{AreRolesOf};
 
-use crate::heaps::{
-    BOOK, EMPTY_POOL, ENTRY, LIST, LOST_ENTRY, MAP, NESTED_OWNERS, POOLS, WEAK_ENTRY,
-};
 use graph_meaning::Roles;
 use object_table::ObjectTable;
 use path_cert::finds;
+use path_heaps::{
+    BOOK, EMPTY_POOL, ENTRY, LIST, LOST_ENTRY, MAP, NESTED_OWNERS, POOLS, WEAK_ENTRY,
+};
 use std::alloc::Global;
 use std::test::Fail;
 use test_support::{SampleHeap, cell, roles_in, table_of};

@@ -5,7 +5,7 @@ use test_support::SampleHeap;
 const EMPTY: SampleHeap<'static> = SampleHeap::EMPTY;
 
 /// Both slots of the pair hold the leaf.
-pub(crate) const PAIR: SampleHeap<'static> = SampleHeap {
+pub const PAIR: SampleHeap<'static> = SampleHeap {
     objects: &[(1, "Pair", 2), (9, "Leaf", 1)],
     stores: &[(1, 0, 9), (1, 1, 9)],
     roots: &[("p", 1)],
@@ -13,14 +13,14 @@ pub(crate) const PAIR: SampleHeap<'static> = SampleHeap {
 };
 
 /// The leaf holds itself, and a root names it.
-pub(crate) const LEAF: SampleHeap<'static> = SampleHeap {
+pub const LEAF: SampleHeap<'static> = SampleHeap {
     stores: &[(9, 0, 9)],
     roots: &[("p", 1), ("q", 9)],
     ..PAIR
 };
 
 /// The map and the cache hold the entry, which the map owns.
-pub(crate) const ENTRY: SampleHeap<'static> = SampleHeap {
+pub const ENTRY: SampleHeap<'static> = SampleHeap {
     objects: &[(1, "Map", 1), (2, "Cache", 1), (3, "Entry", 0)],
     stores: &[(1, 0, 3), (2, 0, 3)],
     roots: &[("c", 2), ("m", 1)],
@@ -29,19 +29,19 @@ pub(crate) const ENTRY: SampleHeap<'static> = SampleHeap {
 };
 
 /// The map lost the entry.
-pub(crate) const LOST_ENTRY: SampleHeap<'static> = SampleHeap {
+pub const LOST_ENTRY: SampleHeap<'static> = SampleHeap {
     stores: &[(2, 0, 3)],
     ..ENTRY
 };
 
 /// The map holds the entry by a weak slot.
-pub(crate) const WEAK_ENTRY: SampleHeap<'static> = SampleHeap {
+pub const WEAK_ENTRY: SampleHeap<'static> = SampleHeap {
     weak: &[(1, 0)],
     ..ENTRY
 };
 
 /// Nothing reaches the owner, whose ownee stands behind a page.
-pub(crate) const BOOK: SampleHeap<'static> = SampleHeap {
+pub const BOOK: SampleHeap<'static> = SampleHeap {
     objects: &[(3, "Book", 1), (4, "Page", 1), (5, "Order", 0)],
     stores: &[(3, 0, 4), (4, 0, 5)],
     owned: &[(3, 5)],
@@ -49,7 +49,7 @@ pub(crate) const BOOK: SampleHeap<'static> = SampleHeap {
 };
 
 /// Nothing reaches the owner, which holds its ownee twice.
-pub(crate) const TWICE: SampleHeap<'static> = SampleHeap {
+pub const TWICE: SampleHeap<'static> = SampleHeap {
     objects: &[(3, "Book", 2), (5, "Order", 0), (6, "Order", 0)],
     stores: &[(3, 0, 5), (3, 1, 5)],
     owned: &[(3, 5)],
@@ -57,7 +57,7 @@ pub(crate) const TWICE: SampleHeap<'static> = SampleHeap {
 };
 
 /// An ownee holds its owner and the other ownee.
-pub(crate) const MAP: SampleHeap<'static> = SampleHeap {
+pub const MAP: SampleHeap<'static> = SampleHeap {
     objects: &[(1, "Map", 2), (2, "Item", 2), (3, "Item", 0)],
     stores: &[(1, 0, 2), (1, 1, 3), (2, 0, 1), (2, 1, 3)],
     roots: &[("m", 1)],
@@ -66,7 +66,7 @@ pub(crate) const MAP: SampleHeap<'static> = SampleHeap {
 };
 
 /// Two owners share an array.
-pub(crate) const POOLS: SampleHeap<'static> = SampleHeap {
+pub const POOLS: SampleHeap<'static> = SampleHeap {
     objects: &[
         (1, "Pool", 2),
         (2, "Pool", 1),
@@ -81,13 +81,13 @@ pub(crate) const POOLS: SampleHeap<'static> = SampleHeap {
 };
 
 /// The second pool holds nothing.
-pub(crate) const EMPTY_POOL: SampleHeap<'static> = SampleHeap {
+pub const EMPTY_POOL: SampleHeap<'static> = SampleHeap {
     stores: &[(1, 0, 3), (1, 1, 5), (3, 0, 4)],
     ..POOLS
 };
 
 /// A list owns its nodes.
-pub(crate) const LIST: SampleHeap<'static> = SampleHeap {
+pub const LIST: SampleHeap<'static> = SampleHeap {
     objects: &[
         (1, "List", 1),
         (2, "Node", 1),
@@ -101,7 +101,7 @@ pub(crate) const LIST: SampleHeap<'static> = SampleHeap {
 };
 
 /// Two ways of the same length lead to the end.
-pub(crate) const DIAMOND: SampleHeap<'static> = SampleHeap {
+pub const DIAMOND: SampleHeap<'static> = SampleHeap {
     objects: &[(1, "Top", 2), (2, "Mid", 2), (3, "Mid", 2), (4, "End", 0)],
     stores: &[(1, 0, 3), (1, 1, 2), (3, 0, 4), (2, 1, 4)],
     roots: &[("r", 1)],
@@ -109,7 +109,7 @@ pub(crate) const DIAMOND: SampleHeap<'static> = SampleHeap {
 };
 
 /// Both middle objects hold the end by weak slots; one that is a step farther off holds it by a strong one.
-pub(crate) const WEAK_DIAMOND: SampleHeap<'static> = SampleHeap {
+pub const WEAK_DIAMOND: SampleHeap<'static> = SampleHeap {
     objects: &[
         (1, "Top", 2),
         (2, "Mid", 2),
@@ -131,7 +131,7 @@ pub(crate) const WEAK_DIAMOND: SampleHeap<'static> = SampleHeap {
 };
 
 /// Three roots name the same object.
-pub(crate) const NAMES: SampleHeap<'static> = SampleHeap {
+pub const NAMES: SampleHeap<'static> = SampleHeap {
     objects: &[(3, "Order", 1), (4, "Item", 0)],
     stores: &[(3, 0, 4)],
     roots: &[("z", 3), ("m", 3), ("n", 3)],
@@ -139,7 +139,7 @@ pub(crate) const NAMES: SampleHeap<'static> = SampleHeap {
 };
 
 /// An owner holds another owner, which holds the first one's ownee and its own.
-pub(crate) const NESTED_OWNERS: SampleHeap<'static> = SampleHeap {
+pub const NESTED_OWNERS: SampleHeap<'static> = SampleHeap {
     objects: &[
         (1, "Outer", 1),
         (2, "Inner", 2),
