@@ -127,7 +127,7 @@ bounded_said r None s taken is = absurd (none-some s (sym taken))
 bounded_said r (Some line) s taken is = bounded_more r line s (sym taken) is
 
 -- behind the end nothing is open
-ended_objects : (r : Reading) (stage : Stage) → r.stage ≡ stage → is_ended stage ≡ true → objects_read r ≡ r.objects
+pub ended_objects : (r : Reading) (stage : Stage) → r.stage ≡ stage → is_ended stage ≡ true → objects_read r ≡ r.objects
 ended_objects r Empty at is_so = absurd (false≢true is_so)
 ended_objects r Begun at is_so = absurd (false≢true is_so)
 ended_objects r (InObject o) at is_so = absurd (false≢true is_so)

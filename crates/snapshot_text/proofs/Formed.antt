@@ -26,16 +26,18 @@ use Rattle.snapshot_text.specs.declared.stage.Stage.{Stage}
 use Rattle.snapshot_text.specs.declared.stage.Stage.TheVariants.{Empty, Begun, InObject, InRoots, Ended}
 use Rattle.snapshot_text.specs.Bounds.{IsWithin, IsBounded}
 use Rattle.snapshot_text.specs.Dangling.{object_ids, target_in, dangling_at, dangling_from, first_of, first_dangling}
-use Rattle.snapshot_text.specs.Formed.{IsWellFormed, LawfulIsWellFormed}
+use Rattle.snapshot_text.specs.Formed.{IsWellFormed, LawfulIsWellFormed, kinds_of}
 use Rattle.snapshot_text.specs.Reading.{Refusal, unless_dangling, view_read}
 use Rattle.snapshot_text.specs.Table.{Reading, nothing_read, whole_object, open_objects, objects_read, is_empty, is_ended, is_under_way, may_add, with_object, may_fill, with_slot, take_slot, last_name, may_root, with_root, ended, take_line}
 use Rattle.snapshot_text.specs.Text.{lines_of, lines_within, object_lines, slot_lines, root_line}
-use Rattle.snapshot_text.proofs.Bounded.{bounded_nothing, bounded_more, ended_few, ended_rising}
-use Rattle.snapshot_text.proofs.Texts.{by_reading_text}
+use Rattle.snapshot_text.proofs.Bounded.{bounded_nothing, bounded_more, ended_objects, ended_few, ended_rising}
+use Rattle.snapshot_text.proofs.Legal.{Legal, IsLegalObject, legal_nothing, legal_more}
+use Rattle.snapshot_text.proofs.Texts.{IsSaid, by_reading_text}
+use Rattle.heap_base.specs.declared.limits.TheConstants.{MOST_KINDS}
 
 -- ---- what each line keeps
 
-abbrev slot_total : List ObjectView → ℕ
+abbrev pub slot_total : List ObjectView → ℕ
 slot_total objects = sum_by (λ (o : ObjectView). length o.slots) objects
 
 abbrev open_count : Stage → ℕ
@@ -50,6 +52,7 @@ record Keeps (r : Reading) : Type 0 where
   bounded : IsBounded r
   counted : r.slots ≡ slot_total r.objects + open_count r.stage
   names : IsStrictlySortedBy name_cmp (keys_of r.roots)
+  legal : Legal r
 
 -- ---- slots
 
@@ -151,13 +154,18 @@ counts_more r End s taken keeps =
     subst (λ (x : Reading). (x.slots ≡ slot_total x.objects + open_count x.stage) × IsStrictlySortedBy name_cmp (keys_of x.roots)) parts.1
     (omega (arith, total r keeps), keeps.names)
 
-keeps_more : (r : Reading) (line : Line) (s : Reading) → take_line r line ≡ Some s → Keeps r → Keeps s
-keeps_more r line s taken keeps =
+keeps_more : (r : Reading) (line : Line) (s : Reading) → IsSaid line → take_line r line ≡ Some s → Keeps r → Keeps s
+keeps_more r line s said taken keeps =
     let counts = counts_more r line s taken keeps in
-    record { bounded = bounded_more r line s taken keeps.bounded; counted = counts.0; names = counts.1 }
+    record {
+      bounded = bounded_more r line s taken keeps.bounded;
+      counted = counts.0;
+      names = counts.1;
+      legal = legal_more r line s said taken keeps.legal;
+    }
 
 keeps_nothing : Keeps nothing_read
-keeps_nothing = record { bounded = bounded_nothing; counted = refl; names = sorted_nil }
+keeps_nothing = record { bounded = bounded_nothing; counted = refl; names = sorted_nil; legal = legal_nothing }
 
 -- ---- what is referred to
 
@@ -225,11 +233,15 @@ formed r keeps end none =
     let all = All-tail (λ l. Refers ids (target_in l)) Head (lines_within r.objects r.roots ++ End ∷ []) (none_dangles ids 1 (lines_of (view_read r)) none) in
     let within = (All-parts (λ l. Refers ids (target_in l)) (lines_within r.objects r.roots) (End ∷ []) all).0 in
     let parts = All-parts (λ l. Refers ids (target_in l)) (flat_map object_lines r.objects) (map root_line r.roots) within in
+    let closed : objects_read r ≡ r.objects = ended_objects r r.stage refl end in
     let counted : r.slots ≡ slot_total r.objects + 0 = keeps.counted ∙ ap (λ n. slot_total r.objects + n) (ended_count r.stage end) in
     record {
       few_objects = ended_few r end keeps.bounded;
       few_slots = omega (arith, counted, keeps.bounded.few_slots);
       few_roots = keeps.bounded.few_roots;
+      few_kinds = subst (λ (ks : List (List ℕ)). length ks ≤ MOST_KINDS) (keeps.legal.kinds ∙ ap kinds_of closed) keeps.legal.few_kinds;
+      objects = subst (All IsLegalObject) closed keeps.legal.objects;
+      root_names = keeps.legal.roots;
       ids = ended_rising r end keeps.bounded;
       names = keeps.names;
       slots = objects_refer ids r.objects parts.0;

@@ -1,6 +1,7 @@
 pub mod Bounded
 pub mod Danglings
 pub mod Formed
+pub mod Legal
 pub mod Lines
 pub mod Meanings
 pub mod Numbers

@@ -1,5 +1,6 @@
 -- A line that says something is written as that is written.
-use Rattle.std.proofs.Common.{◌≡◌, ℕ, ◌<◌, eqb, true, false, Bool, cond, ltb, List, ◌∷◌, ◌++◌, length, Option, None, Some, refl, ap, ◌∙◌, append_assoc, get_or}
+use Rattle.std.proofs.Common.{◌≡◌, ℕ, ◌+◌, ◌<◌, ◌^◌, eqb, true, false, Bool, cond, ltb, IsTrue, IsUtf8, List, [], ◌∷◌, ◌++◌, length, drop, Option, None, Some, refl, ap, ◌∙◌, subst, arith, append_assoc, length-append, get_or, zero, suc}
+use Rattle.std.specs.Bool.{⊤}
 use Rattle.std.specs.Prelude.{codes, decimal}
 use Rattle.std.specs.List.{position_or_len, before_first, after_first}
 use Rattle.std.specs.Str.{bytes_eq, is_utf8}
@@ -7,11 +8,13 @@ use Rattle.std.proofs.lemmas.Bool.{eqb-true, ltb-true}
 use Rattle.std.proofs.lemmas.Option.{cond_some, none-some, same_Some}
 use Rattle.std.proofs.lemmas.List.Sums.{split_at_first, passes_at_first}
 use Rattle.std.proofs.lemmas.Slice.Eq.{bytes_eq-Decides}
+use Rattle.std.proofs.lemmas.Str.{IsUtf8-from_is_utf8, is_utf8-from_IsUtf8, IsUtf8-drop, IsCharBoundary-after_ascii}
 use Rattle.heap_base.specs.Names.{is_name}
 use Rattle.trace_reader.specs.Meaning.{only_if}
 use Rattle.snapshot_text.specs.declared.line.Line.{Line}
 use Rattle.snapshot_text.specs.declared.line.Line.TheVariants.{Head, Object, Slot, Root, End}
 use Rattle.snapshot_text.specs.Lines.{line_text, line_in, text_in, words_in, said_by, object_in, slot_in, root_in, numbered, number_in, id_from, first_word, ◌>>=◌}
+use Rattle.snapshot_text.specs.Formed.{IsId, IsName}
 use Rattle.snapshot_text.proofs.Numbers.{number_in-is}
 
 -- ---- what an answer comes from
@@ -30,6 +33,10 @@ id_from-is n id is = branch (eqb n 0) None (Some n) (Some id) is (λ zero none. 
 
 only_if-is : (text kept : List ℕ) → only_if is_name text ≡ Some kept → text ≡ kept
 only_if-is text kept is = (cond_some (is_name text) text kept is).1
+
+kept_name : (text kept : List ℕ) → only_if is_name text ≡ Some kept → IsTrue (is_name kept)
+kept_name text kept is =
+    let parts = cond_some (is_name text) text kept is in subst (λ (t : List ℕ). IsTrue (is_name t)) parts.1 parts.0
 
 -- ---- words
 
@@ -133,3 +140,114 @@ text_in-is text l is =
 pub line_in-is : (line : List ℕ) (l : Line) → line_in line ≡ Some l → line ≡ line_text l
 line_in-is line l is =
     branch (is_utf8 line) (text_in line) None (Some l) is (λ utf8 said. text_in-is line l said) (λ none. absurd (none-some l none))
+
+-- ---- its ids and its name
+
+numbered-below : (text : List ℕ) (found : ℕ × List ℕ) → numbered text ≡ Some found → found.0 < 2 ^ 32
+unfolding numbered
+numbered-below text found is =
+    bind_some (first_word text) (λ split. number_in split.0 >>= (λ n. Some (n, split.1))) found is (λ split at more.
+    bind_some (number_in split.0) (λ n. Some (n, split.1)) found more (λ n number pair.
+    subst (λ (p : ℕ × List ℕ). p.0 < 2 ^ 32) (same_Some {A = ℕ × List ℕ} (n, split.1) found pair) (number_in-is split.0 n number).1))
+
+not_zero : (n : ℕ) → eqb n 0 ≡ false → 0 < n
+not_zero zero is = absurd (cc)
+not_zero (suc n) is = omega arith
+
+id_from-IsId : (n id : ℕ) → n < 2 ^ 32 → id_from n ≡ Some id → IsId id
+id_from-IsId n id below is =
+    let same : n ≡ id = id_from-is n id is in
+    subst IsId same (above (eqb n 0) refl is, below)
+  where
+    above : (b : Bool) → eqb n 0 ≡ b → cond b None (Some n) ≡ Some id → 0 < n
+    above true at none = absurd (none-some id none)
+    above false at some = not_zero n at
+
+-- what a line says of the ids and names in it
+abbrev pub IsLegal : Line → Type 0
+IsLegal Head = ⊤
+IsLegal (Object id slots kind) = IsId id × IsTrue (is_name kind)
+IsLegal (Slot slot to) = IsId to
+IsLegal (Root to name) = IsId to × IsTrue (is_name name)
+IsLegal End = ⊤
+
+object_in-legal : (text : List ℕ) (l : Line) → object_in text ≡ Some l → IsLegal l
+unfolding object_in
+object_in-legal text l is =
+    bind_some (numbered text) (λ first. numbered first.1 >>= (λ second. id_from first.0 >>= (λ id. only_if is_name second.1 >>= (λ kind. Some (Object id second.0 kind))))) l is (λ first a more.
+    bind_some (numbered first.1) (λ second. id_from first.0 >>= (λ id. only_if is_name second.1 >>= (λ kind. Some (Object id second.0 kind)))) l more (λ second b more.
+    bind_some (id_from first.0) (λ id. only_if is_name second.1 >>= (λ kind. Some (Object id second.0 kind))) l more (λ id c more.
+    bind_some (only_if is_name second.1) (λ kind. Some (Object id second.0 kind)) l more (λ kind d last.
+    subst IsLegal (same_Some (Object id second.0 kind) l last) (id_from-IsId first.0 id (numbered-below text first a) c, kept_name second.1 kind d)))))
+
+slot_in-legal : (text : List ℕ) (l : Line) → slot_in text ≡ Some l → IsLegal l
+unfolding slot_in
+slot_in-legal text l is =
+    bind_some (numbered text) (λ first. number_in first.1 >>= (λ n. id_from n >>= (λ to. Some (Slot first.0 to)))) l is (λ first a more.
+    bind_some (number_in first.1) (λ n. id_from n >>= (λ to. Some (Slot first.0 to))) l more (λ n b more.
+    bind_some (id_from n) (λ to. Some (Slot first.0 to)) l more (λ to c last.
+    subst IsLegal (same_Some (Slot first.0 to) l last) (id_from-IsId n to (number_in-is first.1 n b).1 c))))
+
+root_in-legal : (text : List ℕ) (l : Line) → root_in text ≡ Some l → IsLegal l
+unfolding root_in
+root_in-legal text l is =
+    bind_some (numbered text) (λ first. id_from first.0 >>= (λ to. only_if is_name first.1 >>= (λ name. Some (Root to name)))) l is (λ first a more.
+    bind_some (id_from first.0) (λ to. only_if is_name first.1 >>= (λ name. Some (Root to name))) l more (λ to b more.
+    bind_some (only_if is_name first.1) (λ name. Some (Root to name)) l more (λ name c last.
+    subst IsLegal (same_Some (Root to name) l last) (id_from-IsId first.0 to (numbered-below text first a) b, kept_name first.1 name c))))
+
+said_by-legal : (word rest : List ℕ) (l : Line) → said_by word rest ≡ Some l → IsLegal l
+said_by-legal word rest l is =
+    branch (bytes_eq word (codes "object")) (object_in rest) _ (Some l) is (λ same said. object_in-legal rest l said)
+    (λ is. branch (bytes_eq word (codes "slot")) (slot_in rest) _ (Some l) is (λ same said. slot_in-legal rest l said)
+    (λ is. branch (bytes_eq word (codes "root")) (root_in rest) None (Some l) is (λ same said. root_in-legal rest l said)
+    (λ none. absurd (none-some l none))))
+
+text_in-legal : (text : List ℕ) (l : Line) → text_in text ≡ Some l → IsLegal l
+unfolding text_in words_in
+text_in-legal text l is =
+    branch (bytes_eq text (codes "heapsnap 1")) (Some Head) _ (Some l) is (λ same said. subst IsLegal (same_Some Head l said) tt)
+    (λ is. branch (bytes_eq text (codes "end")) (Some End) (words_in text) (Some l) is (λ same said. subst IsLegal (same_Some End l said) tt)
+    (λ said. bind_some (first_word text) (λ split. said_by split.0 split.1) l said (λ split at more. said_by-legal split.0 split.1 l more)))
+
+-- what stands behind a space of a text is a text
+behind_space : (xs ys : List ℕ) → drop (length xs + 1) (xs ++ 32 ∷ ys) ≡ ys
+behind_space [] ys = refl
+behind_space (x ∷ xs) ys =
+    let more : length (x ∷ xs) + 1 ≡ suc (length xs + 1) = omega arith in ap (λ n. drop n (x ∷ xs ++ 32 ∷ ys)) more ∙ behind_space xs ys
+
+space_at : (xs ys : List ℕ) → get_or (xs ++ 32 ∷ ys) (length xs) 0 ≡ 32
+space_at [] ys = refl
+space_at (x ∷ xs) ys = space_at xs ys
+
+text_behind : (xs ys : List ℕ) → IsUtf8 (xs ++ 32 ∷ ys) → IsUtf8 ys
+text_behind xs ys is =
+    let there : length xs < length (xs ++ 32 ∷ ys) = omega (arith, length-append xs (32 ∷ ys)) in
+    let ascii : get_or (xs ++ 32 ∷ ys) (length xs) 0 < 128 = omega (arith, space_at xs ys) in
+    subst IsUtf8 (behind_space xs ys) (IsUtf8-drop (xs ++ 32 ∷ ys) (length xs + 1) is (IsCharBoundary-after_ascii (xs ++ 32 ∷ ys) (length xs) is there ascii))
+
+-- the name in a line
+abbrev pub HasNames : Line → Type 0
+HasNames Head = ⊤
+HasNames (Object id slots kind) = IsId id × IsName kind
+HasNames (Slot slot to) = IsId to
+HasNames (Root to name) = IsId to × IsName name
+HasNames End = ⊤
+
+utf8_name : (front name : List ℕ) → IsUtf8 (front ++ codes " " ++ name) → is_utf8 name ≡ true
+utf8_name front name is =
+    is_utf8-from_IsUtf8 name (text_behind front name (subst IsUtf8 (append_assoc front (codes " ") name) is))
+
+named : (l : Line) → IsUtf8 (line_text l) → IsLegal l → HasNames l
+named Head utf8 legal = tt
+named (Object id slots kind) utf8 legal = (legal.0, (legal.1, utf8_name (codes "object " ++ decimal id ++ codes " " ++ decimal slots) kind utf8))
+named (Slot slot to) utf8 legal = legal
+named (Root to name) utf8 legal = (legal.0, (legal.1, utf8_name (codes "root " ++ decimal to) name utf8))
+named End utf8 legal = tt
+
+-- the ids and the names of a line that says something
+pub line_in-named : (line : List ℕ) (l : Line) → line_in line ≡ Some l → HasNames l
+line_in-named line l is =
+    branch (is_utf8 line) (text_in line) None (Some l) is
+    (λ utf8 said. named l (subst IsUtf8 (text_in-is line l said) (IsUtf8-from_is_utf8 line utf8)) (text_in-legal line l said))
+    (λ none. absurd (none-some l none))

@@ -56,8 +56,12 @@ one_more taken l line rest same =
     ∙ ap (λ (t : List ℕ). (flat_map line_bytes taken ++ t) ++ rest) (sym (append-nil (line_bytes l)))
     ∙ ap (λ (t : List ℕ). t ++ rest) (sym (flat_map-append line_bytes taken (l ∷ [])))
 
+-- some bytes say this line
+abbrev pub IsSaid : Line → Type 0
+IsSaid l = (line : List ℕ) × (line_in line ≡ Some l)
+
 -- What holds of the two refusals of a line, and of what the text of a view leads to, holds of what the bytes lead to. J is what each line keeps.
-module _ (whole : List ℕ) (J : Reading → Type 0) (keeps : (r : Reading) (l : Line) (s : Reading) → take_line r l ≡ Some s → J r → J s) (P : Result HeapView Refusal → Type 0) (bad : (line : ℕ) → P (refused line BadLine)) (unended : (line : ℕ) → P (refused line Unended)) (text : (r : Reading) → J r → is_ended r.stage ≡ true → whole ≡ snapshot_text (view_read r) → P (unless_dangling (view_read r) (first_dangling (view_read r)))) where
+module _ (whole : List ℕ) (J : Reading → Type 0) (keeps : (r : Reading) (l : Line) (s : Reading) → IsSaid l → take_line r l ≡ Some s → J r → J s) (P : Result HeapView Refusal → Type 0) (bad : (line : ℕ) → P (refused line BadLine)) (unended : (line : ℕ) → P (refused line Unended)) (text : (r : Reading) → J r → is_ended r.stage ≡ true → whole ≡ snapshot_text (view_read r) → P (unless_dangling (view_read r) (first_dangling (view_read r)))) where
   end : (lines : ℕ) (r : Reading) (taken : List Line) → J r → AreLines r taken → whole ≡ flat_map line_bytes taken → P (at_end lines r)
   unfolding snapshot_text
   end lines r taken so are same =
@@ -96,13 +100,13 @@ module _ (whole : List ℕ) (J : Reading → Type 0) (keeps : (r : Reading) (l :
       ∙ ap (λ l. after_line (lines + 1) (take_said r (line_in l)) go_on) (line_of-line line cut.2) in
       subst P (sym leads)
       (by_line (lines + 1) r (line_in line) go_on (λ l next said take.
-      from n (lines + 1) next (taken ++ l ∷ []) rest less (keeps r l next take so) (line_is_next r l next taken take are)
+      from n (lines + 1) next (taken ++ l ∷ []) rest less (keeps r l next (line, said) take so) (line_is_next r l next taken take are)
       (same ∙ ap (λ (t : List ℕ). flat_map line_bytes taken ++ t) cut.3 ∙ one_more taken l line rest (line_in-is line l said)))))
       (cut_line bytes)
 
-pub by_reading_text : (bytes : List ℕ) (J : Reading → Type 0) → J nothing_read → ((r : Reading) (l : Line) (s : Reading) → take_line r l ≡ Some s → J r → J s) → (P : Result HeapView Refusal → Type 0) → ((line : ℕ) → P (refused line BadLine)) → ((line : ℕ) → P (refused line Unended))
+pub by_reading_text : (bytes : List ℕ) (J : Reading → Type 0) → J nothing_read → ((r : Reading) (l : Line) (s : Reading) → IsSaid l → take_line r l ≡ Some s → J r → J s) → (P : Result HeapView Refusal → Type 0) → ((line : ℕ) → P (refused line BadLine)) → ((line : ℕ) → P (refused line Unended))
     → ((r : Reading) → J r → is_ended r.stage ≡ true → bytes ≡ snapshot_text (view_read r) → P (unless_dangling (view_read r) (first_dangling (view_read r)))) → P (meaning_of bytes)
 by_reading_text bytes J start keeps P bad unended text = from bytes J keeps P bad unended text (length bytes) 0 nothing_read [] bytes (omega arith) start (refl, refl, refl) refl
 
 pub by_text : (bytes : List ℕ) (P : Result HeapView Refusal → Type 0) → ((line : ℕ) → P (refused line BadLine)) → ((line : ℕ) → P (refused line Unended)) → ((v : HeapView) → bytes ≡ snapshot_text v → P (unless_dangling v (first_dangling v))) → P (meaning_of bytes)
-by_text bytes P bad unended text = by_reading_text bytes (λ r. Unit {0}) tt (λ r l s taken so. tt) P bad unended (λ r so ended same. text (view_read r) same)
+by_text bytes P bad unended text = by_reading_text bytes (λ r. Unit {0}) tt (λ r l s said taken so. tt) P bad unended (λ r so ended same. text (view_read r) same)
