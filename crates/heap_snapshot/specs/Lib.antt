@@ -1,4 +1,5 @@
 pub mod FromTrace
+pub mod HeapOfTrace
 pub mod Laws
 pub mod ToTrace
 pub mod Words

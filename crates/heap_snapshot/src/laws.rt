@@ -1,6 +1,22 @@
 ghost use Rattle.heap_snapshot.specs.Laws.{WritesAtTheEnd};
+ghost use Rattle.heap_snapshot.specs.HeapOfTrace.{RemakesHeap, TraceHasEvents, TraceIsShort};
 
 /// A snapshot of a trace is written at the trace's end alone: nothing is due before.
 pub fn a_snapshot_is_written_at_the_end()
     ensures { WritesAtTheEnd }
+{}
+
+/// The trace of a snapshot is read, line by line, as the operations that its objects, slots and roots ask for.
+pub fn a_trace_of_a_snapshot_has_its_operations()
+    ensures { TraceHasEvents }
+{}
+
+/// The trace of a snapshot is no longer than a trace may be.
+pub fn a_trace_of_a_snapshot_is_short()
+    ensures { TraceIsShort }
+{}
+
+/// No line of the trace of a snapshot is refused, and the trace makes the snapshot's heap.
+pub fn a_trace_of_a_snapshot_makes_its_heap()
+    ensures { RemakesHeap }
 {}
