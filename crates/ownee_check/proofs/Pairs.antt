@@ -16,7 +16,7 @@ use Rattle.object_table.specs.Placed.{Placed, id_in}
 use Rattle.path_cert.specs.Finds.{finds_in}
 use Rattle.ownee_check.specs.declared.settling.Ownership.{Ownership}
 use Rattle.ownee_check.specs.Cells.{is_found_by, is_kept}
-use Rattle.ownee_check.specs.Settling.{IsOfObjects, is_found_in, flag_of, Flags, Asking, HasAsked}
+use Rattle.ownee_check.specs.Settling.{IsOfObjects, is_found_in, flag_of, Flags, Asked, HasAsked}
 
 -- one more of them
 pub has_id-more : (xs : List ℕ) (i x : ℕ) → i < length xs → has_id (take (i + 1) xs) x ≡ (has_id (take i xs) x || (get_or xs i 0 == x || false))
@@ -150,15 +150,34 @@ pub held-more : (p : Placed) (cells : List ℕ) (cell : ℕ) → All (λ c. IsSo
 held-more p cells cell all held =
     All-append (λ c. IsSome (id_in p c)) cells (cell ∷ []) all (All-cons (λ c. IsSome (id_in p c)) cell [] held (λ k d within. absurd (omega arith)))
 
-module _ (p : Placed) (r : RoleTable) (pairs : List Ownership) (a : Asking) (asked : HasAsked p r pairs a) where
-  -- the owner was asked, and the next one is that of another pair
-  pub asked-owner : (flags : List Bool) (owner : ℕ) → length flags ≡ length a.found → Flags (λ x. has_id a.ownees x && finds_in p r a.owner x) a.found flags → HasAsked p r pairs (record { found = flags; owner = owner; ownees = [] })
-  asked-owner flags owner each noted = record {
+module _ (p : Placed) (r : RoleTable) (pairs : List Ownership) (a : Asked) (asked : HasAsked p r pairs a) where
+  -- the owner was asked
+  pub asked-owner : (flags : List Bool) → length flags ≡ length a.found → Flags (λ x. has_id a.ownees x && finds_in p r a.owner x) a.found flags → HasAsked p r pairs (record { found = flags; owner = a.owner; ownees = [] })
+  asked-owner flags each noted = record {
     each = each ∙ asked.each;
     owner = λ some. absurd (some refl);
     ownees = λ k d within. absurd (omega arith);
     found = λ x. or_false (flag_of flags x) ∙ noted x ∙ asked.found x;
   }
+
+  -- the next one is that of another pair
+  pub asked-next : (owner : ℕ) → a.ownees ≡ [] → HasAsked p r pairs (record { found = a.found; owner = owner; ownees = a.ownees })
+  asked-next owner none = record {
+    each = asked.each;
+    owner = λ some. absurd (some none);
+    ownees = asked.ownees;
+    found = λ x.
+        ap (λ ys. flag_of a.found x || (has_id ys x && finds_in p r owner x)) none
+        ∙ sym (ap (λ ys. flag_of a.found x || (has_id ys x && finds_in p r a.owner x)) none)
+        ∙ asked.found x;
+  }
+
+  -- no owner is asked any more
+  pub asked-all : a.ownees ≡ [] → (x : ℕ) → flag_of a.found x ≡ is_found_in p r pairs x
+  asked-all none x =
+      sym (or_false (flag_of a.found x))
+      ∙ sym (ap (λ ys. flag_of a.found x || (has_id ys x && finds_in p r a.owner x)) none)
+      ∙ asked.found x
 
   -- one pair more of the owner that is asked next
   pub asked-pair : (o : Ownership) → a.owner ≡ o.owner → IsOfObjects p o → HasAsked p r (pairs ++ o ∷ []) (record { found = a.found; owner = a.owner; ownees = a.ownees ++ o.ownee ∷ [] })

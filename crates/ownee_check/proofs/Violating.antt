@@ -25,12 +25,16 @@ use Rattle.path_cert.specs.Cells.{by_id}
 use Rattle.path_cert.specs.Levels.{LevelTable, AreLevelsOf, AreLevelsIn, level_in}
 use Rattle.path_cert.proofs.ByIds.{by_id-held}
 use Rattle.path_cert.proofs.HeldObjects.{id-held, held-id}
-use Rattle.path_cert.proofs.QuestSteps.{All-at}
+use Rattle.path_cert.proofs.Rounds.{index-of}
 use Rattle.ownee_check.specs.Cells.{cells_by_id, is_found_by, is_kept}
 use Rattle.ownee_check.specs.Ownership.{OwnershipTable, AreDoubts, AreViolating, unowned_search}
 use Rattle.ownee_check.proofs.CellsById.{cells-held, ids-filter}
 use Rattle.ownee_check.proofs.Owned.{AgreeByIds, agree-by-ids}
 use Rattle.ownee_check.proofs.OwnersOf.{ownee-found, passes_with_owner, ownees-by_id}
+
+-- what holds of all of a list, at an element
+All-at : (P : ℕ → Type 0) (xs : List ℕ) → All P xs → (x : ℕ) → IsTrue (has_id xs x) → P x
+All-at P xs all x at = (let is = index-of xs x at in subst P is.2 (all is.0 0 is.1))
 
 -- an object that isn't live finds nothing
 nothing-found : (h : Heap) (x y : ℕ) → is_live h.table x ≡ false → finds h x y ≡ false

@@ -1,3 +1,4 @@
 pub mod Ownership
 pub mod Cells
 pub mod Settling
+pub mod Askings

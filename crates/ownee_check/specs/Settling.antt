@@ -24,13 +24,13 @@ abbrev pub Flags : (ℕ → Bool) → List Bool → List Bool → Type 0
 Flags test before after = (x : ℕ) → flag_of after x ≡ (flag_of before x || test x)
 
 -- What was noted of the ownees that were asked for, and the owner to ask next, for these ownees.
-pub record Asking : Type 0 where
+pub record Asked : Type 0 where
   pub found : List Bool
   pub owner : ℕ
   pub ownees : List ℕ
 
 -- What is noted, with what the owner finds that is asked next, is what there was to find in these pairs.
-pub record HasAsked (p : Placed) (r : RoleTable) (pairs : List Ownership) (a : Asking) : Type 0 where
+pub record HasAsked (p : Placed) (r : RoleTable) (pairs : List Ownership) (a : Asked) : Type 0 where
   pub each : length a.found ≡ length p.cells
   pub owner : a.ownees ≢ [] → IsSome (id_in p a.owner)
   pub ownees : All (λ ownee. IsSome (id_in p ownee)) a.ownees

@@ -1,16 +1,16 @@
 //! Which ownees their owners find. Each owner is asked once for all of its ownees that are in doubt.
-ghost use Rattle.std.specs.Prelude.{◌≡◌, ◌≢◌, ◌<◌, ◌&&◌, ℕ, Bool, not, [], length, filter, map, All, IfOk, OnOk, IsSome};
+ghost use Rattle.std.specs.Prelude.{◌≡◌, ◌<◌, ◌&&◌, ◌++◌, ◌∷◌, ℕ, List, Bool, not, [], length, filter, map, All, IfOk, OnOk, IsSome};
 ghost use Rattle.graph_meaning.specs.Reach.{has_id};
-ghost use Rattle.graph_meaning.specs.Roles.{AreRolesOf};
-ghost use Rattle.object_table.specs.Placed.{id_in};
-ghost use Rattle.path_cert.specs.Finds.{finds_in};
+ghost use Rattle.graph_meaning.specs.Roles.{RoleTable, AreRolesOf};
+ghost use Rattle.object_table.specs.Placed.{Placed, id_in};
 ghost use Rattle.ownee_check.specs.Cells.{is_kept};
-ghost use Rattle.ownee_check.specs.Settling.{IsOfObjects, is_found_in, flag_of, Flags};
+ghost use Rattle.ownee_check.specs.Settling.{IsOfObjects, is_found_in, flag_of, Flags, HasAsked};
+ghost use Rattle.ownee_check.specs.declared.settling.Ownership.{Ownership};
 
 use graph_meaning::{OwnerRole, Roles};
 use heap_base::OutOfMemory;
 use object_table::ObjectTable;
-use path_cert::finds;
+use path_cert::OwnerSearch;
 use std::alloc::Global;
 
 /// Those of the ownees that their owner doesn't find, or whose owner is gone, in the same order.
@@ -77,57 +77,96 @@ fn ask_owners(
     ensures each { IfOk result (λ found. length found.items ≡ length table.now.cells) }
     ensures found { IfOk result (λ found. (x : ℕ) → flag_of found.items x ≡ is_found_in table.now roles.now pairs.now x) }
 {
-    let mut found = vec![in alloc; false; table.cells() as usize]?;
-    let mut owner = 0;
-    let mut ownees = Vec::new(alloc);
+    let mut asking = Asking::begin(alloc, table.cells())?;
     for pair in pairs {
-        if pair.owner != owner {
-            ask_owner(
-                alloc,
-                table,
-                roles,
-                owner,
-                ownees.as_slice(),
-                found.as_mut_slice(),
-            )?;
-            ownees.clear();
-            owner = pair.owner;
-        }
-        ownees.push(pair.ownee)?;
+        asking.take(table, roles, *pair)?;
     }
-    ask_owner(
-        alloc,
-        table,
-        roles,
-        owner,
-        ownees.as_slice(),
-        found.as_mut_slice(),
-    )?;
+    asking.ask(table, roles)?;
+    let Asking {
+        search: _,
+        found,
+        owner: _,
+        ownees: _,
+    } = asking;
     Ok(found)
 }
 
-// Asks an owner for these ownees, if there are any, and notes which it finds.
-fn ask_owner(
-    alloc: Global,
-    table: &ObjectTable,
-    roles: &Roles,
+// Owners are being asked: which cells hold ownees that were found; and the owner to ask next, for these ownees.
+#[derive(Drop)]
+struct Asking {
+    search: OwnerSearch,
+    found: Vec<bool>,
     owner: u32,
-    ownees: &[u32],
-    found: &mut [bool],
-) -> Result<(), OutOfMemory>
-    requires roles { AreRolesOf table.now.cells (length table.now.table.kinds) roles.now }
-    requires owner { ownees.now ≢ [] → IsSome (id_in table.now owner) }
-    requires ownees { All (λ ownee. IsSome (id_in table.now ownee)) ownees.now }
-    requires each { length found.old ≡ length table.now.cells }
-    ensures each { length found.new ≡ length found.old }
-    ensures found { OnOk result (Flags (λ x. has_id ownees.now x && finds_in table.now roles.now owner x) found.old found.new) }
-{
-    if ownees.is_empty() {
-        return Ok(());
+    ownees: Vec<u32>,
+    ghost each: { search ≡ length found.items },
+}
+
+impl Asking {
+    ghost use Rattle.ownee_check.specs.Askings.{asked_in};
+
+    fn begin(alloc: Global, cells: u32) -> Result<Asking, OutOfMemory>
+        ensures asked { IfOk result (λ a. (p : Placed) (r : RoleTable) → length p.cells ≡ cells → HasAsked p r [] (asked_in a)) }
+    {
+        Ok(Asking {
+            search: OwnerSearch::make(alloc, cells)?,
+            found: vec![in alloc; false; cells as usize]?,
+            owner: 0,
+            ownees: Vec::new(alloc),
+        })
     }
-    let answers = finds(alloc, table, roles, owner, ownees)?;
-    note_found(ownees, answers.as_slice(), found);
-    Ok(())
+
+    // Takes one pair more. Where it is of another owner, the one before is asked first.
+    fn take(
+        &mut self,
+        table: &ObjectTable,
+        roles: &Roles,
+        pair: Ownership,
+    ) -> Result<(), OutOfMemory>
+        requires roles { AreRolesOf table.now.cells (length table.now.table.kinds) roles.now }
+        requires pair { IsOfObjects table.now pair }
+        requires asked { (pairs : List Ownership) × HasAsked table.now roles.now pairs (asked_in self.old) }
+        ensures asked { OnOk result ((pairs : List Ownership) → HasAsked table.now roles.now pairs (asked_in self.old) → HasAsked table.now roles.now (pairs ++ pair ∷ []) (asked_in self.new)) }
+    {
+        self.turn_to(table, roles, pair.owner)?;
+        self.ownees.push(pair.ownee)?;
+        Ok(())
+    }
+
+    // Has this owner be the one to ask next. Where another one was, that is asked.
+    fn turn_to(&mut self, table: &ObjectTable, roles: &Roles, owner: u32) -> Result<(), OutOfMemory>
+        requires roles { AreRolesOf table.now.cells (length table.now.table.kinds) roles.now }
+        requires asked { (pairs : List Ownership) × HasAsked table.now roles.now pairs (asked_in self.old) }
+        ensures owner { OnOk result (self.new.owner ≡ owner) }
+        ensures asked { OnOk result ((pairs : List Ownership) → HasAsked table.now roles.now pairs (asked_in self.old) → HasAsked table.now roles.now pairs (asked_in self.new)) }
+    {
+        if owner == self.owner {
+            return Ok(());
+        }
+        self.ask(table, roles)?;
+        self.owner = owner;
+        Ok(())
+    }
+
+    // Asks the owner for its ownees, if there are any, and notes which it finds.
+    fn ask(&mut self, table: &ObjectTable, roles: &Roles) -> Result<(), OutOfMemory>
+        requires roles { AreRolesOf table.now.cells (length table.now.table.kinds) roles.now }
+        requires asked { (pairs : List Ownership) × HasAsked table.now roles.now pairs (asked_in self.old) }
+        ensures none { OnOk result (self.new.ownees.items ≡ []) }
+        ensures asked { OnOk result ((pairs : List Ownership) → HasAsked table.now roles.now pairs (asked_in self.old) → HasAsked table.now roles.now pairs (asked_in self.new)) }
+    {
+        if !self.ownees.is_empty() {
+            let answers = self
+                .search
+                .finds(table, roles, self.owner, self.ownees.as_slice())?;
+            note_found(
+                self.ownees.as_slice(),
+                answers.as_slice(),
+                self.found.as_mut_slice(),
+            );
+            self.ownees.clear();
+        }
+        Ok(())
+    }
 }
 
 // Notes which of these ownees were found, by an answer for each.

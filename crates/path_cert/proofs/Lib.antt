@@ -8,6 +8,7 @@ pub mod LevelSteps
 pub mod FirstLevel
 pub mod ByIds
 pub mod CellsLeft
+pub mod MetCells
 pub mod QuestSteps
 pub mod Walking
 pub mod ShownPaths

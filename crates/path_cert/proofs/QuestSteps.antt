@@ -1,5 +1,5 @@
 -- What the search of an owner keeps, and what it has found at its end.
-use Rattle.std.proofs.Common.{◌≡◌, ℕ, Bool, true, false, ◌&&◌, ◌||◌, not, ⊎_elim, ◌⊎◌, inl, inr, List, [], ◌∷◌, ◌++◌, map, sym, refl, ap, subst, ◌∙◌, eqb-true, eq-eqb, ◌==◌, IsTrue, Option, None, Some, All}
+use Rattle.std.proofs.Common.{◌≡◌, ℕ, Bool, true, false, ◌&&◌, ◌||◌, not, ⊎_elim, ◌⊎◌, inl, inr, List, [], ◌∷◌, ◌++◌, sym, refl, ap, subst, ◌∙◌, eqb-true, eq-eqb, ◌==◌, IsTrue, Option, None, Some}
 use Rattle.std.specs.Prelude.{IsSome, IsSomeAnd}
 use Rattle.std.proofs.lemmas.Bool.{or_cases, or_left, or_right, and_parts, false≢true}
 use Rattle.graph_meaning.specs.Heap.{targets}
@@ -14,7 +14,6 @@ use Rattle.path_cert.specs.Cells.{by_id}
 use Rattle.path_cert.specs.Finds.{is_border_cell, border_graph, found_ids, finds_in}
 use Rattle.path_cert.specs.Quests.{Sought, MeetsAll, Reaches, Quest, IsFollowed, IsSearching}
 use Rattle.path_cert.proofs.ByIds.{by_id-held, by_id-true}
-use Rattle.path_cert.proofs.Rounds.{index-of}
 use Rattle.path_cert.proofs.HeldObjects.{held-id, id-held}
 
 or_false : (b : Bool) → (b || false) ≡ b
@@ -44,7 +43,6 @@ MeetsAll-none : (r : RoleTable) (s : Sought) → MeetsAll r [] s s
 MeetsAll-none r s = record {
   met = λ x. sym (or_false (s.met x));
   work = λ x. none_new (has_id s.work x) (s.met x) (not (is_border_cell r x));
-  wanted = λ x is. is;
 }
 
 work_both : (w a p q n : Bool) → ((w || (((a || p) && not a) && n)) || ((((a || p) || q) && not (a || p)) && n)) ≡ (w || ((((a || p) || q) && not a) && n))
@@ -68,7 +66,6 @@ MeetsAll-more r cells cell a b c first next = record {
       ∙ (λ i. (has_id a.work x || ((first.met x i && not (a.met x)) && n)) || ((now i && not (first.met x i)) && n))
       ∙ work_both (has_id a.work x) (a.met x) (has_id cells x) (has_id (cell ∷ []) x) n
       ∙ sym (ap (λ m. has_id a.work x || ((m && not (a.met x)) && n)) now);
-  wanted = λ x is. next.wanted x (first.wanted x is);
 }
 
 same_Some : {x y : ℕ} → Some x ≡ Some y → x ≡ y
@@ -107,7 +104,6 @@ pub record IsSearchingBut (q : Quest) (cell : ℕ) (s : Sought) : Type 0 where
   pub sound : (x : ℕ) → IsTrue (s.met x) → IsSomeAnd (id_in q.placed x) (λ id. IsTrue (has_id (found_ids q.placed q.roles q.owner) id))
   pub waiting : (x : ℕ) → IsTrue (has_id s.work x) → IsTrue (s.met x) × (is_border_cell q.roles x ≡ false)
   pub closed : (x : ℕ) → IsTrue (s.met x) → is_border_cell q.roles x ≡ false → (x ≡ cell) ⊎ (IsTrue (has_id s.work x) ⊎ IsFollowed q.placed s x)
-  pub wanted : (x : ℕ) → IsTrue (has_id q.ownees x) → s.wanted x ≡ not (s.met x)
 
 -- the edges of the object in a cell lead to what the owner finds
 abbrev LeadsToFound : Quest → ℕ → Type 0
@@ -181,12 +177,11 @@ module _ (q : Quest) (placed : IsPlaced q.placed) where
           (λ new. let parts = and_parts _ _ new in ((and_parts _ _ parts.0).0, not_true (is_border_cell q.roles x) parts.1))
           (or_cases _ _ (sym (reaches.meets.work x) ∙ at));
       closed = closed-next;
-      wanted = λ x asked. reaches.meets.wanted x (now.wanted x asked);
     }
 
   -- the last cell of the worklist is taken
-  pub searching-pop : (s t : Sought) (cell : ℕ) → IsSearching q s → s.work ≡ t.work ++ cell ∷ [] → ((x : ℕ) → t.met x ≡ s.met x) → ((x : ℕ) → t.wanted x ≡ s.wanted x) → IsSearchingBut q cell t × LeadsToFound q cell
-  searching-pop s t cell now work met wanted =
+  pub searching-pop : (s t : Sought) (cell : ℕ) → IsSearching q s → s.work ≡ t.work ++ cell ∷ [] → ((x : ℕ) → t.met x ≡ s.met x) → IsSearchingBut q cell t × LeadsToFound q cell
+  searching-pop s t cell now work met =
       let in_work = λ (x : ℕ). ap (λ xs. has_id xs x) work ∙ has_id-append t.work (cell ∷ []) x in
       let taken = now.waiting cell (in_work cell ∙ or_right _ _ (or_left _ _ (eq-eqb cell cell refl))) in (
         record {
@@ -197,19 +192,17 @@ module _ (q : Quest) (placed : IsPlaced q.placed) where
               (λ waits. ⊎_elim (λ rest. inr (inl rest)) (λ last. ⊎_elim (λ e. inl (sym (eqb-true cell x e))) (λ e. absurd (false≢true e)) (or_cases _ _ last)) (or_cases _ _ (sym (in_work x) ∙ waits)))
               (λ done. inr (inr (λ c id held edge. met c ∙ done c id held edge)))
               (now.closed x (sym (met x) ∙ at) inner);
-          wanted = λ x asked. wanted x ∙ now.wanted x asked ∙ ap not (sym (met x));
         },
         cell-leads cell (now.sound cell taken.0) taken.1,
       )
 
   -- nothing is met yet
-  pub searching-begin : (s : Sought) → ((x : ℕ) → s.met x ≡ false) → s.work ≡ [] → ((x : ℕ) → s.wanted x ≡ has_id q.ownees x) → IsSearchingBut q q.owner s × LeadsToFound q q.owner
-  searching-begin s none empty asked = (
+  pub searching-begin : (s : Sought) → ((x : ℕ) → s.met x ≡ false) → s.work ≡ [] → IsSearchingBut q q.owner s × LeadsToFound q q.owner
+  searching-begin s none empty = (
     record {
       sound = λ x at. absurd (false≢true (sym (none x) ∙ at));
       waiting = λ x at. absurd (false≢true (sym (ap (λ xs. has_id xs x) empty) ∙ at));
       closed = λ x at inner. absurd (false≢true (sym (none x) ∙ at));
-      wanted = λ x at. asked x ∙ at ∙ ap not (sym (none x));
     },
     owner-leads,
   )
@@ -238,25 +231,23 @@ module _ (q : Quest) (placed : IsPlaced q.placed) where
         let is = some-id (IsFound q) (id_in p x) (now.sound x met) in
         subst (IsFound q) (sym (id-held p x is.0 is.1)) is.2
 
-    -- What was asked for and met is what the owner finds.
-    pub wanted-found : (((x : ℕ) → s.wanted x ≡ false) ⊎ (s.work ≡ [])) → (x : ℕ) → IsTrue (has_id q.ownees x) → IsSome (id_in p x) → not (s.wanted x) ≡ finds_in p q.roles q.owner x
-    wanted-found done x asked held = ⊎_elim
-        (λ (all : (x : ℕ) → s.wanted x ≡ false).
-        ap not (all x) ∙ sym (met-found x held (sym (not_not (s.met x)) ∙ ap not (sym (now.wanted x asked) ∙ all x))))
-        (λ empty.
-        ap not (now.wanted x asked)
-        ∙ not_not (s.met x)
-        ∙ same_bools (s.met x) (finds_in p q.roles q.owner x) (met-found x held)
-        (λ found.
-        let reach = IsClosed-reachable g sources (by_id p s.met) (all-closed empty) (id_at p.cells x) ((reached_is_reachable g sources (id_at p.cells x)).0 found) in
-        sym (by_id-held p placed s.met x (id_at p.cells x) (held-id p x held)) ∙ reach))
-        done
+    -- Where nothing is left to follow or the object was met, it was met exactly where the owner finds it.
+    pub met-finds : (x : ℕ) → IsSome (id_in p x) → (s.met x ≡ false → s.work ≡ []) → s.met x ≡ finds_in p q.roles q.owner x
+    met-finds x held done = go (s.met x) refl
+      where
+        reached : s.work ≡ [] → IsTrue (finds_in p q.roles q.owner x) → IsTrue (s.met x)
+        reached empty found =
+            let reach = IsClosed-reachable g sources (by_id p s.met) (all-closed empty) (id_at p.cells x) ((reached_is_reachable g sources (id_at p.cells x)).0 found) in
+            sym (by_id-held p placed s.met x (id_at p.cells x) (held-id p x held)) ∙ reach
 
--- two tests that agree at each element give the same answers
-pub map-agree : (f h : ℕ → Bool) (xs : List ℕ) → ((x : ℕ) → IsTrue (has_id xs x) → f x ≡ h x) → map f xs ≡ map h xs
-map-agree f h [] agree = refl
-map-agree f h (x ∷ xs) agree =
-    (λ i. agree x (or_left _ _ (eq-eqb x x refl)) i ∷ map-agree f h xs (λ y at. agree y (or_right _ _ at)) i)
+        go : (b : Bool) → s.met x ≡ b → s.met x ≡ finds_in p q.roles q.owner x
+        go true is = is ∙ sym (met-found x held is)
+        go false is = same_bools (s.met x) (finds_in p q.roles q.owner x) (met-found x held) (reached (done is))
+
+-- what the search goes on from holds an object
+pub searching-held : (q : Quest) (s : Sought) → IsSearching q s → (x : ℕ) → IsTrue (has_id s.work x) → IsSome (id_in q.placed x)
+searching-held q s now x at =
+    (let is = some-id (IsFound q) (id_in q.placed x) (now.sound x (now.waiting x at).0) in subst IsSome (sym is.1) refl)
 
 -- what is on the worklist holds an object
 pub work-held : (p : Placed) (r : RoleTable) (ids : List ℕ) (s t : Sought) (cell : ℕ) (work : List ℕ) → Reaches p r ids s t → work ≡ s.work ++ cell ∷ [] → ((x : ℕ) → IsTrue (has_id work x) → IsSome (id_in p x)) → (x : ℕ) → IsTrue (has_id t.work x) → IsSome (id_in p x)
@@ -271,7 +262,3 @@ work-held p r ids s t cell work reaches taken held x at =
     (λ met. reaches.held x met)
     (or_cases (s.met x) (has_id reaches.cells x) (sym (reaches.meets.met x) ∙ both.0)))
     (or_cases (has_id s.work x) fresh (sym (reaches.meets.work x) ∙ at))
-
--- what holds of all of a list, at an element
-pub All-at : (P : ℕ → Type 0) (xs : List ℕ) → All P xs → (x : ℕ) → IsTrue (has_id xs x) → P x
-All-at P xs all x at = (let is = index-of xs x at in subst P is.2 (all is.0 0 is.1))

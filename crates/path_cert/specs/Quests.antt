@@ -7,11 +7,10 @@ use Rattle.graph_meaning.specs.Roles.{RoleTable, id_at}
 use Rattle.object_table.specs.Placed.{Placed, id_in}
 use Rattle.path_cert.specs.Finds.{is_border_cell, found_ids}
 
--- The cells that were met, those of them from which the search still has to go on, and the asked ones that were not met.
+-- The cells that were met, and those of them from which the search still has to go on.
 pub record Sought : Type 0 where
   pub met : ℕ → Bool
   pub work : List ℕ
-  pub wanted : ℕ → Bool
 
 -- how many cells are still to be looked at: those that were not met, and those on the worklist
 abbrev pub remaining : ℕ → Sought → ℕ
@@ -21,7 +20,6 @@ remaining cells s = count_by (λ cell. not (s.met cell)) (range_with_len 0 cells
 pub record MeetsAll (r : RoleTable) (cells : List ℕ) (before after : Sought) : Type 0 where
   pub met : (x : ℕ) → after.met x ≡ (before.met x || has_id cells x)
   pub work : (x : ℕ) → has_id after.work x ≡ (has_id before.work x || ((after.met x && not (before.met x)) && not (is_border_cell r x)))
-  pub wanted : (x : ℕ) → before.wanted x ≡ not (before.met x) → after.wanted x ≡ not (after.met x)
 
 -- The cells of the objects with these ids were met.
 pub record Reaches (p : Placed) (r : RoleTable) (ids : List ℕ) (before after : Sought) : Type 0 where
@@ -30,12 +28,11 @@ pub record Reaches (p : Placed) (r : RoleTable) (ids : List ℕ) (before after :
   pub held : (cell : ℕ) → IsTrue (has_id cells cell) → IsSome (id_in p cell)
   pub meets : MeetsAll r cells before after
 
--- The search of an owner in a table with roles, and the cells that were asked for.
+-- The search of an owner in a table with roles.
 pub record Quest : Type 0 where
   pub placed : Placed
   pub roles : RoleTable
   pub owner : ℕ
-  pub ownees : List ℕ
 
 -- what the edges of the object in a cell lead to was met
 abbrev pub IsFollowed : Placed → Sought → ℕ → Type 0
@@ -46,7 +43,6 @@ pub record IsSearching (q : Quest) (s : Sought) : Type 0 where
   pub sound : (x : ℕ) → IsTrue (s.met x) → IsSomeAnd (id_in q.placed x) (λ id. IsTrue (has_id (found_ids q.placed q.roles q.owner) id))
   pub waiting : (x : ℕ) → IsTrue (has_id s.work x) → IsTrue (s.met x) × (is_border_cell q.roles x ≡ false)
   pub closed : (x : ℕ) → IsTrue (s.met x) → is_border_cell q.roles x ≡ false → IsTrue (has_id s.work x) ⊎ IsFollowed q.placed s x
-  pub wanted : (x : ℕ) → IsTrue (has_id q.ownees x) → s.wanted x ≡ not (s.met x)
 
 -- where the search goes as it should, it does so afterwards
 abbrev pub KeepsSearching : Quest → Sought → Sought → Type 0

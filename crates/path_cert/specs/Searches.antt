@@ -1,8 +1,11 @@
 -- What contracts see of the search of an owner.
-use Rattle.std.specs.Ordering.{nat_cmp}
-use Rattle.std.specs.BTreeSet.{contains}
+use Rattle.std.specs.Prelude.{ℕ, Bool, ◌==◌, slice_index}
 use Rattle.path_cert.specs.declared.finding.Search.{Search}
 use Rattle.path_cert.specs.Quests.{Sought}
 
+-- the object in a cell was met in the round that is under way
+abbrev pub is_met : Search → ℕ → Bool
+is_met s cell = slice_index s.met_in.items cell == s.round
+
 abbrev pub sought_in : Search → Sought
-sought_in s = record { met = contains nat_cmp s.met; work = s.work.items; wanted = contains nat_cmp s.wanted }
+sought_in s = record { met = is_met s; work = s.work.items }

@@ -31,12 +31,14 @@ loop-slot-preserved c =
           let edges_more = ap ends (edges-edge slots slot held.0 slot_within held.2) ∙ map-append (λ (e : ℕ × ℕ). e.1) (edges_of (take slot slots)) ((slot, held.0) ∷ []) in
           let fewer = subst (λ n. remaining n (sought_in w.meet.new.self) ≤ remaining n now) c.requires.roles w.in_ok-meet.ensures.remaining in
           rw w.self-is (record {
+            each = w.meet.ensures.each ∙ was.each;
             reaches = subst (λ ys. Reaches p r ys begun (sought_in w.meet.new.self)) (sym edges_more) more;
             fewer = omega (arith, fewer, was.fewer);
           })
       | in_default w ↦
           let none = no-edge (edge_of (slot_in p c.args.cell slot)) (sym (sym (ap is_some w.in_default.is) ∙ c.slot_at.ensures.in_a_cell)) in
           rw w.self-is (record {
+            each = was.each;
             reaches = subst (λ es. Reaches p r (ends es) begun now) (sym (edges-none slots slot slot_within none)) was.reaches;
             fewer = was.fewer;
           })

@@ -1,28 +1,27 @@
-use Rattle.std.proofs.Common.{refl}
-use Rattle.std.specs.Ordering.{nat_cmp}
-use Rattle.std.specs.BTreeSet.{contains}
+use Rattle.std.proofs.Common.{refl, ◌∙◌}
 use Rattle.graph_meaning.specs.Heap.{targets}
 use Rattle.graph_meaning.specs.Roles.{id_at}
 use Rattle.path_cert.specs.Quests.{Sought, Quest}
-use Rattle.path_cert.specs.Searches.{sought_in}
+use Rattle.path_cert.specs.Searches.{is_met, sought_in}
 use Rattle.path_cert.proofs.QuestSteps.{searching-pop, searching-next, followed-still, work-held}
-use Rattle.path_cert.proofs.finding.Search.run.Goals as goal
+use Rattle.path_cert.proofs.finding.Search.seek.Goals as goal
 
 pub loop-self-preserved : goal.loop-self-preserved
 loop-self-preserved c =
     let p = c.args.table.now in
     let r = c.args.roles.now in
     let s = sought_in c.loop-self.self in
-    let popped : Sought = record { met = contains nat_cmp c.loop-self.self.met; work = c.pop.new.self.items; wanted = contains nat_cmp c.loop-self.self.wanted } in
+    let popped : Sought = record { met = is_met c.loop-self.self; work = c.pop.new.self.items } in
     let then = sought_in c.follow.new.self in
     let cell = c.in-Some.cell in
     let was = c.loop-self.invariant in
     let reaches = c.in_ok-follow.ensures.reaches in
     record {
+      each = c.follow.ensures.each ∙ was.each;
       held = work-held p r (targets p.table (id_at p.cells cell)) popped then cell c.loop-self.self.work.items reaches c.in-Some.ensures.items was.held;
-      searching = λ owner ownees followed searching.
-          let q : Quest = record { placed = p; roles = r; owner = owner; ownees = ownees } in
-          let now = was.searching owner ownees followed searching in
-          let but = searching-pop q c.requires.placed s popped cell now.1 c.in-Some.ensures.items (λ x. refl) (λ x. refl) in
+      searching = λ owner followed searching.
+          let q : Quest = record { placed = p; roles = r; owner = owner } in
+          let now = was.searching owner followed searching in
+          let but = searching-pop q c.requires.placed s popped cell now.1 c.in-Some.ensures.items (λ x. refl) in
           (followed-still q c.requires.placed cell popped then but.0 but.1 reaches owner now.0, searching-next q c.requires.placed cell popped then but.0 but.1 reaches);
     }

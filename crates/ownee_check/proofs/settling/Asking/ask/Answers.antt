@@ -1,0 +1,25 @@
+use Rattle.std.proofs.Common.{◌&&◌, length, map, sym, ap, subst, ◌∙◌}
+use Rattle.std.proofs.lemmas.List.{with_items_is}
+use Rattle.graph_meaning.specs.Reach.{has_id}
+use Rattle.path_cert.specs.Finds.{finds_in}
+use Rattle.ownee_check.specs.Askings.{asked_in}
+use Rattle.ownee_check.specs.Settling.{HasAsked}
+use Rattle.ownee_check.proofs.Pairs.{asked-owner, noted-slices}
+use Rattle.ownee_check.proofs.settling.Asking.ask.Goals as goal
+
+pub returns-in_ok-answers-clause-asked : goal.returns-in_ok-answers-clause-asked
+returns-in_ok-answers-clause-asked c pairs was =
+    let p = c.args.table.now in
+    let r = c.args.roles.now in
+    let before = asked_in c.args.self.now in
+    let owner = c.args.self.now.owner in
+    let new = c.note_found.new.found in
+    let test = finds_in p r owner in
+    let found = c.args.self.now.found in
+    let each = c.note_found.ensures.each ∙ ap length c.as_mut_slice.ensures.value in
+    let items = with_items_is c.args.self.now.found c.note_found.new.found (each ∙ sym c.args.self.now.found.ok.0) in
+    let answers = c.as_slice-then-not-is_empty-2.ensures.value ∙ c.in_ok-answers.ensures.found ∙ ap (map test) (c.as_slice.ensures.value ∙ sym c.as_slice-then-not-is_empty.ensures.value) in
+    let noted = noted-slices before.found c.as_mut_slice.result.now before.ownees c.as_slice-then-not-is_empty.result.now (λ ownees x. has_id ownees x && test x) new c.as_mut_slice.ensures.value c.as_slice-then-not-is_empty.ensures.value (c.note_found.ensures.found test answers) in
+    let asked = asked-owner p r pairs before was new each noted in
+    let cleared = subst (λ ys. HasAsked p r pairs (record { found = c.note_found.new.found; owner = c.args.self.now.owner; ownees = ys })) (sym c.clear.ensures.items) asked in
+    subst (λ flags. HasAsked p r pairs (record { found = flags; owner = c.args.self.now.owner; ownees = c.clear.new.self.items })) (sym items) cleared
