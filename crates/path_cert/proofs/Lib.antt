@@ -11,4 +11,6 @@ pub mod CellsLeft
 pub mod MetCells
 pub mod QuestSteps
 pub mod Walking
+pub mod AncestorSteps
+pub mod Skipping
 pub mod ShownPaths

@@ -100,7 +100,7 @@ module _ (p : Placed) (s : Search) (l : LevelTable) (levels : AreLevelsOf p s l)
   g = graph_of p s
 
   -- the levels of the objects that predecessors are
-  level-before : (n id before from : ℕ) → predecessor g (ends_of s) n id ≡ Some before → id_in p from ≡ Some before → (arrival_in l.arrivals from).level ≡ suc n
+  pub level-before : (n id before from : ℕ) → predecessor g (ends_of s) n id ≡ Some before → id_in p from ≡ Some before → (arrival_in l.arrivals from).level ≡ suc n
   unfolding predecessor
   level-before n id before from least held =
       let at = find-has_id (λ x. g.passable x && has_id (g.targets x) id) (level g (ends_of s) n) before least in

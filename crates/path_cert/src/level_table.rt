@@ -9,14 +9,16 @@ ghost use Rattle.graph_meaning.specs.declared.paths.PathStep.{PathStep};
 ghost use Rattle.path_cert.specs.Levels.{Search, arrival_in, level_in, way_in, AreLevelsOf, AreLevelsIn};
 ghost use Rattle.path_cert.specs.Trails.{path_steps, HasShown, MayStart, IsStart};
 ghost use Rattle.path_cert.specs.Steps.{way_by_slot};
+ghost use Rattle.path_cert.specs.Ancestors.{AreAncestors, AncestorOf};
 
+use crate::ancestors::{ANCESTOR_LEVEL, known_ancestor};
 use crate::arrival::Arrival;
 use crate::objects::{edge_cell, step_to};
 use crate::references::{from_owner, from_root};
 use crate::start::Start;
 use crate::trail::Trail;
 use graph_meaning::{PathFrom, PathView};
-use heap_base::OutOfMemory;
+use heap_base::{END_STEPS, OutOfMemory};
 use object_table::ObjectTable;
 use std::alloc::Global;
 use std::marker::Model;
@@ -28,6 +30,8 @@ pub struct Levels {
     alloc: Global,
     start: Start,
     arrivals: Vec<Arrival>,
+    // the ancestors of objects that long paths lead to
+    ancestors: Vec<Option<u32>>,
 }
 
 impl Model for Levels {
@@ -37,16 +41,36 @@ impl Model for Levels {
     ghost Value = { LevelTable };
 
     ghost view = { λ l. record { start = l.start; arrivals = l.arrivals.items } };
+
+    ghost use Rattle.path_cert.specs.Ancestors.{AreAncestors};
+
+    ghost invariant = { λ l. AreAncestors l.arrivals.items l.ancestors.items };
+}
+
+/// Where a walk back over a path stands: at the object in a cell, before which so many steps are left.
+#[derive(Clone, Copy)]
+pub(crate) struct Waypoint {
+    cell: u32,
+    left: usize,
 }
 
 impl Levels {
-    pub(crate) fn of(alloc: Global, start: Start, arrivals: Vec<Arrival>) -> Levels
+    ghost use Rattle.path_cert.specs.Skips.{Skips};
+
+    pub(crate) fn of(
+        alloc: Global,
+        start: Start,
+        arrivals: Vec<Arrival>,
+        ancestors: Vec<Option<u32>>,
+    ) -> Levels
+        requires { AreAncestors arrivals.items ancestors.items }
         ensures { result ≡ record { start = start; arrivals = arrivals.items } }
     {
         Levels {
             alloc,
             start,
             arrivals,
+            ancestors,
         }
     }
 
@@ -138,13 +162,41 @@ impl Levels {
         let mut cell = to;
         let mut left = steps;
         while left > 0 {
-            left -= 1;
-            let arrival = self.arrivals[cell as usize];
-            trail.take(left, table, arrival.slot, cell)?;
+            let waypoint = self.skip_hidden(Waypoint { cell, left }, trail.total);
+            left = waypoint.left - 1;
+            let arrival = self.arrivals[waypoint.cell as usize];
+            trail.take(left, table, arrival.slot, waypoint.cell)?;
             cell = arrival.from;
         }
         let from = self.start_at(table, cell)?;
         trail.into_view(self.alloc, from)
+    }
+
+    // Goes back at once to the ancestor, where the steps that are left out begin here.
+    fn skip_hidden(&self, waypoint: Waypoint, total: usize) -> Waypoint
+        requires cell { waypoint.cell < length self.now.arrivals }
+        requires left { path_steps self.now.start (arrival_in self.now.arrivals waypoint.cell).level ≡ Some waypoint.left }
+        ensures { Skips self.now total waypoint result }
+    {
+        let Waypoint { cell, left } = waypoint;
+        if total.saturating_sub(left) != END_STEPS as usize {
+            return waypoint;
+        }
+        let level = self.arrivals[cell as usize].level;
+        match self.ancestor(cell) {
+            Some(ancestor) if level >= ANCESTOR_LEVEL => Waypoint {
+                cell: ancestor,
+                left: left - (level - ANCESTOR_LEVEL) as usize,
+            },
+            _ => waypoint,
+        }
+    }
+
+    // The ancestor of the object in a cell, if it is known.
+    fn ancestor(&self, cell: u32) -> Option<u32>
+        ensures { AncestorOf self.now.arrivals cell result }
+    {
+        known_ancestor(self.ancestors.as_slice(), cell)
     }
 
     // The start of a path: at the root that led to the object in the cell, or at the owner in it.

@@ -1,6 +1,7 @@
 //! Levels and canonical paths through the heap of a table, and what an owner finds.
 #![tactic(auto)]
 
+mod ancestors;
 mod arrival;
 mod finding;
 mod frontier;

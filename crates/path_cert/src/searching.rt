@@ -9,6 +9,7 @@ ghost use Rattle.path_cert.specs.Levels.{Search, search_of, arrival_in, AreLevel
 ghost use Rattle.path_cert.specs.Frontiers.{Grows, HasTaken, Round, by_object, by_objects, GoesUpTo, IsUnderWay, IsAtLevel, ShutByCell};
 ghost use Rattle.path_cert.specs.Fronts.{front_of};
 
+use crate::ancestors::ancestors_of;
 use crate::arrival::Arrival;
 use crate::frontier::Frontier;
 use crate::level_table::Levels;
@@ -19,7 +20,7 @@ use object_table::ObjectTable;
 use std::alloc::Global;
 
 /// The levels from the roots or from the owners, where no path goes on from the objects of the cells that are shut.
-/// It takes 16 bytes a cell, and reads each slot of what it reaches once.
+/// It takes 16 bytes a cell, and 8 more where a path leaves steps out, and reads each slot of what it reaches once.
 pub fn levels(
     alloc: Global,
     table: &ObjectTable,
@@ -37,8 +38,9 @@ pub fn levels(
         Start::Owners => search.take_owners(table, roles.owners()),
     }
     search.take_levels(table, shut);
-    let Frontier { arrivals, order: _ } = search;
-    Ok(Levels::of(alloc, start, arrivals))
+    let Frontier { arrivals, order } = search;
+    let ancestors = ancestors_of(alloc, arrivals.as_slice(), order.as_slice())?;
+    Ok(Levels::of(alloc, start, arrivals, ancestors))
 }
 
 impl Frontier {

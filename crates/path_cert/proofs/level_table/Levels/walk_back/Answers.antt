@@ -10,10 +10,12 @@ use Rattle.graph_meaning.specs.Paths.{Way, view_of}
 use Rattle.graph_meaning.specs.Roles.{id_at}
 use Rattle.path_cert.specs.declared.arrival.Arrival.{Arrival}
 use Rattle.path_cert.specs.declared.arrival.TheConstants.{NOWHERE}
+use Rattle.path_cert.specs.declared.level_table.Waypoint.{Waypoint}
 use Rattle.path_cert.specs.Steps.{step_to}
 use Rattle.path_cert.specs.Levels.{Search, LevelTable, arrival_in, way_in, AreLevelsOf}
 use Rattle.path_cert.specs.Trails.{HasShown}
 use Rattle.path_cert.proofs.HeldObjects.{held-within}
+use Rattle.path_cert.proofs.Skipping.{steps-left, walk-skipped, skipped-some}
 use Rattle.path_cert.proofs.Walking.{Walk, HasWalked, walk-begins, walk-back, may-start, walk-ends}
 use Rattle.path_cert.proofs.level_table.Levels.walk_back.Goals as goal
 
@@ -25,37 +27,89 @@ loop-left-init c = record {
       walk-begins k c.args.trail c.args.steps levels c.requires.cell c.requires.steps has;
 }
 
-pub index-arrival-requires : goal.index-arrival-requires
-index-arrival-requires c =
+pub skip_hidden-waypoint-requires-clause-cell : goal.skip_hidden-waypoint-requires-clause-cell
+skip_hidden-waypoint-requires-clause-cell c =
     let now = c.loop-left.invariant.walked c.requires.table.0 c.requires.shown.0 c.requires.table.1 c.requires.shown.1 in
     let within : c.loop-left.cell < length c.args.table.now.cells = held-within c.args.table.now c.loop-left.cell now.way.to now.leads.held in
     let each = c.requires.table.1.each in
+    omega (arith, within, each)
+
+pub skip_hidden-waypoint-requires-clause-left : goal.skip_hidden-waypoint-requires-clause-left
+skip_hidden-waypoint-requires-clause-left c =
+    let k : Walk = record { placed = c.args.table.now; search = c.requires.table.0; levels = c.args.self.now; to = c.args.to; after = c.requires.shown.0 } in
+    let now = c.loop-left.invariant.walked c.requires.table.0 c.requires.shown.0 c.requires.table.1 c.requires.shown.1 in
+    steps-left k c.loop-left.trail c.requires.table.1 c.loop-left.left c.loop-left.cell (omega arith) now
+
+pub overflow_sub-left : goal.overflow_sub-left
+overflow_sub-left c =
+    let now = c.loop-left.invariant.walked c.requires.table.0 c.requires.shown.0 c.requires.table.1 c.requires.shown.1 in
+    let before : Waypoint = record { cell = c.loop-left.cell; left = c.loop-left.left } in
+    let skips = c.skip_hidden-waypoint.ensures c.args.table.now c.requires.table.0 c.requires.table.1 (subst IsSome (sym now.leads.held) refl) in
+    let some = skipped-some c.args.self.now c.loop-left.trail.total before c.skip_hidden-waypoint.result skips (omega arith) in
+    omega (arith, some)
+
+pub loop-left-smaller : goal.loop-left-smaller
+loop-left-smaller c =
+    let now = c.loop-left.invariant.walked c.requires.table.0 c.requires.shown.0 c.requires.table.1 c.requires.shown.1 in
+    let before : Waypoint = record { cell = c.loop-left.cell; left = c.loop-left.left } in
+    let skips = c.skip_hidden-waypoint.ensures c.args.table.now c.requires.table.0 c.requires.table.1 (subst IsSome (sym now.leads.held) refl) in
+    let some = skipped-some c.args.self.now c.loop-left.trail.total before c.skip_hidden-waypoint.result skips (omega arith) in
+    let fewer = skips.left in
+    omega (arith, some, fewer)
+
+pub index-arrival-requires : goal.index-arrival-requires
+index-arrival-requires c =
+    let p = c.args.table.now in
+    let s = c.requires.table.0 in
+    let levels = c.requires.table.1 in
+    let k : Walk = record { placed = c.args.table.now; search = c.requires.table.0; levels = c.args.self.now; to = c.args.to; after = c.requires.shown.0 } in
+    let now = c.loop-left.invariant.walked s c.requires.shown.0 levels c.requires.shown.1 in
+    let before : Waypoint = record { cell = c.loop-left.cell; left = c.loop-left.left } in
+    let skips = c.skip_hidden-waypoint.ensures p s levels (subst IsSome (sym now.leads.held) refl) in
+    let there = walk-skipped k c.loop-left.trail levels before c.skip_hidden-waypoint.result skips now in
+    let within : c.skip_hidden-waypoint.result.cell < length c.args.table.now.cells = held-within p c.skip_hidden-waypoint.result.cell there.way.to there.leads.held in
+    let each = levels.each in
     let many = ap (λ (l : LevelTable). length l.arrivals) c.self.view_is in
     omega (arith, within, each, many)
 
 pub take-requires : goal.take-requires
 take-requires c =
-    let now = c.loop-left.invariant.walked c.requires.table.0 c.requires.shown.0 c.requires.table.1 c.requires.shown.1 in
-    subst IsSome (sym now.leads.held) refl
+    let p = c.args.table.now in
+    let s = c.requires.table.0 in
+    let levels = c.requires.table.1 in
+    let k : Walk = record { placed = c.args.table.now; search = c.requires.table.0; levels = c.args.self.now; to = c.args.to; after = c.requires.shown.0 } in
+    let now = c.loop-left.invariant.walked s c.requires.shown.0 levels c.requires.shown.1 in
+    let before : Waypoint = record { cell = c.loop-left.cell; left = c.loop-left.left } in
+    let skips = c.skip_hidden-waypoint.ensures p s levels (subst IsSome (sym now.leads.held) refl) in
+    let there = walk-skipped k c.loop-left.trail levels before c.skip_hidden-waypoint.result skips now in
+    subst IsSome (sym there.leads.held) refl
 
 pub loop-left-preserved : goal.loop-left-preserved
 loop-left-preserved c =
     let p = c.args.table.now in
-    let cell = c.loop-left.cell in
-    let before = c.loop-left.invariant.walked c.requires.table.0 c.requires.shown.0 c.requires.table.1 c.requires.shown.1 in
-    let below : c.loop-left.cell < length c.args.table.now.cells = held-within p cell before.way.to before.leads.held in
+    let cell = c.skip_hidden-waypoint.result.cell in
+    let left = c.skip_hidden-waypoint.result.left in
+    let before : Waypoint = record { cell = c.loop-left.cell; left = c.loop-left.left } in
+    let first = c.loop-left.invariant.walked c.requires.table.0 c.requires.shown.0 c.requires.table.1 c.requires.shown.1 in
+    let held_before = subst IsSome (sym first.leads.held) refl in
+    let skips = c.skip_hidden-waypoint.ensures p c.requires.table.0 c.requires.table.1 held_before in
+    let start : Walk = record { placed = c.args.table.now; search = c.requires.table.0; levels = c.args.self.now; to = c.args.to; after = c.requires.shown.0 } in
+    let there = walk-skipped start c.loop-left.trail c.requires.table.1 before c.skip_hidden-waypoint.result skips first in
+    let below : c.skip_hidden-waypoint.result.cell < length c.args.table.now.cells = held-within p cell there.way.to there.leads.held in
     let each = c.requires.table.1.each in
     let many : length c.self.inside.arrivals.items ≡ length c.args.self.now.arrivals = ap (λ (l : LevelTable). length l.arrivals) c.self.view_is in
-    let within : c.loop-left.cell < length c.self.inside.arrivals.items = omega (arith, below, each, many) in
+    let within : c.skip_hidden-waypoint.result.cell < length c.self.inside.arrivals.items = omega (arith, below, each, many) in
     let read = c.index-arrival.ensures ∙ get_or_default c.self.inside.arrivals.items cell c.index-arrival.result.now NOWHERE within ∙ ap (λ (l : LevelTable). arrival_in l.arrivals cell) c.self.view_is in
-    let one : c.loop-left.left ≡ suc (c.loop-left.left - 1) = omega arith in
+    let some = skipped-some c.args.self.now c.loop-left.trail.total before c.skip_hidden-waypoint.result skips (omega arith) in
+    let one : c.skip_hidden-waypoint.result.left ≡ suc (c.skip_hidden-waypoint.result.left - 1) = omega (arith, some) in
     record {
       total = c.take.ensures.total ∙ c.loop-left.invariant.total;
       walked = λ s after levels has.
           let k : Walk = record { placed = c.args.table.now; search = s; levels = c.args.self.now; to = c.args.to; after = after } in
-          let now = subst (λ n. HasWalked k c.loop-left.trail n cell) one (c.loop-left.invariant.walked s after levels has) in
-          let taken = subst (λ (a : Arrival). (rest : List PathStep) → HasShown c.loop-left.trail ((c.loop-left.left - 1) + 1) rest → HasShown c.take.new.self (c.loop-left.left - 1) (step_to p.table (a.slot, id_at p.cells cell) ∷ rest)) read c.in_ok-take.ensures.taken in
-          subst (λ (a : Arrival). HasWalked k c.take.new.self (c.loop-left.left - 1) a.from) (sym read) (walk-back k c.loop-left.trail c.take.new.self (c.loop-left.left - 1) cell levels now taken);
+          let skipped = walk-skipped k c.loop-left.trail levels before c.skip_hidden-waypoint.result (c.skip_hidden-waypoint.ensures p s levels held_before) (c.loop-left.invariant.walked s after levels has) in
+          let now = subst (λ n. HasWalked k c.loop-left.trail n cell) one skipped in
+          let taken = subst (λ (a : Arrival). (rest : List PathStep) → HasShown c.loop-left.trail ((c.skip_hidden-waypoint.result.left - 1) + 1) rest → HasShown c.take.new.self (c.skip_hidden-waypoint.result.left - 1) (step_to p.table (a.slot, id_at p.cells cell) ∷ rest)) read c.in_ok-take.ensures.taken in
+          subst (λ (a : Arrival). HasWalked k c.take.new.self (c.skip_hidden-waypoint.result.left - 1) a.from) (sym read) (walk-back k c.loop-left.trail c.take.new.self (left - 1) cell levels now taken);
     }
 
 pub start_at-requires-clause-cell : goal.start_at-requires-clause-cell
