@@ -2,14 +2,14 @@
 ghost use Rattle.std.specs.Prelude.{◌≡◌, ◌<◌, length, filter, IfOk};
 ghost use Rattle.graph_meaning.specs.Roles.{cells_of};
 ghost use Rattle.object_table.specs.Placed.{IsPlaced, IsSound};
-ghost use Rattle.path_cert.specs.Finds.{has_owner};
 ghost use Rattle.ownee_check.specs.Cells.{cells_by_id};
 ghost use Rattle.ownership_check.specs.Cells.{is_in_doubt};
 
-use graph_meaning::{OwnerRole, Roles};
+use graph_meaning::Roles;
 use header_rule::Words;
 use heap_base::OutOfMemory;
 use object_table::ObjectTable;
+use path_cert::has_owner;
 use std::alloc::Global;
 
 /// The cells of the ownees that are marked as met by roots and not as found, by the ids of the objects. Whatever is
@@ -45,15 +45,4 @@ fn is_in_doubt(roles: &Roles, words: &Words, cell: u32) -> bool
     ensures { result ≡ is_in_doubt roles.now words.now cell }
 {
     has_owner(roles.owner(cell)) && words.met_by_roots(cell) && !words.found(cell)
-}
-
-// Whether the role is that of an ownee.
-fn has_owner(role: OwnerRole) -> bool
-    ensures { result ≡ has_owner role }
-{
-    match role {
-        OwnerRole::NotOwned => false,
-        OwnerRole::OwnerCell(_) => true,
-        OwnerRole::OwnerGone(_) => true,
-    }
 }

@@ -5,9 +5,10 @@ ghost use Rattle.object_table.specs.Placed.{IsPlaced};
 ghost use Rattle.path_cert.specs.Finds.{has_owner};
 ghost use Rattle.ownee_check.specs.Cells.{cells_by_id};
 
-use graph_meaning::{OwnerRole, Roles};
+use graph_meaning::Roles;
 use heap_base::OutOfMemory;
 use object_table::ObjectTable;
+use path_cert::has_owner;
 use std::alloc::Global;
 
 /// The cells of all ownees, by the ids of the objects.
@@ -30,15 +31,4 @@ pub(crate) fn ownees_of(
         }
     }
     Ok(ownees)
-}
-
-// Whether the role is that of an ownee.
-fn has_owner(role: OwnerRole) -> bool
-    ensures { result ≡ has_owner role }
-{
-    match role {
-        OwnerRole::NotOwned => false,
-        OwnerRole::OwnerCell(_) => true,
-        OwnerRole::OwnerGone(_) => true,
-    }
 }
