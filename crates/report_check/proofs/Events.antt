@@ -1,5 +1,5 @@
 -- What an event makes due.
-use Rattle.std.proofs.Common.{◌≡◌, ◌≢◌, ℕ, List, [], ◌∷◌, false, Vec, Global, Result, Ok, Err, Some, refl, sym, ◌∙◌, ap}
+use Rattle.std.proofs.Common.{◌≡◌, ◌≢◌, ℕ, List, [], ◌∷◌, false, Vec, Global, Result, Ok, Err, Some, sym, ◌∙◌, ap}
 use Rattle.std.specs.Result.{result_err}
 use Rattle.graph_meaning.specs.declared.event.Event.{Event}
 use Rattle.graph_meaning.specs.declared.event.Event.TheVariants.{Collect}

@@ -1,15 +1,12 @@
 -- What is written of a comparison, and what follows from it.
 use Rattle.std.proofs.Common.{◌≡◌, ◌⊎◌, inl, inr, ℕ, List, Option, None, Some, refl, ⊎_elim}
 use Rattle.std.specs.Io.KnownBytes.{Keeps}
-use Rattle.heap_base.specs.Causes.{Rose}
-use Rattle.heap_base.specs.Streams.{Stream}
 use Rattle.heap_base.specs.declared.status.Status.{Status}
 use Rattle.heap_base.specs.declared.status.Status.TheVariants.{Clean, Violated, TraceFault, ReadFault, WriteFault, NoMemory, Usage}
 use Rattle.text_comparison.specs.declared.outcome.Compared.{Compared}
 use Rattle.text_comparison.specs.declared.outcome.Compared.TheVariants.{Equal, Differs}
-use Rattle.trace_run.specs.Outcome.{WritesOnce}
 use Rattle.report_check.specs.Checked.{World, IsChecked, ChecksEnd}
-use Rattle.report_check.specs.Reports.{TellsOfReports, Writes, line_of, status_of}
+use Rattle.report_check.specs.Reports.{TellsOfReports, Writes, status_of}
 
 pub keeps-same : (held : Option (List ℕ)) → Keeps held held
 keeps-same None = tt

@@ -1,15 +1,14 @@
 -- A check that is under way: what the report on the trace is so far, and what the other report has been found to be.
 -- No sink takes the texts, so the run is followed as one into a sink that holds them.
-use Rattle.std.proofs.Common.{◌≡◌, ◌≢◌, ℕ, zero, ◌+◌, ◌≤◌, List, [], ◌++◌, length, take, drop, Bool, true, false, Option, None, Some, Result, Ok, Err, refl, sym, ◌∙◌, ap, subst, arith, take_all, ⊎_elim, ◌-◌, ◌<◌}
+use Rattle.std.proofs.Common.{◌≡◌, ℕ, ◌+◌, ◌≤◌, List, [], ◌++◌, length, take, drop, Bool, true, false, Option, None, Some, Result, Ok, Err, refl, sym, ◌∙◌, ap, subst, arith, take_all, ⊎_elim, ◌-◌, ◌<◌}
 use Rattle.std.specs.Option.{IfSome}
-use Rattle.std.specs.Io.KnownBytes.{Consumes}
 use Rattle.std.proofs.KnownBytes.{Consumes-nil}
 use Rattle.std.proofs.lemmas.List.{take-append-drop}
 use Rattle.heap_base.specs.Sinks.{AppendsPart}
 use Rattle.heap_base.specs.Streams.{Stream}
 use Rattle.heap_base.specs.declared.limits.TheConstants.{LONGEST_TRACE}
 use Rattle.heap_base.specs.declared.status.Status.{Status}
-use Rattle.heap_base.specs.declared.status.Status.TheVariants.{Clean, Violated, TraceFault, NoMemory}
+use Rattle.heap_base.specs.declared.status.Status.TheVariants.{TraceFault, NoMemory}
 use Rattle.graph_meaning.specs.declared.refusal.Refusal.{Refusal}
 use Rattle.graph_meaning.specs.declared.refusal.Refusal.TheVariants as refusal
 use Rattle.trace_reader.specs.declared.error.CutError.{CutError}
@@ -19,12 +18,12 @@ use Rattle.trace_reader.specs.Items.{items_of}
 use Rattle.trace_reader.specs.Meaning.{item_of_line}
 use Rattle.report.specs.Text.{fault_text}
 use Rattle.trace_run.specs.Outcome.{Ended, AppendsPartOfReport, seen}
-use Rattle.trace_run.specs.Program.{Effect, Last, Ran, Report, by_effect, end_of_trace, ends_so, goes_on, refused_line, refuses, report_by, report_on, status_by, takes_item}
+use Rattle.trace_run.specs.Program.{Effect, Report, by_effect, end_of_trace, ends_so, goes_on, refuses, report_by, report_on, status_by, takes_item}
 use Rattle.trace_run.specs.Turn.{EndsRun}
 use Rattle.trace_run.proofs.Endings.{AppendsPart-longer, finished, line_ends, line_too_long, trace_too_long}
 use Rattle.trace_run.proofs.Progress.{InProgress, begins_at, line_leaves_fewer, line_taken, line_within}
 use Rattle.trace_run.proofs.Runs.{report_on-text}
-use Rattle.audit_program.specs.Audits.{AuditState, audit_meaning, audit_report, first_audit_state, rules_by}
+use Rattle.audit_program.specs.Audits.{AuditState, audit_meaning, first_audit_state, rules_by}
 use Rattle.audit_program.proofs.Reports.{audit_is_reported}
 use Rattle.graph_meaning.specs.declared.reaction.React.TheVariants as react
 use Rattle.report_check.specs.Flows.{ComparesLine}

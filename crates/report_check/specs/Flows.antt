@@ -1,5 +1,5 @@
 -- How the reports compare behind a line of the trace.
-use Rattle.std.specs.Prelude.{◌≡◌, ◌⊎◌, ℕ, ◌++◌, List, Option, Ok}
+use Rattle.std.specs.Prelude.{◌≡◌, ◌⊎◌, ℕ, ◌++◌, List, Option}
 use Rattle.graph_meaning.specs.declared.refusal.Refusal.{Refusal}
 use Rattle.report.specs.Text.{fault_text}
 use Rattle.trace_run.specs.Program.{Effect, goes_on, refuses}

@@ -1,5 +1,5 @@
 //! The comparison of two reports: the one on a trace, as it is made, and the one that is to be checked.
-ghost use Rattle.std.specs.Prelude.{◌≡◌, ◌⊎◌, ◌≤◌, Err, IfOk};
+ghost use Rattle.std.specs.Prelude.{◌≡◌, ◌⊎◌, Err, IfOk};
 ghost use Rattle.heap_base.specs.Causes.{Rose};
 ghost use Rattle.report_check.specs.declared.outcome.CheckError.TheVariants.{ReadFault};
 ghost use Rattle.report_check.specs.Reports.{TellsOfReports, TellsOfRun};

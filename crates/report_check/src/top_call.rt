@@ -1,4 +1,4 @@
-ghost use Rattle.std.specs.Prelude.{◌≡◌, ◌≤◌, ℕ, None, Some, map, IfOk};
+ghost use Rattle.std.specs.Prelude.{◌≡◌, ℕ, None, Some, map, IfOk};
 ghost use Rattle.heap_base.specs.Streams.{stream_of};
 ghost use Rattle.trace_run.specs.Outcome.{RefusesWords, seen};
 ghost use Rattle.report_check.specs.Checked.{IsChecked, usage_line, world};
