@@ -1,5 +1,5 @@
-//! Tests of a whole run by its calls: reads and writes that fail, what two workers do at the same time, and the texts
-//! of a report. What a trace's report is, the cases on the built program show.
+//! Tests of a whole run by its calls: reads and writes that fail, what two workers do at the same time, and the line of
+//! each refusal. What a trace's report is, the cases on the built program show.
 #![tactic(auto)]
 
 #[cfg(test)]
@@ -13,4 +13,4 @@ mod gates;
 #[cfg(test)]
 mod order;
 #[cfg(test)]
-mod texts;
+mod refusals;

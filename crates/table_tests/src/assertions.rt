@@ -1,15 +1,14 @@
 //! What is asserted of objects, and the roles that it gives their cells.
-ghost use Rattle.std.specs.Prelude.{◌≡◌, ◌<◌, length, AllPairs, IfOk};
+ghost use Rattle.std.specs.Prelude.{◌≡◌, length};
 ghost use Rattle.graph_meaning.specs.Roles.{cells_of, kinds_of};
 
 use assert_registry::AssertRegistry;
-use graph_meaning::{OwnerRole, Refusal, Roles, Stop};
-use heap_base::{ObjId, OutOfMemory};
+use graph_meaning::{OwnerRole, Roles};
+use heap_base::OutOfMemory;
 use object_table::ObjectTable;
 use std::alloc::Global;
-use std::process::Abort;
 use std::test::Fail;
-use test_support::{SampleHeap, cell, id, id_or_zero, name, registry_of, roles_in, roles_of};
+use test_support::{SampleHeap, cell, id, id_or_zero, name, roles_in, roles_of};
 
 // ---- owners
 
@@ -144,30 +143,6 @@ fn owners_stand_by_id_and_may_be_gone(rt: HostRuntime) -> Result<(), Fail> {
     Ok(())
 }
 
-// What is answered where the first of two objects is to own the second, and the second's owner afterwards.
-fn owns(
-    registry: &mut AssertRegistry,
-    owner: u32,
-    ownee: u32,
-) -> Result<(Result<(), Stop>, Option<ObjId>), Fail> {
-    let (owner, ownee) = (id(owner)?, id(ownee)?);
-    let result = registry.assert_ownedby(owner, ownee);
-    Ok((result, registry.owner_of(ownee)))
-}
-
-fn check_owners(rt: &impl Abort, registry: &mut AssertRegistry) -> Result<(), Fail> {
-    let refused = Err(Stop::Refused(Refusal::SelfOwned(4)));
-    assert_eq!(rt; owns(registry, 4, 4)?, (refused, None));
-    assert_eq!(rt; owns(registry, 3, 4)?, (Ok(()), ObjId::of(3)));
-    Ok(())
-}
-
-#[test]
-fn no_object_owns_itself(rt: HostRuntime) -> Result<(), Fail> {
-    let mut registry = AssertRegistry::make(rt.alloc())?;
-    check_owners(&rt, &mut registry)
-}
-
 // ---- dead and unshared
 
 const FLAGGED: SampleHeap<'static> = SampleHeap {
@@ -201,60 +176,6 @@ fn dead_and_unshared_are_told_apart(rt: HostRuntime) -> Result<(), Fail> {
     let flags = flags_of_four(rt.alloc(), &table)?;
     let wanted = [(true, false), (false, false), (true, true), (false, true)];
     assert_eq!(rt; flags, wanted.map(Some));
-    Ok(())
-}
-
-// The ids from 1 on that are below the end.
-fn ids_below(alloc: Global, end: u32) -> Result<Vec<ObjId>, Fail>
-    ensures { IfOk result (λ ids. AllPairs (λ x y. x < y) ids.items) }
-{
-    let mut ids = Vec::new(alloc);
-    for n in 1..end {
-        ids.push(id(n)?)?;
-    }
-    Ok(ids)
-}
-
-// How many cells hold objects that are asserted dead.
-fn dead_count(table: &ObjectTable, roles: &Roles) -> u32
-    requires { cells_of roles.now ≡ length table.now.cells }
-{
-    (0..table.cells()).filter(|cell| roles.dead(*cell)).count() as u32
-}
-
-// Asserts the objects dead whose ids are below the end.
-fn assert_dead_below(alloc: Global, registry: &mut AssertRegistry, end: u32) -> Result<(), Fail> {
-    let ids = ids_below(alloc, end)?;
-    Ok(registry.assert_dead_all(&ids)?)
-}
-
-// How many objects are asserted dead, and the flags of the last of them and of the next object.
-fn count_dead(
-    table: &ObjectTable,
-    registry: &mut AssertRegistry,
-) -> Result<(u32, [Option<(bool, bool)>; 2]), Fail> {
-    let roles = roles_of(registry, table)?;
-    let last = [flags(table, &roles, 500_000), flags(table, &roles, 500_001)];
-    Ok((dead_count(table, &roles), last))
-}
-
-fn dead_of_half_a_million(
-    alloc: Global,
-    table: &ObjectTable,
-) -> Result<(u32, [Option<(bool, bool)>; 2]), Fail> {
-    let mut registry = registry_of(alloc, FLAGGED)?;
-    assert_dead_below(alloc, &mut registry, 500_001)?;
-    count_dead(table, &mut registry)
-}
-
-#[test]
-fn half_a_million_objects_are_asserted_dead(rt: HostRuntime) -> Result<(), Fail> {
-    let table = table_without(rt.alloc(), 500_010, 0)?;
-    let dead = dead_of_half_a_million(rt.alloc(), &table)?;
-    assert_eq!(rt;
-        dead,
-        (500_000, [Some((true, false)), Some((false, false))])
-    );
     Ok(())
 }
 

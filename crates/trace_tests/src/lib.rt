@@ -12,6 +12,4 @@ mod gate_tests;
 #[cfg(test)]
 mod heap_tests;
 #[cfg(test)]
-mod large_heap_tests;
-#[cfg(test)]
 mod traces;

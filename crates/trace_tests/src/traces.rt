@@ -135,8 +135,8 @@ fn first_amiss(
     None
 }
 
-/// Traces the table by so many workers, and compares.
-pub fn check_table<R: Threads + Sync + Abort>(
+// Traces the table by so many workers, and compares.
+fn check_table<R: Threads + Sync + Abort>(
     rt: &R,
     alloc: Global,
     table: &ObjectTable,

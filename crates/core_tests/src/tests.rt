@@ -1,5 +1,0 @@
-mod agreements;
-mod by_hand;
-mod calls;
-mod large;
-mod lines;
