@@ -1,8 +1,8 @@
 -- A minor collection beside a full one.
-use Rattle.std.proofs.Common.{◌≡◌, ◌==◌, ℕ, ◌≤◌, List, [], ◌∷◌, filter, Bool, true, false, not, ◌||◌, ◌&&◌, IsTrue, suc, eqb-true, refl, sym, ◌∙◌, ap, subst, ⊎_elim, arith}
+use Rattle.std.proofs.Common.{◌≡◌, ◌==◌, ℕ, ◌≤◌, List, [], ◌∷◌, filter, Bool, true, false, not, ◌||◌, IsTrue, suc, eqb-true, refl, sym, ◌∙◌, ap, subst, ⊎_elim, arith}
 use Rattle.std.specs.List.{All, flat_map}
 use Rattle.std.specs.Prelude.{nat_lt}
-use Rattle.std.proofs.lemmas.Bool.{false≢true, or_left, or_right, or_cases, and_parts, le-ltb}
+use Rattle.std.proofs.lemmas.Bool.{false≢true, or_left, or_right, or_cases, and_parts, and_from, le-ltb}
 use Rattle.graph_meaning.specs.Heap.{Table, ids, is_live, targets}
 use Rattle.graph_meaning.specs.Reach.{has_id, IsPath, HasEdge}
 use Rattle.graph_meaning.specs.Assertions.{object_graph, root_ids}
@@ -18,28 +18,26 @@ use Rattle.minor_gc.specs.Laws.{MinorKeepsMore, MinorKeepsOld, NoneYoungAfter}
 pub live_kept : (kept : List ℕ) (t : Table) (x : ℕ) → IsTrue (is_live (with_only kept t) x) → IsTrue (has_id kept x) × IsTrue (is_live t x)
 live_kept kept t x live = let both = and_parts _ _ (sym (is_live-with_only kept t x) ∙ live) in (both.0, both.1)
 
-pub and_both : (a b : Bool) → a ≡ true → b ≡ true → (a && b) ≡ true
-and_both a b p q = rw (p, q) refl
-
-pub kept_live : (kept : List ℕ) (t : Table) (x : ℕ) → IsTrue (has_id kept x) → IsTrue (is_live t x) → IsTrue (is_live (with_only kept t) x)
-kept_live kept t x has live = is_live-with_only kept t x ∙ and_both (has_id kept x) (is_live t x) has live
+kept_live : (kept : List ℕ) (t : Table) (x : ℕ) → IsTrue (has_id kept x) → IsTrue (is_live t x) → IsTrue (is_live (with_only kept t) x)
+kept_live kept t x has live = is_live-with_only kept t x ∙ and_from (has_id kept x) (is_live t x) has live
 
 module _ (g : Generations) where
   -- kept by a minor collection is exactly what is old or reached over young objects
   pub in_minor : (x : ℕ) → IsTrue (is_live g.table x) → IsTrue (is_old g x || has_id (young_kept g) x) → IsTrue (has_id (kept_by_minor g) x)
   unfolding kept_by_minor
-  in_minor x live stays = has_id-filter (λ y. is_old g y || has_id (young_kept g) y) (ids g.table) x ∙ and_both _ _ stays (has_id-ids g.table x ∙ live)
+  in_minor x live stays = has_id-filter (λ y. is_old g y || has_id (young_kept g) y) (ids g.table) x ∙ and_from _ _ stays (has_id-ids g.table x ∙ live)
 
   -- a live young object is a node
   young_node : (x : ℕ) → is_young g x ≡ true → IsTrue (is_live g.table x) → IsTrue (has_id (young_graph g).nodes x)
-  young_node x young live = has_id-filter (is_young g) (ids g.table) x ∙ and_both _ _ young (has_id-ids g.table x ∙ live)
+  young_node x young live = has_id-filter (is_young g) (ids g.table) x ∙ and_from _ _ young (has_id-ids g.table x ∙ live)
 
   -- what an old object holds is a start
   pub held_by_old : (x y : ℕ) → is_young g x ≡ false → IsTrue (is_live g.table x) → IsTrue (has_id (targets g.table x) y) → IsTrue (has_id (young_starts g) y)
   held_by_old x y old live holds =
-      let among : has_id (filter (is_old g) (ids g.table)) x ≡ true = has_id-filter (is_old g) (ids g.table) x ∙ and_both _ _ (ap not old) (has_id-ids g.table x ∙ live) in
+      let among : has_id (filter (is_old g) (ids g.table)) x ≡ true = has_id-filter (is_old g) (ids g.table) x ∙ and_from _ _ (ap not old) (has_id-ids g.table x ∙ live) in
+      let held = list_any-from_has_id (λ z. has_id (targets g.table z) y) (filter (is_old g) (ids g.table)) x among holds in
       has_id-append (root_ids g.table) (flat_map (targets g.table) (filter (is_old g) (ids g.table))) y
-      ∙ or_right _ _ (list_any-flat_map (λ z. z == y) (targets g.table) (filter (is_old g) (ids g.table)) ∙ list_any-from_has_id (λ z. has_id (targets g.table z) y) (filter (is_old g) (ids g.table)) x among holds)
+      ∙ or_right _ _ (list_any-flat_map (λ z. z == y) (targets g.table) (filter (is_old g) (ids g.table)) ∙ held)
 
   abbrev pub Stays : ℕ → Type 0
   Stays x = IsTrue (is_old g x || has_id (young_kept g) x)

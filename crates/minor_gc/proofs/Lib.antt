@@ -3,7 +3,9 @@ pub mod Inside
 pub mod Keeping
 pub mod Lists
 pub mod Marking
+pub mod Remembered
 pub mod Rooted
+pub mod Searching
 pub mod Settled
 pub mod Stored
 pub mod Targets

@@ -1,14 +1,17 @@
 -- Cells that are marked one by one, and the search that goes on from them.
-use Rattle.std.proofs.Common.{◌≡◌, ◌≢◌, ◌⊎◌, inl, inr, ◌==◌, ℕ, ◌+◌, ◌<◌, List, [], ◌∷◌, ◌++◌, length, take, set, get_or, Bool, true, false, not, ◌||◌, ◌&&◌, cond, IsTrue, IsSome, Option, None, Some, refl, sym, ◌∙◌, ap, subst, eqb-true, eq-eqb, ne_eqb, ⊎_elim}
+use Rattle.std.proofs.Common.{◌≡◌, ◌≢◌, ◌⊎◌, inl, inr, ◌==◌, ℕ, ◌+◌, ◌<◌, List, [], ◌∷◌, ◌++◌, length, take, set, get_or, Bool, true, false, not, ◌||◌, ◌&&◌, cond}
+use Rattle.std.proofs.Common.{IsTrue, IsSome, Option, None, Some, refl, sym, ◌∙◌, ap, subst, eqb-true, eq-eqb, ne_eqb, ⊎_elim, arith}
 use Rattle.std.specs.List.{flat_map}
 use Rattle.std.proofs.lemmas.Grind.{flat_map-append}
-use Rattle.std.proofs.lemmas.Bool.{false≢true, cases_eq, or_left, or_right, or_cases, and_parts}
+use Rattle.std.proofs.lemmas.Bool.{false≢true, not-true, cases_eq, or_left, or_right, or_cases, and_parts}
 use Rattle.std.proofs.lemmas.List.{take_more, append-nil, length-set, get_or-set_same, get_or-set_other}
+use Rattle.std.proofs.lemmas.Option.{none-some, same_Some}
 use Rattle.graph_meaning.specs.Heap.{targets}
 use Rattle.graph_meaning.specs.Reach.{has_id, IsPath, IsReachable, reached_nodes}
 use Rattle.graph_meaning.proofs.Membership.{has_id-append}
 use Rattle.graph_meaning.proofs.Reaching.{IsReachable-source, IsReachable-step, reached_is_reachable}
 use Rattle.object_table.specs.Placed.{Placed, id_in, IsPlaced}
+use Rattle.object_table.proofs.ObjectsByCell.{held-within}
 use Rattle.minor_gc.specs.Marks.{Marks, is_marked, Meets, Quest, IsQuest, IsFollowed, IsSearching}
 
 or_false : (b : Bool) → (b || false) ≡ b
@@ -26,9 +29,6 @@ or_assoc false b c = refl
 and_not : (b : Bool) → (b && not b) ≡ false
 and_not true = refl
 and_not false = refl
-
-same_Some : {x y : ℕ} → Some x ≡ Some y → x ≡ y
-same_Some e = cc
 
 none_more : (w m : Bool) → w ≡ (w || (m && not m))
 none_more w m = sym (ap (λ b. w || b) (and_not m) ∙ or_false w)
@@ -50,27 +50,24 @@ Meets-none p m = record {
   work = λ cell. none_more (has_id m.work cell) (is_marked m cell);
 }
 
--- what was marked is so still
-pub Meets-stays : (p : Placed) (ids : List ℕ) (a b : Marks) → Meets p ids a b → (cell : ℕ) → is_marked a cell ≡ true → is_marked b cell ≡ true
-Meets-stays p ids a b meets cell was = go (id_in p cell) refl
-  where
-    go : (o : Option ℕ) → id_in p cell ≡ o → is_marked b cell ≡ true
-    go None at = meets.unheld cell at ∙ was
-    go (Some id) at = meets.marked cell id at ∙ ap (λ m. m || has_id ids id) was
+module _ {p : Placed} {ids : List ℕ} {a b : Marks} (meets : Meets p ids a b) where
+  -- what was marked is so still
+  pub Meets-stays : (cell : ℕ) → is_marked a cell ≡ true → is_marked b cell ≡ true
+  Meets-stays cell was = go (id_in p cell) refl
+    where
+      go : (o : Option ℕ) → id_in p cell ≡ o → is_marked b cell ≡ true
+      go None at = meets.unheld cell at ∙ was
+      go (Some id) at = meets.marked cell id at ∙ ap (λ m. m || has_id ids id) was
 
--- the cells of the worklist hold objects still
-pub Meets-held : (p : Placed) (ids : List ℕ) (a b : Marks) → Meets p ids a b → ((cell : ℕ) → IsTrue (has_id a.work cell) → IsSome (id_in p cell)) → (cell : ℕ) → IsTrue (has_id b.work cell) → IsSome (id_in p cell)
-Meets-held p ids a b meets before cell waits = go (id_in p cell) refl
-  where
-    go : (o : Option ℕ) → id_in p cell ≡ o → IsSome (id_in p cell)
-    go (Some id) at = subst IsSome (sym at) refl
-    go None at =
-        before cell (
-        sym (or_false (has_id a.work cell))
-        ∙ ap (λ m. has_id a.work cell || m) (sym (ap (λ m. m && not (is_marked a cell)) (meets.unheld cell at) ∙ and_not (is_marked a cell)))
-        ∙ sym (meets.work cell)
-        ∙ waits
-        )
+  -- the cells of the worklist hold objects still
+  pub Meets-held : ((cell : ℕ) → IsTrue (has_id a.work cell) → IsSome (id_in p cell)) → (cell : ℕ) → IsTrue (has_id b.work cell) → IsSome (id_in p cell)
+  Meets-held before cell waits = go (id_in p cell) refl
+    where
+      go : (o : Option ℕ) → id_in p cell ≡ o → IsSome (id_in p cell)
+      go (Some id) at = subst IsSome (sym at) refl
+      go None at =
+          let none = ap (λ m. m && not (is_marked a cell)) (meets.unheld cell at) ∙ and_not (is_marked a cell) in
+          before cell (sym (or_false (has_id a.work cell)) ∙ ap (λ m. has_id a.work cell || m) (sym none) ∙ sym (meets.work cell) ∙ waits)
 
 work_both : (w a b c : Bool) → (a ≡ true → b ≡ true) → (b ≡ true → c ≡ true) → ((w || (b && not a)) || (c && not b)) ≡ (w || (c && not a))
 work_both true a b c h k = refl
@@ -81,8 +78,8 @@ work_both false false true true h k = refl
 work_both false false true false h k = absurd (false≢true (k refl))
 work_both false false false c h k = refl
 
-pub Meets-join : (p : Placed) (xs ys : List ℕ) (a b c : Marks) → Meets p xs a b → Meets p ys b c → Meets p (xs ++ ys) a c
-Meets-join p xs ys a b c first next = record {
+pub Meets-join : {p : Placed} {xs ys : List ℕ} {a b c : Marks} → Meets p xs a b → Meets p ys b c → Meets p (xs ++ ys) a c
+Meets-join {p} {xs} {ys} {a} {b} {c} first next = record {
   each = next.each ∙ first.each;
   marked = λ cell id at.
       next.marked cell id at
@@ -93,46 +90,70 @@ Meets-join p xs ys a b c first next = record {
   work = λ cell.
       next.work cell
       ∙ ap (λ w. w || (is_marked c cell && not (is_marked b cell))) (first.work cell)
-      ∙ work_both (has_id a.work cell) (is_marked a cell) (is_marked b cell) (is_marked c cell) (Meets-stays p xs a b first cell) (Meets-stays p ys b c next cell);
+      ∙ work_both (has_id a.work cell) (is_marked a cell) (is_marked b cell) (is_marked c cell) (Meets-stays first cell) (Meets-stays next cell);
 }
 
-module _ (p : Placed) (placed : IsPlaced p) (cell id : ℕ) (held : id_in p cell ≡ Some id) (b c : Marks) (within : cell < length b.marks) (marks : c.marks ≡ set b.marks cell true) (work : c.work ≡ cond (is_marked b cell) b.work (b.work ++ cell ∷ [])) where
+-- The cell of an object is met: it is marked, and goes on the worklist where it wasn't.
+pub record MeetsCell (p : Placed) (cell id : ℕ) (b c : Marks) : Type 0 where
+  pub held : id_in p cell ≡ Some id
+  pub each : length b.marks ≡ length p.cells
+  pub marks : c.marks ≡ set b.marks cell true
+  pub work : c.work ≡ cond (is_marked b cell) b.work (b.work ++ cell ∷ [])
+
+module _ {p : Placed} {cell id : ℕ} {b c : Marks} (placed : IsPlaced p) (met : MeetsCell p cell id b c) where
   at_cell : is_marked c cell ≡ true
-  at_cell = ap (λ l. get_or l cell false) marks ∙ get_or-set_same b.marks cell true false within
+  at_cell =
+      let within : cell < length b.marks = omega (arith, held-within p cell id met.held, met.each) in
+      ap (λ l. get_or l cell false) met.marks ∙ get_or-set_same b.marks cell true false within
 
   elsewhere : (x : ℕ) → x ≢ cell → is_marked c x ≡ is_marked b x
-  elsewhere x apart = ap (λ l. get_or l x false) marks ∙ get_or-set_other b.marks cell x true false apart
+  elsewhere x apart = ap (λ l. get_or l x false) met.marks ∙ get_or-set_other b.marks cell x true false apart
 
-  pub Meets-one : Meets p (id ∷ []) b c
+  -- a cell that is no other than this one, or is another
+  marked_or : (x y : ℕ) → id_in p x ≡ Some y → (x ≡ cell) ⊎ (x ≢ cell) → is_marked c x ≡ (is_marked b x || ((id == y) || false))
+  marked_or x y at (inl same) =
+      let its : id ≡ y = same_Some id y (sym met.held ∙ ap (id_in p) (sym same) ∙ at) in
+      ap (is_marked c) same ∙ at_cell ∙ sym (or_true (is_marked b x)) ∙ ap (λ e. is_marked b x || (e || false)) (sym (eq-eqb id y its))
+  marked_or x y at (inr apart) =
+      let other : id ≢ y = λ same. apart (placed.once x cell y at (met.held ∙ ap Some same)) in
+      elsewhere x apart ∙ sym (or_false (is_marked b x)) ∙ ap (λ e. is_marked b x || (e || false)) (sym (ne_eqb id y other))
+
+  -- what is new on the worklist
+  abbrev is_new : ℕ → Bool
+  is_new x = is_marked c x && not (is_marked b x)
+
+  Meets-one : Meets p (id ∷ []) b c
   Meets-one = record {
-    each = ap length marks ∙ length-set b.marks cell true;
-    marked = λ x y at. ⊎_elim
-        (λ (same : x ≡ cell).
-        let its : id ≡ y = same_Some (sym held ∙ ap (id_in p) (sym same) ∙ at) in
-        ap (is_marked c) same ∙ at_cell ∙ sym (or_true (is_marked b x)) ∙ ap (λ e. is_marked b x || (e || false)) (sym (eq-eqb id y its)))
-        (λ apart.
-        let other : id ≢ y = λ same. apart (placed.once x cell y at (held ∙ ap Some same)) in
-        elsewhere x apart ∙ sym (or_false (is_marked b x)) ∙ ap (λ e. is_marked b x || (e || false)) (sym (ne_eqb id y other)))
-        (cases_eq x cell);
-    unheld = λ x at. elsewhere x (λ same. none_some (sym at ∙ ap (id_in p) same ∙ held));
-    work = λ x. go x (is_marked b cell) refl;
+    each = ap length met.marks ∙ length-set b.marks cell true;
+    marked = λ x y at. marked_or x y at (cases_eq x cell);
+    unheld = λ x at. elsewhere x (λ same. none-some id (sym at ∙ ap (id_in p) same ∙ met.held));
+    work = λ x. go x (is_marked b cell) refl (cases_eq x cell);
   }
     where
-      none_some : None ≡ Some id → ⊥
-      none_some e = cc
-
-      go : (x : ℕ) (was : Bool) → is_marked b cell ≡ was → has_id c.work x ≡ (has_id b.work x || (is_marked c x && not (is_marked b x)))
-      go x true was =
-          ap (λ l. has_id l x) (work ∙ ap (λ w. cond w b.work (b.work ++ cell ∷ [])) was)
+      go : (x : ℕ) (was : Bool) → is_marked b cell ≡ was → (x ≡ cell) ⊎ (x ≢ cell) → has_id c.work x ≡ (has_id b.work x || is_new x)
+      go x true was which =
+          let same_marks : is_marked c x ≡ is_marked b x = ⊎_elim (λ same. ap (is_marked c) same ∙ at_cell ∙ sym (ap (is_marked b) same ∙ was)) (elsewhere x) which in
+          ap (λ l. has_id l x) (met.work ∙ ap (λ w. cond w b.work (b.work ++ cell ∷ [])) was)
           ∙ none_more (has_id b.work x) (is_marked b x)
-          ∙ ap (λ m. has_id b.work x || (m && not (is_marked b x))) (sym (⊎_elim (λ same. ap (is_marked c) same ∙ at_cell ∙ sym (ap (is_marked b) same ∙ was)) (elsewhere x) (cases_eq x cell)))
-      go x false was =
-          ap (λ l. has_id l x) (work ∙ ap (λ w. cond w b.work (b.work ++ cell ∷ [])) was)
+          ∙ ap (λ m. has_id b.work x || (m && not (is_marked b x))) (sym same_marks)
+      go x false was which =
+          ap (λ l. has_id l x) (met.work ∙ ap (λ w. cond w b.work (b.work ++ cell ∷ [])) was)
           ∙ has_id-append b.work (cell ∷ []) x
-          ∙ ap (λ e. has_id b.work x || e) (⊎_elim
-          (λ (same : x ≡ cell). ap (λ e. e || false) (eq-eqb cell x (sym same)) ∙ sym (ap (λ m. m && not (is_marked b x)) (ap (is_marked c) same ∙ at_cell) ∙ ap not (ap (is_marked b) same ∙ was)))
-          (λ apart. ap (λ e. e || false) (ne_eqb cell x (λ same. apart (sym same))) ∙ sym (ap (λ m. m && not (is_marked b x)) (elsewhere x apart) ∙ and_not (is_marked b x)))
-          (cases_eq x cell))
+          ∙ ap (λ e. has_id b.work x || e) (⊎_elim here there which)
+        where
+          here : x ≡ cell → ((cell == x) || false) ≡ is_new x
+          here same =
+              let fresh = ap (λ m. m && not (is_marked b x)) (ap (is_marked c) same ∙ at_cell) ∙ ap not (ap (is_marked b) same ∙ was) in
+              ap (λ e. e || false) (eq-eqb cell x (sym same)) ∙ sym fresh
+
+          there : x ≢ cell → ((cell == x) || false) ≡ is_new x
+          there apart =
+              let old = ap (λ m. m && not (is_marked b x)) (elsewhere x apart) ∙ and_not (is_marked b x) in
+              ap (λ e. e || false) (ne_eqb cell x (λ same. apart (sym same))) ∙ sym old
+
+-- one cell more is met
+pub Meets-more : {p : Placed} {ids : List ℕ} {cell id : ℕ} {a b c : Marks} → IsPlaced p → Meets p ids a b → MeetsCell p cell id b c → Meets p (ids ++ id ∷ []) a c
+Meets-more placed before met = Meets-join before (Meets-one placed met)
 
 -- ---- a worklist
 
@@ -144,6 +165,14 @@ in_front xs ys x y is has = ap (λ l. has_id l y) is ∙ has_id-append ys (x ∷
 
 -- ---- the search
 
+-- A cell was taken from the worklist, and what its object holds was met.
+pub record Follows (p : Placed) (cell id : ℕ) (s m : Marks) : Type 0 where
+  pub taken : Marks
+  pub held : id_in p cell ≡ Some id
+  pub marks : taken.marks ≡ s.marks
+  pub work : s.work ≡ taken.work ++ cell ∷ []
+  pub meets : Meets p (targets p.table id) taken m
+
 module _ (q : Quest) (placed : IsPlaced q.placed) (is : IsQuest q) where
   abbrev p : Placed
   p = q.placed
@@ -152,9 +181,10 @@ module _ (q : Quest) (placed : IsPlaced q.placed) (is : IsQuest q) where
   node cell id held fresh = is.nodes cell id held ∙ ap not fresh
 
   -- what the sources name is marked first: of the nodes, those with these ids
-  pub searching-begin : (ids : List ℕ) → ((id : ℕ) → IsTrue (has_id q.graph.nodes id) → has_id ids id ≡ has_id q.sources id) → (m : Marks) → q.before.work ≡ [] → Meets p ids q.before m → IsSearching q m
+  pub searching-begin : (ids : List ℕ) → ((id : ℕ) → IsTrue (has_id q.graph.nodes id) → has_id ids id ≡ has_id q.sources id) →
+      (m : Marks) → q.before.work ≡ [] → Meets p ids q.before m → IsSearching q m
   searching-begin ids agree m idle meets = record {
-    stays = Meets-stays p ids q.before m meets;
+    stays = Meets-stays meets;
     unheld = meets.unheld;
     reached = λ cell id held marked fresh.
         let source : has_id ids id ≡ true = ap (λ b. b || has_id ids id) (sym fresh) ∙ sym (meets.marked cell id held) ∙ marked in
@@ -163,51 +193,48 @@ module _ (q : Quest) (placed : IsPlaced q.placed) (is : IsQuest q) where
     waiting = λ cell waits.
         let new = sym (meets.work cell ∙ ap (λ l. has_id l cell || (is_marked m cell && not (is_marked q.before cell))) idle) ∙ waits in
         let parts = and_parts _ _ new in
-        (parts.0, not_true (is_marked q.before cell) parts.1, held_one cell (id_in p cell) refl parts.0 (not_true (is_marked q.before cell) parts.1));
+        let fresh = not-true (is_marked q.before cell) parts.1 in
+        (parts.0, fresh, held_one cell (id_in p cell) refl parts.0 fresh);
     followed = λ cell id held marked fresh. inl (meets.work cell ∙ or_right _ _ (ap (λ b. b && not (is_marked q.before cell)) marked ∙ ap not fresh));
     sources = λ cell id held source. from_source cell id held source (is_marked q.before cell) refl;
   }
     where
-      not_true : (b : Bool) → not b ≡ true → b ≡ false
-      not_true true e = absurd (false≢true e)
-      not_true false e = refl
-
       from_source : (cell id : ℕ) → id_in p cell ≡ Some id → has_id q.sources id ≡ true → (b : Bool) → is_marked q.before cell ≡ b → is_marked m cell ≡ true
-      from_source cell id held source true was = Meets-stays p ids q.before m meets cell was
+      from_source cell id held source true was = Meets-stays meets cell was
       from_source cell id held source false fresh = meets.marked cell id held ∙ or_right _ _ (agree id (node cell id held fresh) ∙ source)
 
       held_one : (cell : ℕ) (o : Option ℕ) → id_in p cell ≡ o → is_marked m cell ≡ true → is_marked q.before cell ≡ false → IsSome (id_in p cell)
       held_one cell None at marked fresh = absurd (false≢true (sym fresh ∙ sym (meets.unheld cell at) ∙ marked))
       held_one cell (Some id) at marked fresh = subst IsSome (sym at) refl
 
-  -- a cell is taken from the worklist, and what its object holds is marked
-  module _ (cell id : ℕ) (s t m : Marks) (now : IsSearching q s) (held : id_in p cell ≡ Some id) (marks : t.marks ≡ s.marks) (work : s.work ≡ t.work ++ cell ∷ []) (meets : Meets p (targets p.table id) t m) where
+  module _ {cell id : ℕ} {s m : Marks} (now : IsSearching q s) (follows : Follows p cell id s m) where
+    abbrev t : Marks
+    t = follows.taken
+
     same : (x : ℕ) → is_marked t x ≡ is_marked s x
-    same x = ap (λ l. get_or l x false) marks
+    same x = ap (λ l. get_or l x false) follows.marks
 
     still : (x : ℕ) → is_marked s x ≡ true → is_marked m x ≡ true
-    still x was = Meets-stays p (targets p.table id) t m meets x (same x ∙ was)
+    still x was = Meets-stays follows.meets x (same x ∙ was)
 
     in_work : (x : ℕ) → has_id s.work x ≡ (has_id t.work x || ((cell == x) || false))
-    in_work x = ap (λ l. has_id l x) work ∙ has_id-append t.work (cell ∷ []) x
+    in_work x = ap (λ l. has_id l x) follows.work ∙ has_id-append t.work (cell ∷ []) x
 
-    taken : IsTrue (is_marked s cell) × (is_marked q.before cell ≡ false) × IsSome (id_in p cell)
-    taken = now.waiting cell (in_work cell ∙ or_right _ _ (or_left _ _ (eq-eqb cell cell refl)))
+    waited : IsTrue (is_marked s cell) × (is_marked q.before cell ≡ false) × IsSome (id_in p cell)
+    waited = now.waiting cell (in_work cell ∙ or_right _ _ (or_left _ _ (eq-eqb cell cell refl)))
 
     followed_now : IsFollowed p m id
-    followed_now other y at has = meets.marked other y at ∙ or_right _ _ has
-
-    not_true : (b : Bool) → not b ≡ true → b ≡ false
-    not_true true e = absurd (false≢true e)
-    not_true false e = refl
+    followed_now other y at has = follows.meets.marked other y at ∙ or_right _ _ has
 
     -- a cell that is marked only now holds what the object holds
     new_one : (x : ℕ) → is_marked m x ≡ true → is_marked s x ≡ false → (y : ℕ) × (id_in p x ≡ Some y) × (has_id (targets p.table id) y ≡ true)
     new_one x marked fresh = go (id_in p x) refl
       where
         go : (o : Option ℕ) → id_in p x ≡ o → (y : ℕ) × (id_in p x ≡ Some y) × (has_id (targets p.table id) y ≡ true)
-        go None at = absurd (false≢true (sym fresh ∙ sym (same x) ∙ sym (meets.unheld x at) ∙ marked))
-        go (Some y) at = (y, at, ap (λ b. b || has_id (targets p.table id) y) (sym (same x ∙ fresh)) ∙ sym (meets.marked x y at) ∙ marked)
+        go None at = absurd (false≢true (sym fresh ∙ sym (same x) ∙ sym (follows.meets.unheld x at) ∙ marked))
+        go (Some y) at =
+            let was = ap (λ b. b || has_id (targets p.table id) y) (sym (same x ∙ fresh)) in
+            (y, at, was ∙ sym (follows.meets.marked x y at) ∙ marked)
 
     fresh_before : (x : ℕ) → is_marked s x ≡ false → is_marked q.before x ≡ false
     fresh_before x fresh = go (is_marked q.before x) refl
@@ -216,59 +243,72 @@ module _ (q : Quest) (placed : IsPlaced q.placed) (is : IsQuest q) where
         go true e = absurd (false≢true (sym fresh ∙ now.stays x e))
         go false e = e
 
-    pub searching-next : IsSearching q m
+    reach : (x y : ℕ) → id_in p x ≡ Some y → is_marked m x ≡ true → is_marked q.before x ≡ false → (b : Bool) → is_marked s x ≡ b → IsReachable q.graph q.sources y
+    reach x y at marked fresh true was = now.reached x y at was fresh
+    reach x y at marked fresh false was =
+        let one = new_one x marked was in
+        let its : one.0 ≡ y = same_Some one.0 y (sym one.1 ∙ at) in
+        let from = now.reached cell id follows.held waited.0 waited.1 in
+        let edge : has_id (q.graph.targets id) y ≡ true = ap (λ l. has_id l y) (is.targets id) ∙ ap (has_id (targets p.table id)) (sym its) ∙ one.2 in
+        IsReachable-step q.graph q.sources id y from (is.passable id) (edge, node x y at fresh)
+
+    -- a cell that waited waits still, or is the one that was taken
+    from_work : (x y : ℕ) → id_in p x ≡ Some y → IsTrue (has_id s.work x) → IsTrue (has_id m.work x) ⊎ IsFollowed p m y
+    from_work x y at waits = ⊎_elim
+        (λ rest. inl (follows.meets.work x ∙ or_left _ _ rest))
+        (λ last. inr (subst (λ z. IsFollowed p m z) (its last) followed_now))
+        (or_cases _ _ (sym (in_work x) ∙ waits))
+      where
+        its : ((cell == x) || false) ≡ true → id ≡ y
+        its last = ⊎_elim
+            (λ (e : (cell == x) ≡ true). same_Some id y (sym follows.held ∙ ap (id_in p) (eqb-true cell x e) ∙ at))
+            (λ e. absurd (false≢true e))
+            (or_cases _ _ last)
+
+    follows_on : (x y : ℕ) → id_in p x ≡ Some y → is_marked m x ≡ true → is_marked q.before x ≡ false → (b : Bool) → is_marked s x ≡ b → IsTrue (has_id m.work x) ⊎ IsFollowed p m y
+    follows_on x y at marked fresh true was = ⊎_elim
+        (from_work x y at)
+        (λ done. inr (λ other z there has. still other (done other z there has)))
+        (now.followed x y at was fresh)
+    follows_on x y at marked fresh false was =
+        inl (follows.meets.work x ∙ or_right _ _ (ap (λ b. b && not (is_marked t x)) marked ∙ ap not (same x ∙ was)))
+
+    waits_on : (x : ℕ) → IsTrue (has_id m.work x) → IsTrue (is_marked m x) × (is_marked q.before x ≡ false) × IsSome (id_in p x)
+    waits_on x waits = ⊎_elim
+        (λ old. let was = now.waiting x (in_work x ∙ or_left _ _ old) in (still x was.0, was.1, was.2))
+        (λ new.
+        let parts = and_parts _ _ new in
+        let fresh = sym (same x) ∙ not-true (is_marked t x) parts.1 in
+        let one = new_one x parts.0 fresh in
+        (parts.0, fresh_before x fresh, subst IsSome (sym one.1) refl))
+        (or_cases _ _ (sym (follows.meets.work x) ∙ waits))
+
+    searching-next : IsSearching q m
     searching-next = record {
       stays = λ x was. still x (now.stays x was);
-      unheld = λ x at. meets.unheld x at ∙ same x ∙ now.unheld x at;
+      unheld = λ x at. follows.meets.unheld x at ∙ same x ∙ now.unheld x at;
       reached = λ x y at marked fresh. reach x y at marked fresh (is_marked s x) refl;
-      waiting = λ x waits. ⊎_elim
-          (λ old. let was = now.waiting x (in_work x ∙ or_left _ _ old) in (still x was.0, was.1, was.2))
-          (λ new. let parts = and_parts _ _ new in let fresh = sym (same x) ∙ not_true (is_marked t x) parts.1 in let one = new_one x parts.0 fresh in (parts.0, fresh_before x fresh, subst IsSome (sym one.1) refl))
-          (or_cases _ _ (sym (meets.work x) ∙ waits));
-      followed = λ x y at marked fresh. follows x y at marked fresh (is_marked s x) refl;
+      waiting = waits_on;
+      followed = λ x y at marked fresh. follows_on x y at marked fresh (is_marked s x) refl;
       sources = λ x y at source. still x (now.sources x y at source);
     }
-      where
-        reach : (x y : ℕ) → id_in p x ≡ Some y → is_marked m x ≡ true → is_marked q.before x ≡ false → (b : Bool) → is_marked s x ≡ b → IsReachable q.graph q.sources y
-        reach x y at marked fresh true was = now.reached x y at was fresh
-        reach x y at marked fresh false was =
-            let one = new_one x marked was in
-            let its : one.0 ≡ y = same_Some (sym one.1 ∙ at) in
-            let from = now.reached cell id held taken.0 taken.1 in
-            let edge : has_id (q.graph.targets id) y ≡ true = ap (λ l. has_id l y) (is.targets id) ∙ ap (has_id (targets p.table id)) (sym its) ∙ one.2 in
-            IsReachable-step q.graph q.sources id y from (is.passable id) (edge, node x y at fresh)
-
-        follows : (x y : ℕ) → id_in p x ≡ Some y → is_marked m x ≡ true → is_marked q.before x ≡ false → (b : Bool) → is_marked s x ≡ b → IsTrue (has_id m.work x) ⊎ IsFollowed p m y
-        follows x y at marked fresh true was = ⊎_elim
-            (λ waits. ⊎_elim
-            (λ rest. inl (meets.work x ∙ or_left _ _ rest))
-            (λ last. ⊎_elim
-            (λ (e : (cell == x) ≡ true). let its : id ≡ y = same_Some (sym held ∙ ap (id_in p) (eqb-true cell x e) ∙ at) in inr (subst (λ z. IsFollowed p m z) its followed_now))
-            (λ e. absurd (false≢true e))
-            (or_cases _ _ last))
-            (or_cases _ _ (sym (in_work x) ∙ waits)))
-            (λ done. inr (λ other z there has. still other (done other z there has)))
-            (now.followed x y at was fresh)
-        follows x y at marked fresh false was = inl (meets.work x ∙ or_right _ _ (ap (λ b. b && not (is_marked t x)) marked ∙ ap not (same x ∙ was)))
 
   -- ---- the end
 
   module _ (m : Marks) (done : m.work ≡ []) (now : IsSearching q m) where
-    walk : (steps : List ℕ) (x y cell : ℕ) → id_in p cell ≡ Some x → is_marked m cell ≡ true → is_marked q.before cell ≡ false → IsPath q.graph x steps y → (other : ℕ) → id_in p other ≡ Some y → is_marked m other ≡ true
+    -- a path from a marked object leads to marked ones
+    walk : (steps : List ℕ) (x y cell : ℕ) → id_in p cell ≡ Some x → is_marked m cell ≡ true → is_marked q.before cell ≡ false →
+        IsPath q.graph x steps y → (other : ℕ) → id_in p other ≡ Some y → is_marked m other ≡ true
     walk [] x y cell held marked fresh path other at =
         ap (is_marked m) (placed.once other cell y at (held ∙ ap Some path)) ∙ marked
     walk (z ∷ steps) x y cell held marked fresh path other at =
         let there = placed.somewhere z (is.live z path.1.1) in
-        let new : is_marked q.before there.0 ≡ false = not_not (is_marked q.before there.0) (sym (is.nodes there.0 z there.1) ∙ path.1.1) in
+        let new : is_marked q.before there.0 ≡ false = not-true (is_marked q.before there.0) (sym (is.nodes there.0 z there.1) ∙ path.1.1) in
         let next : is_marked m there.0 ≡ true = ⊎_elim
         (λ waits. absurd (false≢true (sym (ap (λ l. has_id l cell) done) ∙ waits)))
         (λ followed. followed there.0 z there.1 (ap (λ l. has_id l z) (sym (is.targets x)) ∙ path.1.0))
         (now.followed cell x held marked fresh) in
         walk steps z y there.0 there.1 next new path.2 other at
-      where
-        not_not : (b : Bool) → not b ≡ true → b ≡ false
-        not_not true e = absurd (false≢true e)
-        not_not false e = refl
 
     -- marked is then what was marked before, and what is reached
     pub marked-is : (cell id : ℕ) → id_in p cell ≡ Some id → is_marked m cell ≡ (is_marked q.before cell || has_id (reached_nodes q.graph q.sources) id)
@@ -281,18 +321,14 @@ module _ (q : Quest) (placed : IsPlaced q.placed) (is : IsQuest q) where
         reached fresh false true e f =
             let r = (reached_is_reachable q.graph q.sources id).0 f in
             let there = placed.somewhere r.0 (is.live r.0 r.3) in
-            let new : is_marked q.before there.0 ≡ false = fresh_node (is_marked q.before there.0) (sym (is.nodes there.0 r.0 there.1) ∙ r.3) in
+            let new : is_marked q.before there.0 ≡ false = not-true (is_marked q.before there.0) (sym (is.nodes there.0 r.0 there.1) ∙ r.3) in
             absurd (false≢true (sym e ∙ walk r.1 r.0 id there.0 there.1 (now.sources there.0 r.0 there.1 r.2) new r.4 cell held))
-          where
-            fresh_node : (b : Bool) → not b ≡ true → b ≡ false
-            fresh_node true e = absurd (false≢true e)
-            fresh_node false e = refl
 
         go : (b : Bool) → is_marked q.before cell ≡ b → is_marked m cell ≡ (b || has_id (reached_nodes q.graph q.sources) id)
         go true e = now.stays cell e
         go false e = reached e (is_marked m cell) (has_id (reached_nodes q.graph q.sources) id) refl refl
 
--- the same, where the table of the quest is given by an equation
-pub searching-step : (q : Quest) (p : Placed) → q.placed ≡ p → IsPlaced p → IsQuest q → (cell id : ℕ) (s t m : Marks) → IsSearching q s → id_in p cell ≡ Some id → t.marks ≡ s.marks → s.work ≡ t.work ++ cell ∷ [] → Meets p (targets p.table id) t m → IsSearching q m
-searching-step q p e placed is cell id s t m now held marks work meets =
-    searching-next q (subst IsPlaced (sym e) placed) is cell id s t m now (ap (λ r. id_in r cell) e ∙ held) marks work (subst (λ (r : Placed). Meets r (targets r.table id) t m) (sym e) meets)
+-- a cell is followed, where the table of the quest is given by an equation
+pub searching-step : {q : Quest} {p : Placed} {cell id : ℕ} {s m : Marks} → q.placed ≡ p → IsPlaced p → IsQuest q → IsSearching q s → Follows p cell id s m → IsSearching q m
+searching-step {q} {p} {cell} {id} {s} {m} e placed is now follows =
+    searching-next q (subst IsPlaced (sym e) placed) is now (subst (λ r. Follows r cell id s m) (sym e) follows)

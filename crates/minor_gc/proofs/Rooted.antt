@@ -1,21 +1,24 @@
 -- A nursery by its objects and cells alone: roots and types are no matter to it.
-use Rattle.std.proofs.Common.{◌≡◌, ℕ, List, [], Option, None, Some, refl, sym, subst}
-use Rattle.graph_meaning.specs.Heap.{Object, Table}
+use Rattle.std.proofs.Common.{◌≡◌, ℕ, List, Option, None, Some, refl, sym, subst}
+use Rattle.graph_meaning.specs.Heap.{Table}
 use Rattle.graph_meaning.specs.Step.{with_root}
 use Rattle.object_table.specs.Placed.{Placed}
 use Rattle.minor_gc.specs.Generations.{remembered}
 use Rattle.minor_gc.specs.Nurseries.{Parts, IsNursery}
 
--- the objects in their cells, with no root and no type
-bare : List Object → ℕ → List (Option ℕ) → Placed
-bare objects greatest cells = record { table = record { objects = objects; roots = []; greatest = greatest; kinds = [] }; cells = cells }
+-- The same objects stand in the same cells, and the greatest id is the same.
+pub record SameObjects (before after : Placed) : Type 0 where
+  pub objects : after.table.objects ≡ before.table.objects
+  pub greatest : after.table.greatest ≡ before.table.greatest
+  pub cells : after.cells ≡ before.cells
 
-with_table : Parts → Placed → Parts
-with_table n p = record n { placed = p }
+-- the objects of one table with the roots and types of another
+abbrev with_roots : Placed → Table → Placed
+with_roots p t = record { table = record t { objects = p.table.objects; greatest = p.table.greatest }; cells = p.cells }
 
-bared : (n : Parts) → IsNursery n → IsNursery (with_table n (bare n.placed.table.objects n.placed.table.greatest n.placed.cells))
-unfolding bare with_table remembered
-bared n is = record {
+other_roots : (n : Parts) (t : Table) → IsNursery n → IsNursery (record n { placed = with_roots n.placed t })
+unfolding remembered
+other_roots n t is = record {
   greatest = is.greatest;
   old = is.old;
   strong = is.strong;
@@ -29,26 +32,11 @@ bared n is = record {
   room = is.room;
 }
 
-dressed : (n : Parts) (p : Placed) → IsNursery (with_table n (bare p.table.objects p.table.greatest p.cells)) → IsNursery (with_table n p)
-unfolding bare with_table remembered
-dressed n p is = record {
-  greatest = is.greatest;
-  old = is.old;
-  strong = is.strong;
-  stacked = record { full = is.stacked.full; rising = is.stacked.rising };
-  each_mark = is.each_mark;
-  marks = is.marks;
-  idle = is.idle;
-  each_count = is.each_count;
-  counts = is.counts;
-  remembered = is.remembered;
-  room = is.room;
-}
-
-pub same_nursery : (n : Parts) (p : Placed) → p.table.objects ≡ n.placed.table.objects → p.table.greatest ≡ n.placed.table.greatest → p.cells ≡ n.placed.cells → IsNursery n → IsNursery (record n { placed = p })
-unfolding with_table
-same_nursery n p objects greatest cells is =
-    dressed n p (subst (λ (l : List Object). IsNursery (with_table n (bare l p.table.greatest p.cells))) (sym objects) (subst (λ (g : ℕ). IsNursery (with_table n (bare n.placed.table.objects g p.cells))) (sym greatest) (subst (λ (c : List (Option ℕ)). IsNursery (with_table n (bare n.placed.table.objects n.placed.table.greatest c))) (sym cells) (bared n is))))
+pub same_nursery : {n : Parts} {p : Placed} → SameObjects n.placed p → IsNursery n → IsNursery (record n { placed = p })
+same_nursery {n} {p} same is =
+    let table : (with_roots n.placed p.table).table ≡ p.table = λ i. record p.table { objects = sym same.objects i; greatest = sym same.greatest i } in
+    let placed : with_roots n.placed p.table ≡ p = λ i. record { table = table i; cells = sym same.cells i } in
+    subst (λ (q : Placed). IsNursery (record n { placed = q })) placed (other_roots n p.table is)
 
 pub greatest-with_root : (t : Table) (name : List ℕ) (to : Option ℕ) → (with_root t name to).greatest ≡ t.greatest
 unfolding with_root

@@ -15,7 +15,8 @@ loop-id-preserved c =
     let ids = c.args.remembered.now in
     let i = c.loop-id.id-index in
     let item = c.id-item.result in
-    let next : drop c.loop-id.id-index c.args.remembered.now ≡ c.id-item.result ∷ drop (c.loop-id.id-index + 1) c.args.remembered.now = drop_more ids i item (omega arith) ∙ ap (λ x. x ∷ drop (i + 1) ids) (sym c.id-item.is) in
+    let next : drop c.loop-id.id-index c.args.remembered.now ≡ c.id-item.result ∷ drop (c.loop-id.id-index + 1) c.args.remembered.now =
+    drop_more ids i item (omega arith) ∙ ap (λ x. x ∷ drop (i + 1) ids) (sym c.id-item.is) in
     elim c.match-cell_of.branch [
       | in-Some w ↦
           let at : id_in p w.in-Some.cell ≡ Some item = w.in-Some.ensures.cell in

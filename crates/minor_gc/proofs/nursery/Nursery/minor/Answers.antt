@@ -1,37 +1,100 @@
-use Rattle.std.proofs.Common.{◌≡◌, ◌-◌, length, refl, ap, subst, ◌∙◌, arith}
-use Rattle.std.specs.List.{flat_map}
+use Rattle.std.proofs.Common.{◌≡◌, ◌-◌, length, refl, sym, ap, ◌∙◌, arith}
 use Rattle.std.specs.Vec.{vec_capacity}
-use Rattle.graph_meaning.specs.Heap.{Table, targets}
-use Rattle.graph_meaning.specs.Collecting.{with_only}
+use Rattle.graph_meaning.specs.Heap.{Table}
 use Rattle.object_table.specs.Placed.{kept_ids}
-use Rattle.minor_gc.specs.Generations.{kept_by_minor, remembered}
-use Rattle.minor_gc.specs.Marks.{Meets}
-use Rattle.minor_gc.specs.Nurseries.{heap_of}
+use Rattle.minor_gc.specs.Generations.{kept_by_minor}
+use Rattle.minor_gc.specs.Marks.{Marks}
+use Rattle.minor_gc.specs.Nurseries.{Parts, heap_of}
 use Rattle.minor_gc.specs.Searches.{marks_of}
-use Rattle.minor_gc.proofs.Inside.{parts_in}
-use Rattle.minor_gc.proofs.Settled.{minor_quest, minor_is_quest, minor_begins, minor_marked, minor_unheld, minor_closed, minor_others, remembered_live, few_remembered, counted_remembered, ids_same, leads, hold, settled, heap_is, left_is, fewer_objects}
+use Rattle.minor_gc.proofs.Inside.{parts_in, IsSoundNursery}
+use Rattle.minor_gc.proofs.Remembered.{remembered_live, few_remembered, counted_remembered}
+use Rattle.minor_gc.proofs.Searching.{HasRun, minor_marks, old_kept}
+use Rattle.minor_gc.proofs.Settled.{MarksKept, LeavesKept, ids_same, leads, hold, settled, heap_is, collection_is, fewer_objects}
 use Rattle.minor_gc.proofs.nursery.Nursery.minor.Goals as goal
+use Rattle.minor_gc.proofs.nursery.Nursery.minor.Goals.{After-len-remembered, After-deref-3}
+
+-- the nursery before the collection
+module _ (c : After-len-remembered) where
+  abbrev before : Parts
+  before = parts_in c.self.inside
+
+  sound : IsSoundNursery before
+  sound = record { nursery = c.self.invariant; placed = c.cells-cells.ensures.placed; sound = c.cells-cells.ensures.sound }
+
+-- what the search marked
+module _ (c : After-deref-3) where
+  abbrev marks : Marks
+  marks = marks_of c.run.new.self
+
+  run : HasRun c.self.inside.table (marks_of c.take_objects.new.self) marks
+  run = record { each = c.run.ensures.each; searching = c.run.ensures.searching; done = c.run.ensures.done }
+
+  kept : MarksKept (parts_in c.self.inside) (kept_by_minor (heap_of (parts_in c.self.inside))) marks
+  kept =
+      minor_marks (sound (goal.at.keep_above-requires-clause-closed c).After-len-remembered) (marks_of c.take_roots.new.self) (marks_of c.take_objects.new.self) marks
+      c.take_roots.ensures (rw c.deref.ensures.value at c.take_objects.ensures) run
+
+-- what the collection left
+module _ (c : goal.After-live) where
+  abbrev after : Parts
+  after = record {
+    placed = c.keep_above.new.self;
+    old_up_to = c.self.inside.greatest;
+    greatest = c.self.inside.greatest;
+    marks = c.run.new.self.marks.items;
+    work = c.run.new.self.work.items;
+    counts = c.forget.new.counts.items;
+    remembered = c.clear.new.self.items;
+    room = vec_capacity c.clear.new.self;
+  }
+
+  kept_then : MarksKept (parts_in c.self.inside) (kept_by_minor (heap_of (parts_in c.self.inside))) (marks_of c.run.new.self)
+  kept_then = kept (goal.at.invariant_of-self c).After-deref-3
+
+  leaves : LeavesKept (parts_in c.self.inside) (marks_of c.run.new.self) after
+  leaves =
+      let cells = rw c.deref-3.ensures.value at c.keep_above.ensures.cells in
+      record {
+        placed = c.cells.ensures.placed;
+        sound = c.cells.ensures.sound;
+        table = rw c.deref-3.ensures.value at c.keep_above.ensures.kept;
+        cells = cells;
+        old = refl;
+        greatest = refl;
+        each_mark = kept_then.each ∙ sym cells.count;
+        marks = λ cell within. refl;
+        idle = c.run.ensures.done;
+        each_count = c.forget.ensures.each ∙ c.self.invariant.each_count ∙ sym cells.count;
+        counts = λ cell within. c.forget.ensures.none cell;
+        remembered = c.clear.ensures.items;
+        room = omega (arith, c.clear.ensures.capacity);
+      }
 
 pub overflow_cast-remembered : goal.overflow_cast-remembered
-overflow_cast-remembered c = omega (arith, c.len-remembered.ensures, c.self.inside.remembered.ok.0, few_remembered (parts_in c.self.inside) c.self.invariant c.cells-cells.ensures.placed c.cells-cells.ensures.sound, c.live-live.ensures.count)
+overflow_cast-remembered c =
+    omega (arith, c.len-remembered.ensures, c.self.inside.remembered.ok.0, few_remembered (sound c), c.live-live.ensures.count)
 
 pub take_objects-requires-clause-live : goal.take_objects-requires-clause-live
-take_objects-requires-clause-live c = rw c.deref.ensures.value (remembered_live (parts_in c.self.inside) c.self.invariant c.cells-cells.ensures.placed c.cells-cells.ensures.sound)
+take_objects-requires-clause-live c =
+    rw c.deref.ensures.value (remembered_live (sound (goal.at.take_objects-requires-clause-live c).After-len-remembered))
 
 pub forget-requires-clause-live : goal.forget-requires-clause-live
-forget-requires-clause-live c = rw c.deref-2.ensures.value (remembered_live (parts_in c.self.inside) c.self.invariant c.cells-cells.ensures.placed c.cells-cells.ensures.sound)
+forget-requires-clause-live c =
+    rw c.deref-2.ensures.value (remembered_live (sound (goal.at.forget-requires-clause-live c).After-len-remembered))
 
 pub forget-requires-clause-others : goal.forget-requires-clause-others
-forget-requires-clause-others c = rw c.deref-2.ensures.value (counted_remembered (parts_in c.self.inside) c.self.invariant c.cells-cells.ensures.placed c.cells-cells.ensures.sound)
+forget-requires-clause-others c =
+    rw c.deref-2.ensures.value (counted_remembered (sound (goal.at.forget-requires-clause-others c).After-len-remembered))
 
 pub keep_above-requires-clause-closed : goal.keep_above-requires-clause-closed
-keep_above-requires-clause-closed c = rw c.deref-3.ensures.value (leads (parts_in c.self.inside) c.self.invariant c.cells-cells.ensures.placed (kept_by_minor (heap_of (parts_in c.self.inside))) (minor_closed (parts_in c.self.inside) c.self.invariant c.cells-cells.ensures.placed c.cells-cells.ensures.sound) (marks_of c.run.new.self) (minor_marked (parts_in c.self.inside) c.self.invariant c.cells-cells.ensures.placed c.cells-cells.ensures.sound (marks_of c.run.new.self) c.run.ensures.done (c.run.ensures.searching (minor_quest (parts_in c.self.inside) c.self.invariant c.cells-cells.ensures.placed c.cells-cells.ensures.sound) refl (minor_is_quest (parts_in c.self.inside) c.self.invariant c.cells-cells.ensures.placed c.cells-cells.ensures.sound) (minor_begins (parts_in c.self.inside) c.self.invariant c.cells-cells.ensures.placed c.cells-cells.ensures.sound (marks_of c.take_roots.new.self) (marks_of c.take_objects.new.self) c.take_roots.ensures (subst (λ xs. Meets c.self.inside.table (flat_map (targets c.self.inside.table.table) xs) (marks_of c.take_roots.new.self) (marks_of c.take_objects.new.self)) c.deref.ensures.value c.take_objects.ensures)))) (minor_unheld (parts_in c.self.inside) c.self.invariant c.cells-cells.ensures.placed c.cells-cells.ensures.sound (marks_of c.run.new.self) (c.run.ensures.searching (minor_quest (parts_in c.self.inside) c.self.invariant c.cells-cells.ensures.placed c.cells-cells.ensures.sound) refl (minor_is_quest (parts_in c.self.inside) c.self.invariant c.cells-cells.ensures.placed c.cells-cells.ensures.sound) (minor_begins (parts_in c.self.inside) c.self.invariant c.cells-cells.ensures.placed c.cells-cells.ensures.sound (marks_of c.take_roots.new.self) (marks_of c.take_objects.new.self) c.take_roots.ensures (subst (λ xs. Meets c.self.inside.table (flat_map (targets c.self.inside.table.table) xs) (marks_of c.take_roots.new.self) (marks_of c.take_objects.new.self)) c.deref.ensures.value c.take_objects.ensures)))))
+keep_above-requires-clause-closed c = rw c.deref-3.ensures.value (leads (kept c))
 
 pub keep_above-requires-clause-held : goal.keep_above-requires-clause-held
-keep_above-requires-clause-held c = rw c.deref-3.ensures.value (hold (parts_in c.self.inside) c.self.invariant c.cells-cells.ensures.placed (kept_by_minor (heap_of (parts_in c.self.inside))) (minor_closed (parts_in c.self.inside) c.self.invariant c.cells-cells.ensures.placed c.cells-cells.ensures.sound) (marks_of c.run.new.self) (minor_marked (parts_in c.self.inside) c.self.invariant c.cells-cells.ensures.placed c.cells-cells.ensures.sound (marks_of c.run.new.self) c.run.ensures.done (c.run.ensures.searching (minor_quest (parts_in c.self.inside) c.self.invariant c.cells-cells.ensures.placed c.cells-cells.ensures.sound) refl (minor_is_quest (parts_in c.self.inside) c.self.invariant c.cells-cells.ensures.placed c.cells-cells.ensures.sound) (minor_begins (parts_in c.self.inside) c.self.invariant c.cells-cells.ensures.placed c.cells-cells.ensures.sound (marks_of c.take_roots.new.self) (marks_of c.take_objects.new.self) c.take_roots.ensures (subst (λ xs. Meets c.self.inside.table (flat_map (targets c.self.inside.table.table) xs) (marks_of c.take_roots.new.self) (marks_of c.take_objects.new.self)) c.deref.ensures.value c.take_objects.ensures)))) (minor_unheld (parts_in c.self.inside) c.self.invariant c.cells-cells.ensures.placed c.cells-cells.ensures.sound (marks_of c.run.new.self) (c.run.ensures.searching (minor_quest (parts_in c.self.inside) c.self.invariant c.cells-cells.ensures.placed c.cells-cells.ensures.sound) refl (minor_is_quest (parts_in c.self.inside) c.self.invariant c.cells-cells.ensures.placed c.cells-cells.ensures.sound) (minor_begins (parts_in c.self.inside) c.self.invariant c.cells-cells.ensures.placed c.cells-cells.ensures.sound (marks_of c.take_roots.new.self) (marks_of c.take_objects.new.self) c.take_roots.ensures (subst (λ xs. Meets c.self.inside.table (flat_map (targets c.self.inside.table.table) xs) (marks_of c.take_roots.new.self) (marks_of c.take_objects.new.self)) c.deref.ensures.value c.take_objects.ensures)))))
+keep_above-requires-clause-held c = rw c.deref-3.ensures.value (hold (kept c))
 
 pub keep_above-requires-clause-others : goal.keep_above-requires-clause-others
-keep_above-requires-clause-others c = rw c.deref-3.ensures.value (λ id live low. ids_same (parts_in c.self.inside) c.self.invariant c.cells-cells.ensures.placed (kept_by_minor (heap_of (parts_in c.self.inside))) (minor_closed (parts_in c.self.inside) c.self.invariant c.cells-cells.ensures.placed c.cells-cells.ensures.sound) (marks_of c.run.new.self) (minor_marked (parts_in c.self.inside) c.self.invariant c.cells-cells.ensures.placed c.cells-cells.ensures.sound (marks_of c.run.new.self) c.run.ensures.done (c.run.ensures.searching (minor_quest (parts_in c.self.inside) c.self.invariant c.cells-cells.ensures.placed c.cells-cells.ensures.sound) refl (minor_is_quest (parts_in c.self.inside) c.self.invariant c.cells-cells.ensures.placed c.cells-cells.ensures.sound) (minor_begins (parts_in c.self.inside) c.self.invariant c.cells-cells.ensures.placed c.cells-cells.ensures.sound (marks_of c.take_roots.new.self) (marks_of c.take_objects.new.self) c.take_roots.ensures (subst (λ xs. Meets c.self.inside.table (flat_map (targets c.self.inside.table.table) xs) (marks_of c.take_roots.new.self) (marks_of c.take_objects.new.self)) c.deref.ensures.value c.take_objects.ensures)))) (minor_unheld (parts_in c.self.inside) c.self.invariant c.cells-cells.ensures.placed c.cells-cells.ensures.sound (marks_of c.run.new.self) (c.run.ensures.searching (minor_quest (parts_in c.self.inside) c.self.invariant c.cells-cells.ensures.placed c.cells-cells.ensures.sound) refl (minor_is_quest (parts_in c.self.inside) c.self.invariant c.cells-cells.ensures.placed c.cells-cells.ensures.sound) (minor_begins (parts_in c.self.inside) c.self.invariant c.cells-cells.ensures.placed c.cells-cells.ensures.sound (marks_of c.take_roots.new.self) (marks_of c.take_objects.new.self) c.take_roots.ensures (subst (λ xs. Meets c.self.inside.table (flat_map (targets c.self.inside.table.table) xs) (marks_of c.take_roots.new.self) (marks_of c.take_objects.new.self)) c.deref.ensures.value c.take_objects.ensures)))) id ∙ minor_others (parts_in c.self.inside) c.self.invariant c.cells-cells.ensures.placed c.cells-cells.ensures.sound id live low)
+keep_above-requires-clause-others c =
+    rw c.deref-3.ensures.value (λ id live low. ids_same (kept c) id ∙ old_kept (sound (goal.at.keep_above-requires-clause-others c).After-len-remembered) id live low)
 
 pub overflow_sub-result : goal.overflow_sub-result
 overflow_sub-result c =
@@ -39,13 +102,13 @@ overflow_sub-result c =
     omega (arith, c.live-live.ensures.count, c.live.ensures.count, left, fewer_objects (kept_ids c.self.inside.table.cells c.deref-3.result.now) c.self.inside.table.table)
 
 pub invariant_of-self : goal.invariant_of-self
-invariant_of-self c = rw c.clear.ensures.items (settled (parts_in c.self.inside) c.self.invariant c.cells-cells.ensures.placed (kept_by_minor (heap_of (parts_in c.self.inside))) (minor_closed (parts_in c.self.inside) c.self.invariant c.cells-cells.ensures.placed c.cells-cells.ensures.sound) (marks_of c.run.new.self) (minor_marked (parts_in c.self.inside) c.self.invariant c.cells-cells.ensures.placed c.cells-cells.ensures.sound (marks_of c.run.new.self) c.run.ensures.done (c.run.ensures.searching (minor_quest (parts_in c.self.inside) c.self.invariant c.cells-cells.ensures.placed c.cells-cells.ensures.sound) refl (minor_is_quest (parts_in c.self.inside) c.self.invariant c.cells-cells.ensures.placed c.cells-cells.ensures.sound) (minor_begins (parts_in c.self.inside) c.self.invariant c.cells-cells.ensures.placed c.cells-cells.ensures.sound (marks_of c.take_roots.new.self) (marks_of c.take_objects.new.self) c.take_roots.ensures (subst (λ xs. Meets c.self.inside.table (flat_map (targets c.self.inside.table.table) xs) (marks_of c.take_roots.new.self) (marks_of c.take_objects.new.self)) c.deref.ensures.value c.take_objects.ensures)))) (minor_unheld (parts_in c.self.inside) c.self.invariant c.cells-cells.ensures.placed c.cells-cells.ensures.sound (marks_of c.run.new.self) (c.run.ensures.searching (minor_quest (parts_in c.self.inside) c.self.invariant c.cells-cells.ensures.placed c.cells-cells.ensures.sound) refl (minor_is_quest (parts_in c.self.inside) c.self.invariant c.cells-cells.ensures.placed c.cells-cells.ensures.sound) (minor_begins (parts_in c.self.inside) c.self.invariant c.cells-cells.ensures.placed c.cells-cells.ensures.sound (marks_of c.take_roots.new.self) (marks_of c.take_objects.new.self) c.take_roots.ensures (subst (λ xs. Meets c.self.inside.table (flat_map (targets c.self.inside.table.table) xs) (marks_of c.take_roots.new.self) (marks_of c.take_objects.new.self)) c.deref.ensures.value c.take_objects.ensures)))) c.keep_above.new.self c.cells.ensures.placed c.cells-cells.ensures.sound c.cells.ensures.sound (rw c.deref-3.ensures.value at c.keep_above.ensures.kept) (rw c.deref-3.ensures.value at c.keep_above.ensures.cells) c.forget.new.counts.items c.forget.ensures.none (c.forget.ensures.each ∙ c.self.invariant.each_count) (c.run.ensures.each ∙ c.take_objects.ensures.each ∙ c.take_roots.ensures.each ∙ c.self.invariant.each_mark) c.run.ensures.done (vec_capacity c.clear.new.self) (omega (arith, c.clear.ensures.capacity)))
+invariant_of-self c = settled (kept_then c) (leaves c)
 
 pub returns-clause-heap : goal.returns-clause-heap
-returns-clause-heap c = rw (← c.self.view_is) (heap_is (parts_in c.self.inside) c.self.invariant c.cells-cells.ensures.placed (kept_by_minor (heap_of (parts_in c.self.inside))) (minor_closed (parts_in c.self.inside) c.self.invariant c.cells-cells.ensures.placed c.cells-cells.ensures.sound) (marks_of c.run.new.self) (minor_marked (parts_in c.self.inside) c.self.invariant c.cells-cells.ensures.placed c.cells-cells.ensures.sound (marks_of c.run.new.self) c.run.ensures.done (c.run.ensures.searching (minor_quest (parts_in c.self.inside) c.self.invariant c.cells-cells.ensures.placed c.cells-cells.ensures.sound) refl (minor_is_quest (parts_in c.self.inside) c.self.invariant c.cells-cells.ensures.placed c.cells-cells.ensures.sound) (minor_begins (parts_in c.self.inside) c.self.invariant c.cells-cells.ensures.placed c.cells-cells.ensures.sound (marks_of c.take_roots.new.self) (marks_of c.take_objects.new.self) c.take_roots.ensures (subst (λ xs. Meets c.self.inside.table (flat_map (targets c.self.inside.table.table) xs) (marks_of c.take_roots.new.self) (marks_of c.take_objects.new.self)) c.deref.ensures.value c.take_objects.ensures)))) (minor_unheld (parts_in c.self.inside) c.self.invariant c.cells-cells.ensures.placed c.cells-cells.ensures.sound (marks_of c.run.new.self) (c.run.ensures.searching (minor_quest (parts_in c.self.inside) c.self.invariant c.cells-cells.ensures.placed c.cells-cells.ensures.sound) refl (minor_is_quest (parts_in c.self.inside) c.self.invariant c.cells-cells.ensures.placed c.cells-cells.ensures.sound) (minor_begins (parts_in c.self.inside) c.self.invariant c.cells-cells.ensures.placed c.cells-cells.ensures.sound (marks_of c.take_roots.new.self) (marks_of c.take_objects.new.self) c.take_roots.ensures (subst (λ xs. Meets c.self.inside.table (flat_map (targets c.self.inside.table.table) xs) (marks_of c.take_roots.new.self) (marks_of c.take_objects.new.self)) c.deref.ensures.value c.take_objects.ensures)))) c.keep_above.new.self c.cells.ensures.placed c.cells-cells.ensures.sound c.cells.ensures.sound (rw c.deref-3.ensures.value at c.keep_above.ensures.kept) (rw c.deref-3.ensures.value at c.keep_above.ensures.cells) c.forget.new.counts.items c.forget.ensures.none (c.forget.ensures.each ∙ c.self.invariant.each_count) (c.run.ensures.each ∙ c.take_objects.ensures.each ∙ c.take_roots.ensures.each ∙ c.self.invariant.each_mark) c.run.ensures.done (vec_capacity c.clear.new.self) (omega (arith, c.clear.ensures.capacity)))
+returns-clause-heap c = rw (← c.self.view_is) (heap_is (kept_then c) (leaves c))
 
 pub returns-clause-counts : goal.returns-clause-counts
 returns-clause-counts c =
-    let left : c.live.result ≡ length (with_only (kept_by_minor (heap_of (parts_in c.self.inside))) c.self.inside.table.table).objects = c.live.ensures.count ∙ left_is (parts_in c.self.inside) c.self.invariant c.cells-cells.ensures.placed (kept_by_minor (heap_of (parts_in c.self.inside))) (minor_closed (parts_in c.self.inside) c.self.invariant c.cells-cells.ensures.placed c.cells-cells.ensures.sound) (marks_of c.run.new.self) (minor_marked (parts_in c.self.inside) c.self.invariant c.cells-cells.ensures.placed c.cells-cells.ensures.sound (marks_of c.run.new.self) c.run.ensures.done (c.run.ensures.searching (minor_quest (parts_in c.self.inside) c.self.invariant c.cells-cells.ensures.placed c.cells-cells.ensures.sound) refl (minor_is_quest (parts_in c.self.inside) c.self.invariant c.cells-cells.ensures.placed c.cells-cells.ensures.sound) (minor_begins (parts_in c.self.inside) c.self.invariant c.cells-cells.ensures.placed c.cells-cells.ensures.sound (marks_of c.take_roots.new.self) (marks_of c.take_objects.new.self) c.take_roots.ensures (subst (λ xs. Meets c.self.inside.table (flat_map (targets c.self.inside.table.table) xs) (marks_of c.take_roots.new.self) (marks_of c.take_objects.new.self)) c.deref.ensures.value c.take_objects.ensures)))) (minor_unheld (parts_in c.self.inside) c.self.invariant c.cells-cells.ensures.placed c.cells-cells.ensures.sound (marks_of c.run.new.self) (c.run.ensures.searching (minor_quest (parts_in c.self.inside) c.self.invariant c.cells-cells.ensures.placed c.cells-cells.ensures.sound) refl (minor_is_quest (parts_in c.self.inside) c.self.invariant c.cells-cells.ensures.placed c.cells-cells.ensures.sound) (minor_begins (parts_in c.self.inside) c.self.invariant c.cells-cells.ensures.placed c.cells-cells.ensures.sound (marks_of c.take_roots.new.self) (marks_of c.take_objects.new.self) c.take_roots.ensures (subst (λ xs. Meets c.self.inside.table (flat_map (targets c.self.inside.table.table) xs) (marks_of c.take_roots.new.self) (marks_of c.take_objects.new.self)) c.deref.ensures.value c.take_objects.ensures)))) c.keep_above.new.self c.cells.ensures.placed c.cells-cells.ensures.sound c.cells.ensures.sound (rw c.deref-3.ensures.value at c.keep_above.ensures.kept) (rw c.deref-3.ensures.value at c.keep_above.ensures.cells) c.forget.new.counts.items c.forget.ensures.none (c.forget.ensures.each ∙ c.self.invariant.each_count) (c.run.ensures.each ∙ c.take_objects.ensures.each ∙ c.take_roots.ensures.each ∙ c.self.invariant.each_mark) c.run.ensures.done (vec_capacity c.clear.new.self) (omega (arith, c.clear.ensures.capacity)) in
-    let listed : c.len-remembered.result ≡ length (remembered (heap_of (parts_in c.self.inside))) = omega (arith, c.len-remembered.ensures, c.self.inside.remembered.ok.0, ap (λ l. length l) c.self.invariant.remembered) in
-    rw (← c.self.view_is) (λ i. record { live = c.live-live.ensures.count i; freed = c.live-live.ensures.count i - left i; remembered = listed i })
+    let freed = ap (λ left. c.live-live.result - left) c.live.ensures.count in
+    let listed : c.len-remembered.result ≡ length c.self.inside.remembered.items = omega (arith, c.len-remembered.ensures, c.self.inside.remembered.ok.0) in
+    rw (← c.self.view_is) (collection_is (kept_then c) (leaves c) _ c.live-live.ensures.count freed listed)

@@ -1,4 +1,4 @@
-use Rattle.std.proofs.Common.{◌≡◌, ℕ, List, take, true, IsSome, refl, sym, ap, subst, ◌∙◌, arith}
+use Rattle.std.proofs.Common.{◌≡◌, ℕ, List, true, IsSome, refl, sym, ap, subst, ◌∙◌, arith}
 use Rattle.std.specs.List.{flat_map}
 use Rattle.std.specs.Option.{is_some}
 use Rattle.std.proofs.lemmas.Bool.{false≢true}
@@ -26,14 +26,17 @@ loop-id-preserved c =
     elim c.match-cell_of.branch [
       | in-Some w ↦
           let its = id-held p w.in-Some.cell c.id-item.result w.in-Some.ensures.cell in
-          rw w.self-is (subst (λ ys. Meets p ys (marks_of c.args.self.now) (marks_of w.follow.new.self)) (sym more)
-          (Meets-join p (flat_map (targets p.table) (take i ids)) (targets p.table c.id-item.result) (marks_of c.args.self.now) (marks_of c.loop-id.self) (marks_of w.follow.new.self) c.loop-id.invariant
-          (subst (λ id. Meets p (targets p.table id) (marks_of c.loop-id.self) (marks_of w.follow.new.self)) its w.follow.ensures.meets)))
+          let one = subst (λ id. Meets p (targets p.table id) (marks_of c.loop-id.self) (marks_of w.follow.new.self)) its w.follow.ensures.meets in
+          rw w.self-is (subst (λ ys. Meets p ys (marks_of c.args.self.now) (marks_of w.follow.new.self)) (sym more) (Meets-join c.loop-id.invariant one))
       | in_default w ↦
-          let live : is_live p.table c.id-item.result ≡ true = ap (is_live p.table) (get_or_read ids i c.id-item.result (omega arith) c.id-item.is c.id-item.result) ∙ c.requires.live i c.id-item.result (omega arith) in
+          let item = get_or_read ids i c.id-item.result (omega arith) c.id-item.is c.id-item.result in
+          let live : is_live p.table c.id-item.result ≡ true = ap (is_live p.table) item ∙ c.requires.live i c.id-item.result (omega arith) in
           absurd (false≢true (sym (ap is_some w.in_default.is) ∙ c.cell_of.ensures.live ∙ live))
     ]
 
 pub returns : goal.returns
 returns c =
-    subst (λ (xs : List ℕ). Meets c.args.table.now (flat_map (targets c.args.table.now.table) xs) (marks_of c.args.self.now) (marks_of c.loop-id.self)) (take_all c.loop-id.id-index c.args.ids.now (omega arith)) c.loop-id.invariant
+    let p = c.args.table.now in
+    subst (λ (xs : List ℕ). Meets p (flat_map (targets p.table) xs) (marks_of c.args.self.now) (marks_of c.loop-id.self))
+    (take_all c.loop-id.id-index c.args.ids.now (omega arith))
+    c.loop-id.invariant
