@@ -99,14 +99,21 @@ class Named(InFolder):
 
     def test_ctrl_c_and_other_ends(self):
         """A word, the status of the signal, and nothing is left: no temporary file, and no gcaudit that goes on."""
-        for number, status in ((signal.SIGINT, 130), (signal.SIGTERM, 143), (signal.SIGHUP, 129)):
+        ends = ((signal.SIGINT, 130), (signal.SIGTERM, 143), (signal.SIGHUP, 129))
+
+        def heeded():
+            # (a shell has what it starts in the background ignore Ctrl-C, and so all that this starts)
+            for number, _ in ends:
+                signal.signal(number, signal.SIG_DFL)
+
+        for number, status in ends:
             folder, begun = self.path("temporary%d" % number), self.path("begun%d" % number)
             os.mkdir(folder)
             with open(self.path("endless"), "w") as file:
                 file.write(ENDLESS % begun)
             os.chmod(self.path("endless"), 0o755)
             process = subprocess.Popen([sys.executable, "-B", "-m", "gcaudit_trace", "--gcaudit", self.path("endless")], stdin=subprocess.PIPE,
-                                       stderr=subprocess.PIPE, env=dict(os.environ, PYTHONPATH=RECORDERS, TMPDIR=folder))
+                                       stderr=subprocess.PIPE, preexec_fn=heeded, env=dict(os.environ, PYTHONPATH=RECORDERS, TMPDIR=folder))
             process.stdin.write(LEAK.encode())
             process.stdin.close()
             process.stdin = None
