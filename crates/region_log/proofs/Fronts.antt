@@ -1,8 +1,7 @@
 -- Loops that change the elements of a list one after another: a front of it is changed, and the rest is as before.
 use Rattle.std.proofs.Common.{◌≡◌, ℕ, zero, suc, ◌+◌, ◌<◌, ◌≤◌, List, [], ◌∷◌, ◌++◌, length, map, get_or, set, refl, sym, ap, ◌∙◌, subst, arith, reverse}
-use Rattle.std.proofs.lemmas.List.{map-set, map-append, length-map, reverse-reverse}
+use Rattle.std.proofs.lemmas.List.{map-append}
 use Rattle.std.proofs.lemmas.Grind.{reverse_onto}
-use Rattle.std.proofs.Math.ListN.{get_or-map}
 
 -- the first n elements are changed
 pub map_first : {X : Type 0} → (X → X) → ℕ → List X → List X
@@ -56,13 +55,6 @@ module _ {X : Type 0} (f : X → X) where
   pub all_turned : (n : ℕ) (zs ys : List X) → ys ≡ map_first f n zs → length ys ≤ n → ys ≡ map f zs
   all_turned n zs ys so_far done = so_far ∙ map_first-all n zs (subst (λ k. k ≤ n) (ap length so_far ∙ length-map_first n zs) done)
 
-module _ {X Y : Type 0} (view : X → Y) (f : Y → Y) where
-  -- The same of what is seen of the elements.
-  pub turn_seen : (n : ℕ) (zs : List Y) (ys : List X) (z d : X) → map view ys ≡ map_first f n zs → n < length ys → view z ≡ f (view (get_or ys n d)) → map view (set ys n z) ≡ map_first f (n + 1) zs
-  turn_seen n zs ys z d so_far here changed =
-      let within = length-map ys view in
-      map-set view ys n z ∙ turn f n zs (map view ys) (view z) (view d) so_far (omega arith) (changed ∙ ap f (sym (get_or-map view ys n d)))
-
 -- ---- the other way round
 
 module _ {X Y : Type 0} (f : X → Y) where
@@ -73,6 +65,3 @@ module _ {X Y : Type 0} (f : X → Y) where
       ∙ (map-append f (reverse xs) (x ∷ [])
       ∙ (ap (λ l. l ++ f x ∷ []) (map-reverse xs)
       ∙ sym (reverse_onto (map f xs) (f x) [])))
-
-  pub reverse-map-reverse : (xs : List X) → reverse (map f (reverse xs)) ≡ map f xs
-  reverse-map-reverse xs = ap reverse (map-reverse xs) ∙ reverse-reverse (map f xs)

@@ -1,5 +1,5 @@
 -- Open regions: of one thread, and of all threads.
-use Rattle.std.specs.Prelude.{◌≡◌, ◌<◌, ◌≤◌, ◌-◌, ◌==◌, ℕ, List, [], ◌∷◌, ◌++◌, length, map, drop, replicate, All, AllPairs, Bool, false, IsTrue, nat_le, Option, slice_set, slice_index_or}
+use Rattle.std.specs.Prelude.{◌≡◌, ◌<◌, ◌≤◌, ◌-◌, ◌==◌, ℕ, List, [], ◌∷◌, ◌++◌, length, map, filter, take, drop, reverse, replicate, All, AllPairs, Bool, false, IsTrue, nat_le, Option, slice_set, slice_index_or}
 use Rattle.heap_base.specs.declared.limits.TheConstants.{MOST_THREADS, MOST_REGIONS}
 use Rattle.graph_meaning.specs.declared.refusal.Refusal.{Refusal}
 use Rattle.graph_meaning.specs.declared.refusal.Refusal.TheVariants.{TooDeep, NoRegion}
@@ -7,11 +7,6 @@ use Rattle.graph_meaning.specs.Heap.{no_regions, regions_of}
 use Rattle.graph_meaning.specs.Step.{refusal_where}
 
 -- ---- what is seen of them
-
--- A region: the ids of its objects, and for how many more there is memory.
-pub record Members : Type 0 where
-  pub ids : List ℕ
-  pub room : ℕ
 
 -- The open regions of a thread, the innermost first, each the ids of its objects; and whether the thread is reserved.
 pub record ThreadRegions : Type 0 where
@@ -74,9 +69,24 @@ pub record IsRegionTable (r : RegionTable) : Type 0 where
 
 -- ---- how they are kept
 
--- a reserved thread has memory for one object more in each of its regions
-abbrev pub HasRoom : List Members → Bool → Type 0
-HasRoom regions reserved = IsTrue reserved → All (λ r. 0 < r.room) regions
+-- The open regions of a thread, the innermost first, by its ids in the order in which they were noted, and how many there were when each
+-- region began, the innermost last: a region has all that were noted since.
+abbrev pub regions_from : List ℕ → List ℕ → List (List ℕ)
+regions_from ids starts = reverse (map (λ start. drop start ids) starts)
+
+-- Each region began within the one around it. The outermost has all ids: where none is open, there are none.
+pub record AreStarts (ids starts : List ℕ) : Type 0 where
+  pub outermost : slice_index_or starts 0 (length ids) ≡ 0
+  pub rising : AllPairs (λ a b. a ≤ b) starts
+  pub within : All (λ start. start ≤ length ids) starts
+
+-- a reserved thread with an open region has memory for one id more
+abbrev pub HasRoom : List ℕ → ℕ → Bool → Type 0
+HasRoom starts room reserved = IsTrue reserved → 0 < length starts → 0 < room
+
+-- where a region begins after the ids that don't pass are gone: behind those before it that do
+abbrev pub start_kept : (ℕ → Bool) → List ℕ → ℕ → ℕ
+start_kept passes ids start = length (filter passes (take start ids))
 
 -- a thread of which nothing was asked yet
 abbrev pub unused_thread : ThreadRegions

@@ -2,7 +2,6 @@
 #![tactic(auto)]
 
 mod log;
-mod region;
 mod stack;
 
 pub use log::RegionLog;

@@ -1,32 +1,35 @@
-ghost use Rattle.std.specs.Prelude.{◌≡◌, ◌<◌, ◌++◌, ◌∷◌, [], length, map, filter, drop, true, false};
-ghost use Rattle.std.specs.Prelude.{IsTrue, OnOk, OnErr, MatchOption, slice_index_or};
+ghost use Rattle.std.specs.Prelude.{◌≡◌, ℕ, List, ◌<◌, ◌≤◌, ◌++◌, ◌∷◌, [], length, map, filter, drop, take, true, false};
+ghost use Rattle.std.specs.Prelude.{IsTrue, OnOk, OnErr, MatchOption, All, AllPairs, slice_index_or};
+ghost use Rattle.std.proofs.lemmas.List.Filters.{FiltersInPlace};
 ghost use Rattle.graph_meaning.specs.Heap.{is_live};
-ghost use Rattle.region_log.specs.Regions.{unused_thread};
+ghost use Rattle.region_log.specs.Regions.{unused_thread, start_kept};
 
-use crate::region::Region;
 use heap_base::{ObjId, OutOfMemory};
 use object_table::ObjectTable;
 use std::alloc::Global;
 use std::marker::Model;
+use std::ops::Range;
 
 /// The open regions of a thread, nested as a stack. Contracts see them, the innermost first, and whether the thread
 /// is reserved: whether there is memory to note one object more in each.
 #[derive(Drop)]
 pub struct RegionStack {
-    // the innermost last
-    regions: Vec<Region>,
+    // the ids in the outermost region, in the order in which they were noted; an inner region has the last of them
+    ids: Vec<ObjId>,
+    // how many ids there were when each region began, the innermost last
+    starts: Vec<usize>,
     reserved: bool,
 }
 
 impl Model for RegionStack {
-    ghost use Rattle.std.specs.Prelude.{map, reverse};
-    ghost use Rattle.region_log.specs.Regions.{ThreadRegions, HasRoom};
+    ghost use Rattle.std.specs.Prelude.{◌-◌, vec_len, vec_capacity};
+    ghost use Rattle.region_log.specs.Regions.{ThreadRegions, AreStarts, HasRoom, regions_from};
 
     ghost Value = { ThreadRegions };
 
-    ghost view = { λ s. record { regions = reverse (map (λ r. r.ids) s.regions.items); reserved = s.reserved } };
+    ghost view = { λ s. record { regions = regions_from s.ids.items s.starts.items; reserved = s.reserved } };
 
-    ghost invariant = { λ s. HasRoom s.regions.items s.reserved };
+    ghost invariant = { λ s. AreStarts s.ids.items s.starts.items × HasRoom s.starts.items (vec_capacity s.ids - vec_len s.ids) s.reserved };
 }
 
 impl RegionStack {
@@ -35,7 +38,8 @@ impl RegionStack {
         ensures { result ≡ unused_thread }
     {
         RegionStack {
-            regions: Vec::new(alloc),
+            ids: Vec::new(alloc),
+            starts: Vec::new(alloc),
             reserved: false,
         }
     }
@@ -44,7 +48,7 @@ impl RegionStack {
     pub fn depth(&self) -> usize
         ensures { result ≡ length self.now.regions }
     {
-        self.regions.len()
+        self.starts.len()
     }
 
     /// The ids in the innermost region, and `None` where none is open.
@@ -52,8 +56,8 @@ impl RegionStack {
         ensures { MatchOption result (self.now.regions ≡ [])
             (λ ids. (0 < length self.now.regions) × (slice_index_or self.now.regions 0 [] ≡ ids.now)) }
     {
-        let region = self.regions.last()?;
-        Some(region.ids())
+        let start = *self.starts.last()?;
+        Some(&self.ids[start..])
     }
 
     /// Opens a region inside the others. The thread is no longer reserved.
@@ -61,8 +65,7 @@ impl RegionStack {
         ensures ok { OnOk result (self.new ≡ record { regions = [] ∷ self.old.regions; reserved = false }) }
         ensures err { OnErr result (self.new ≡ self.old) }
     {
-        let region = Region::make(*self.regions.allocator());
-        self.regions.push(region)?;
+        self.starts.push(self.ids.len())?;
         self.reserved = false;
         Ok(())
     }
@@ -72,8 +75,8 @@ impl RegionStack {
         ensures ok { OnOk result (self.new ≡ record self.old { reserved = true }) }
         ensures err { OnErr result (self.new ≡ self.old) }
     {
-        for region in self.regions.iter_mut() {
-            region.reserve()?;
+        if !self.starts.is_empty() {
+            self.ids.reserve(1)?;
         }
         self.reserved = true;
         Ok(())
@@ -84,25 +87,65 @@ impl RegionStack {
         requires { IsTrue self.old.reserved }
         ensures { self.new ≡ record { regions = map (λ r. r ++ id ∷ []) self.old.regions; reserved = false } }
     {
-        for region in self.regions.iter_mut() {
-            region.note(id);
+        if !self.starts.is_empty() {
+            self.ids.push_reserved(id);
         }
         self.reserved = false;
     }
 
-    /// Ends the innermost region. Its objects stay in the others.
+    /// Ends the innermost region. Its objects stay in the others; after the last region their memory is given back.
     pub fn close(&mut self)
         ensures { self.new ≡ record self.old { regions = drop 1 self.old.regions } }
     {
-        self.regions.pop();
+        self.starts.pop();
+        if self.starts.is_empty() {
+            self.ids = Vec::new(*self.ids.allocator());
+        }
     }
 
     /// Drops the ids that are not live in the table from each region.
     pub fn keep(&mut self, table: &ObjectTable)
         ensures { self.new ≡ record self.old { regions = map (filter (is_live table.now.table)) self.old.regions } }
     {
-        for region in self.regions.iter_mut() {
-            region.keep(table);
+        let end = keep_live(&mut self.ids, &mut self.starts, table);
+        self.ids.truncate(end);
+    }
+}
+
+// Moves the live ids to the front, and each start to where its region begins then, in one pass over both. It answers where the
+// live ids end.
+fn keep_live(ids: &mut [ObjId], starts: &mut [usize], table: &ObjectTable) -> usize
+    requires rising { AllPairs (λ a b. a ≤ b) starts.old }
+    requires within { All (λ start. start ≤ length ids.old) starts.old }
+    ensures ids { take result ids.new ≡ filter (is_live table.now.table) ids.old }
+    ensures starts { starts.new ≡ map (start_kept (is_live table.now.table) ids.old) starts.old }
+{
+    let mut passed = 0;
+    let mut kept = 0;
+    for start in starts.iter_mut() {
+        kept = move_live(ids, passed..*start, kept, table);
+        passed = *start;
+        *start = kept;
+    }
+    let end = ids.len();
+    move_live(ids, passed..end, kept, table)
+}
+
+// Moves the live ones of the ids in the range forward, behind those before it that were kept. It answers where the last of them ends.
+fn move_live(ids: &mut [ObjId], range: Range<usize>, kept: usize, table: &ObjectTable) -> usize
+    requires behind { kept ≤ range.start }
+    requires order { range.start ≤ range.end }
+    requires within { range.end ≤ length ids.old }
+    ensures { (all : List ℕ) → FiltersInPlace (is_live table.now.table) all ids.old kept range.start
+        → FiltersInPlace (is_live table.now.table) all ids.new result range.end }
+{
+    let mut end = kept;
+    for place in range.start..range.end {
+        let id = ids[place];
+        if table.cell_of(id).is_some() {
+            ids[end] = id;
+            end += 1;
         }
     }
+    end
 }

@@ -207,29 +207,37 @@ fn a_thread_without_a_region_is_refused(rt: HostRuntime) -> Result<(), Fail> {
     check_none(&rt, &mut run)
 }
 
-// Two regions of thread 0: the outer one has the objects from 1 to 4, the inner one 3 and 4.
-const NESTED: [Step; 6] = [
+// Three regions of thread 0: the outermost one has the objects from 1 to 6, the next one those from 3 on, the innermost one 5 and 6.
+const NESTED: [Step; 9] = [
     Step::Start(0),
     Step::Note(0, 1),
     Step::Note(0, 2),
     Step::Start(0),
     Step::Note(0, 3),
     Step::Note(0, 4),
+    Step::Start(0),
+    Step::Note(0, 5),
+    Step::Note(0, 6),
 ];
 
 fn check_ends(rt: &impl Abort, run: &mut Run, live: &ObjectTable) -> Result<(), Fail> {
     run.take_all(rt, &NESTED)?;
     run.keep(live);
-    assert!(rt; run.has(0, &[4])?);
+    assert!(rt; run.has(0, &[6])?);
+    run.finish(0)?;
+    assert!(rt; run.has(0, &[3, 6])?);
     run.finish(0)?;
     run.note(rt, 0, 9)?;
-    assert!(rt; run.has(0, &[2, 4, 9])?);
+    assert!(rt; run.has(0, &[2, 3, 6, 9])?);
+    run.finish(0)?;
+    assert!(rt; run.has_none(0)?);
     Ok(())
 }
 
 #[test]
-fn a_region_ends_after_some_of_its_members_were_freed(rt: HostRuntime) -> Result<(), Fail> {
-    let live = table_apart(rt.alloc(), &[(2, "A", 0), (4, "A", 0), (9, "A", 0)])?;
+fn regions_end_after_some_of_their_members_were_freed(rt: HostRuntime) -> Result<(), Fail> {
+    let objects = [(2, "A", 0), (3, "A", 0), (6, "A", 0), (9, "A", 0)];
+    let live = table_apart(rt.alloc(), &objects)?;
     let mut run = Run::make(rt.alloc())?;
     check_ends(&rt, &mut run, &live)
 }
