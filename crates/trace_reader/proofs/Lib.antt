@@ -1,3 +1,4 @@
+pub mod FieldLemmas
 pub mod Json
 pub mod Left
 pub mod Newlines

@@ -1,6 +1,5 @@
 -- Members that are read one after another, beside the object that they make.
-use Rattle.std.proofs.Common.{◌≡◌, ℕ, ◌+◌, ◌-◌, ◌<◌, ◌≤◌, List, [], ◌∷◌, ◌++◌, length, take, get_or, reverse, Option, Some, None, option_map, option_and_then, refl, sym, ap, ◌∙◌, arith}
-use Rattle.std.proofs.lemmas.List.{reverse-append, take_more}
+use Rattle.std.proofs.Common.{◌≡◌, ℕ, ◌-◌, ◌<◌, ◌≤◌, List, [], ◌∷◌, length, Option, Some, None, option_map, option_and_then, refl, ap, ◌∙◌, arith}
 use Rattle.json.specs.Token.{Token}
 use Rattle.json.specs.Lex.{tokens}
 use Rattle.json.specs.Json as json
@@ -8,36 +7,6 @@ use Rattle.json.specs.Json.{Parse, parse_map, read_key, members, value, if_last}
 use Rattle.json.proofs.Grammar.{members_end, members_more, value-begin_object}
 use Rattle.serde_json.specs.Data.{Data, object, Members, no_members, put}
 use Rattle.serde_json.specs.Read.{of_json, of_members, converted, read}
-use Rattle.serde_json.specs.Find.{get_member}
-use Rattle.serde_json.proofs.Views.{get_member-put, get_member-put_other}
-use Rattle.trace_reader.specs.Objects.{value_data, members_data}
-use Rattle.trace_reader.specs.declared.object.Member.{Member}
-
--- ---- one member more
-
-members_data-push : (ms : List Member) (m : Member) → members_data (reverse (ms ++ m ∷ [])) ≡ put m.key.now (value_data m.value) (members_data (reverse ms))
-members_data-push ms m = ap members_data (reverse-append ms (m ∷ []))
-
-pub pushed_member : (old new : List Member) (m : Member) → new ≡ old ++ m ∷ [] → members_data (reverse new) ≡ put m.key.now (value_data m.value) (members_data (reverse old))
-pushed_member old new m is = ap (λ ms. members_data (reverse ms)) is ∙ members_data-push old m
-
-module _ (ms : List Member) (i : ℕ) (k : List ℕ) (m : Member) (some : 0 < i) (within : i ≤ length ms) (there : m ≡ get_or ms (i - 1) m) where
-  front_ends_with : take i ms ≡ take (i - 1) ms ++ m ∷ []
-  front_ends_with =
-      ap (λ n. take n ms) (let e : i ≡ i - 1 + 1 = omega (arith, some) in e)
-      ∙ take_more ms (i - 1) m (omega (arith, some, within))
-      ∙ ap (λ x. take (i - 1) ms ++ x ∷ []) (sym there)
-
-  pub last_member_found : m.key.now ≡ k → get_member k (members_data (reverse (take i ms))) ≡ Some (value_data m.value)
-  last_member_found named =
-      ap (get_member k) (pushed_member (take (i - 1) ms) (take i ms) m front_ends_with)
-      ∙ ap (λ q. get_member k (put q (value_data m.value) (members_data (reverse (take (i - 1) ms))))) named
-      ∙ get_member-put k _ _
-
-  pub last_member_passed : (m.key.now ≡ k → ⊥) → get_member k (members_data (reverse (take i ms))) ≡ get_member k (members_data (reverse (take (i - 1) ms)))
-  last_member_passed other =
-      ap (get_member k) (pushed_member (take (i - 1) ms) (take i ms) m front_ends_with)
-      ∙ get_member-put_other k m.key.now (value_data m.value) (members_data (reverse (take (i - 1) ms))) (λ e. other (sym e))
 
 -- ---- the members that are still to come, behind those that were found
 

@@ -5,6 +5,8 @@ mod cut;
 mod cutter;
 mod error;
 mod field;
+mod fields;
+mod key;
 mod line;
 mod object;
 mod operation;

@@ -4,7 +4,8 @@ ghost use Rattle.trace_reader.specs.Cutter.{Tells};
 ghost use Rattle.trace_reader.specs.Meaning.{Gives, event_of_json, item_of_line, json_of, is_blank};
 ghost use Rattle.serde_json.specs.Read.{read};
 
-use crate::object::{Object, PlainMembers};
+use crate::fields::Fields;
+use crate::object::Object;
 use crate::operation::event_of_object;
 use crate::plain::read_plain;
 use graph_meaning::{Event, Refusal, Stop};
@@ -73,14 +74,17 @@ fn event_of_line(alloc: Global, line: &[u8], scratch: &mut Scratch) -> Result<Ev
 fn event_of_text(alloc: Global, text: &str, scratch: &mut Scratch) -> Result<Event, Stop>
     ensures { Gives result (event_of_json (read text.now)) }
 {
-    let mut members = PlainMembers::new();
-    if read_plain(text, scratch, &mut members)? {
-        event_of_object(alloc, Object::Plain(&members))
+    let mut fields = Fields::new();
+    let plain = read_plain(text, scratch, &mut fields)?;
+    if plain {
+        event_of_object(alloc, Object::Plain(&fields))
     } else {
         event_of_any(alloc, text)
     }
 }
 
+// Never inlined, since what serde_json keeps on the stack would then be touched for every line.
+#[inline(never)]
 fn event_of_any(alloc: Global, text: &str) -> Result<Event, Stop>
     ensures { Gives result (event_of_json (read text.now)) }
 {

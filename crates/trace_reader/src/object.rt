@@ -1,15 +1,13 @@
-ghost use Rattle.std.specs.Prelude.{◌≡◌, option_map, is_some, reverse};
-ghost use Rattle.serde_json.specs.Find.{as_bool, as_null, as_object, as_str, get, get_member};
+ghost use Rattle.std.specs.Prelude.{◌≡◌, option_map, is_some};
+ghost use Rattle.serde_json.specs.Find.{as_bool, as_null, as_object, as_str, get};
+ghost use Rattle.serde_json.specs.View.{view};
 ghost use Rattle.trace_reader.specs.Meaning.{field_text, whole_number};
-ghost use Rattle.trace_reader.specs.Objects.{value_data, members_data, object_data};
+ghost use Rattle.trace_reader.specs.Objects.{value_data, object_data};
 
 use crate::field::spelling_of;
-use arrayvec::ArrayVec;
+use crate::fields::Fields;
 use graph_meaning::FieldName;
 use serde_json::Value;
-
-/// A plain object has at most so many members. No operation has more than five fields.
-const MOST_MEMBERS: usize = 8;
 
 /// The JSON value of a field.
 #[derive(Clone, Copy, Debug, Drop)]
@@ -24,27 +22,11 @@ pub enum FieldValue<'a> {
     Json(&'a Value),
 }
 
-impl Default for FieldValue<'_> {
-    fn default() -> Self {
-        FieldValue::Null
-    }
-}
-
-/// A member of an object, as it stands in a line.
-#[derive(Clone, Copy, Debug, Default, Drop)]
-pub struct Member<'a> {
-    pub key: &'a str,
-    pub value: FieldValue<'a>,
-}
-
-/// The members of a plain object, in the order of the line.
-pub type PlainMembers<'a> = ArrayVec<Member<'a>, MOST_MEMBERS>;
-
 /// The JSON value of a line.
 #[derive(Clone, Copy, Drop)]
 pub enum Object<'a> {
-    /// An object of few members, each of which is null, true, false, a whole number or a text.
-    Plain(&'a [Member<'a>]),
+    /// An object each of whose values is null, true, false, a whole number or a text, by its fields.
+    Plain(&'a Fields<'a>),
     /// Any value, as serde_json gives it.
     Any(&'a Value),
 }
@@ -61,27 +43,23 @@ impl<'a> Object<'a> {
     }
 
     /// The value of a field, if it is there.
+    #[inline(always)]
     pub fn get(self, field: FieldName) -> Option<FieldValue<'a>>
         ensures { option_map value_data result ≡ get (field_text field) (object_data self.entry) }
     {
         match self {
-            Object::Plain(members) => last_named(members, spelling_of(field)),
-            Object::Any(value) => value.get(spelling_of(field)).map(FieldValue::Json),
+            Object::Plain(fields) => fields.get(field),
+            Object::Any(value) => json_field(value, field),
         }
     }
 }
 
-// The value of the last member of this key.
-fn last_named<'a>(members: &[Member<'a>], key: &str) -> Option<FieldValue<'a>>
-    ensures { option_map value_data result ≡ get_member key.now (members_data (reverse members.now)) }
+// Never inlined, so that `get` stays small enough to be inlined.
+#[inline(never)]
+fn json_field<'a>(value: &'a Value, field: FieldName) -> Option<FieldValue<'a>>
+    ensures { option_map value_data result ≡ get (field_text field) (view value.now) }
 {
-    for i in (0..members.len()).rev() {
-        let member = members[i];
-        if member.key == key {
-            return Some(member.value);
-        }
-    }
-    None
+    value.get(spelling_of(field)).map(FieldValue::Json)
 }
 
 impl FieldValue<'_> {

@@ -1,23 +1,24 @@
-ghost use Rattle.std.specs.Prelude.{◌≡◌, ◌<◌, ℕ, [], false, IsTrue, Some, IfOk, IfSome, OnSome, length, reverse};
+ghost use Rattle.std.specs.Prelude.{◌≡◌, ◌<◌, ℕ, false, IsTrue, Some, IfOk, IfSome, OnSome, length};
 ghost use Rattle.json.specs.Json.{Json, members, value};
-ghost use Rattle.serde_json.specs.Data.{no_members, object, unsigned};
+ghost use Rattle.serde_json.specs.Data.{Members, no_members, object, unsigned};
 ghost use Rattle.serde_json.specs.Read.{converted, number_from, number_of, of_json, of_members, read};
-ghost use Rattle.trace_reader.specs.Objects.{members_data, value_data};
+ghost use Rattle.trace_reader.specs.Objects.{no_fields, value_data, HasFieldsOf};
 
-use crate::object::{FieldValue, Member, PlainMembers};
+use crate::fields::Fields;
+use crate::object::FieldValue;
 use fast_float::Numeral;
 use heap_base::OutOfMemory;
 use json::{Reader, Scratch, Token};
 
-/// Whether a text is a plain object, which has few members, each of them null, true, false, a whole number or a text.
-/// If it is one, its members are found; if not, some of them may be.
+/// Whether a text is a plain object, each of whose members is null, true, false, a whole number or a text. If it is
+/// one, its fields are found; if not, some of them may be.
 pub fn read_plain<'a>(
     text: &'a str,
     scratch: &'a mut Scratch,
-    found: &mut PlainMembers<'a>,
+    fields: &mut Fields<'a>,
 ) -> Result<bool, OutOfMemory>
-    requires { found.old.items ≡ [] }
-    ensures { IfOk result (λ plain. IsTrue plain → read text.now ≡ Some (object (members_data (reverse found.new.items)))) }
+    requires { fields.old ≡ no_fields }
+    ensures { IfOk result (λ plain. IsTrue plain → (found : Members) × (read text.now ≡ Some (object found)) × HasFieldsOf fields.new found) }
 {
     let Ok(mut reader) = Reader::new(text, scratch) else {
         return Err(OutOfMemory);
@@ -25,13 +26,13 @@ pub fn read_plain<'a>(
     let Some(Token::BeginObject) = reader.next() else {
         return Ok(false);
     };
-    Ok(read_members(&mut reader, found) && reader.next().is_none())
+    Ok(read_members(&mut reader, fields) && reader.next().is_none())
 }
 
 // Reads on to the end of the object that was begun, if it is plain.
-fn read_members<'a>(reader: &mut Reader<'a>, found: &mut PlainMembers<'a>) -> bool
-    requires { found.old.items ≡ [] }
-    ensures { IsTrue result → (depth : ℕ) → converted (λ all. of_members all no_members) (members (value depth) (length reader.old) reader.old) ≡ Some (members_data (reverse found.new.items), reader.new) }
+fn read_members<'a>(reader: &mut Reader<'a>, fields: &mut Fields<'a>) -> bool
+    requires { fields.old ≡ no_fields }
+    ensures { IsTrue result → (found : Members) × HasFieldsOf fields.new found × ((depth : ℕ) → converted (λ all. of_members all no_members) (members (value depth) (length reader.old) reader.old) ≡ Some (found, reader.new)) }
 {
     'members: loop {
         let Ok(key) = reader.next_key() else {
@@ -43,10 +44,7 @@ fn read_members<'a>(reader: &mut Reader<'a>, found: &mut PlainMembers<'a>) -> bo
         let Some(value) = plain_value(reader) else {
             return false;
         };
-        if found.is_full() {
-            return false;
-        }
-        found.push(Member { key, value });
+        fields.put(key, value);
     }
 }
 

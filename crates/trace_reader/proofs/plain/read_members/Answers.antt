@@ -1,23 +1,32 @@
-use Rattle.std.proofs.Common.{◌≡◌, ◌-◌, ◌∙◌, ap, sym, reverse, Some, None, arith}
-use Rattle.json.specs.Json.{members, value, read_key}
+use Rattle.std.proofs.Common.{◌≡◌, ◌≤◌, ◌-◌, ◌∙◌, Some, None, length, refl, arith}
+use Rattle.json.specs.Json.{value, read_key}
 use Rattle.json.proofs.Grammar.{read_key-shorter}
-use Rattle.serde_json.specs.Data.{put}
-use Rattle.serde_json.specs.Read.{converted, of_members}
-use Rattle.trace_reader.specs.Objects.{members_data, value_data}
-use Rattle.trace_reader.proofs.ObjectLemmas.{pushed_member, member_passed, members_passed}
+use Rattle.serde_json.specs.Data.{no_members, put}
+use Rattle.trace_reader.specs.Objects.{value_data}
+use Rattle.trace_reader.proofs.FieldLemmas.{no_fields_of}
+use Rattle.trace_reader.proofs.ObjectLemmas.{member_passed, members_passed}
 use Rattle.trace_reader.proofs.plain.read_members.Goals as goal
+
+pub members-init : goal.members-init
+members-init c =
+    let at_most : length c.args.reader.now ≤ length c.args.reader.now = omega arith in
+    (no_members, no_fields_of c.args.fields.now c.requires, length c.args.reader.now, at_most, λ depth. refl)
 
 pub returns-in_default-key : goal.returns-in_default-key
 returns-in_default-key c =
     let l = c.members in
     let over : read_key l.reader ≡ Some (None, c.next_key.new.self) = grind arith in
-    λ yes depth. l.invariant.2 depth ∙ members_passed (value depth) (members_data (reverse l.found.items)) l.invariant.0 l.reader c.next_key.new.self l.invariant.1 over
+    λ yes. (
+      l.invariant.0,
+      l.invariant.1,
+      λ depth. l.invariant.4 depth ∙ members_passed (value depth) l.invariant.0 l.invariant.2 l.reader c.next_key.new.self l.invariant.3 over,
+    )
 
 pub members-preserved : goal.members-preserved
 members-preserved c =
     let l = c.members in
-    let n = l.invariant.0 in
-    let old = members_data (reverse l.found.items) in
+    let found = l.invariant.0 in
+    let n = l.invariant.2 in
     let k = c.in-Some.key.now in
     let s = c.next_key.new.self in
     let v = c.in-Some-plain_value.value in
@@ -25,10 +34,10 @@ members-preserved c =
     let named : read_key l.reader ≡ Some (Some k, s) = grind arith in
     let less = read_key-shorter l.reader (Some k) s named in
     let lesser = c.in-Some-plain_value.ensures.shorter in
-    let is = c.in-Some-plain_value.ensures.value in
-    let pushed : members_data (reverse c.push.new.self.items) ≡ put k (value_data v) old = pushed_member l.found.items _ _ c.push.ensures.items in (
+    let is = c.in-Some-plain_value.ensures.value in (
+      put k (value_data v) found,
+      c.put.ensures found l.invariant.1,
       n - 1,
-      omega (arith, l.invariant.1),
-      λ depth. l.invariant.2 depth ∙ member_passed (value depth) old n k l.reader s r is.0 (value_data v) (omega (arith, l.invariant.1)) named (is.2 depth) is.1
-          ∙ ap (λ found. converted (λ all. of_members all found) (members (value depth) (n - 1) r)) (sym pushed),
+      omega (arith, l.invariant.3),
+      λ depth. l.invariant.4 depth ∙ member_passed (value depth) found n k l.reader s r is.0 (value_data v) (omega (arith, l.invariant.3)) named (is.2 depth) is.1,
     )
