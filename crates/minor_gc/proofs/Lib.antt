@@ -1,4 +1,5 @@
 pub mod Added
+pub mod Fronts
 pub mod Inside
 pub mod Keeping
 pub mod Lists

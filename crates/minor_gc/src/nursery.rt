@@ -8,7 +8,7 @@ ghost use Rattle.minor_gc.specs.Generations.{is_young, remembered, after_minor, 
 ghost use Rattle.minor_gc.specs.Nurseries.{placed_in, nothing_nursed};
 
 use crate::minor::Minor;
-use crate::room::{add_cells, reserve_one};
+use crate::room::{add_cells, drop_cells, reserve_one};
 use crate::search::Search;
 use crate::tally::{Change, forget, holds_young, recount};
 use graph_meaning::{Refusal, Stop};
@@ -167,7 +167,8 @@ impl Nursery {
         ensures counts { IfOk result (λ m. m ≡ full_collection self.old.heap) }
         ensures err { OnErr result (self.new ≡ self.old) }
     {
-        let cells = self.table.cells();
+        // The call tells that each object stands in one cell.
+        prove!(self.table.cells() <= MOST_OBJECTS);
         let live = self.table.live();
         let remembered = self.remembered.len() as u32;
         self.search.clear();
@@ -176,7 +177,8 @@ impl Nursery {
         forget(&self.table, &mut self.counts, &self.remembered);
         self.remembered.clear();
         self.table.keep(&self.search.marks);
-        prove_eq!(self.table.cells(), cells);
+        let cells = self.table.cells();
+        drop_cells(&mut self.search, &mut self.counts, cells);
         self.old_up_to = self.greatest;
         Ok(Minor {
             live,

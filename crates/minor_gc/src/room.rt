@@ -1,5 +1,5 @@
-//! The memory that an object more may want.
-ghost use Rattle.std.specs.Prelude.{◌≡◌, ◌+◌, ◌<◌, ◌≤◌, ℕ, false, length, slice_index_or, OnOk, vec_len, vec_capacity};
+//! The cells of a nursery, and the memory that an object more may want.
+ghost use Rattle.std.specs.Prelude.{◌≡◌, ◌+◌, ◌<◌, ◌≤◌, ℕ, [], false, length, take, slice_index_or, OnOk, vec_len, vec_capacity};
 ghost use Rattle.minor_gc.specs.Searches.{marks_of};
 
 use crate::search::Search;
@@ -42,4 +42,15 @@ pub fn add_cells(search: &mut Search, counts: &mut Vec<u32>, cells: u32)
         search.add_cell();
         counts.push_reserved(0);
     }
+}
+
+/// Takes the cells behind the first so many away, where no search is under way.
+pub fn drop_cells(search: &mut Search, counts: &mut Vec<u32>, cells: u32)
+    requires { search.old.work.items ≡ [] }
+    ensures marks { search.new.marks.items ≡ take cells search.old.marks.items }
+    ensures counts { counts.new.items ≡ take cells counts.old.items }
+    ensures work { search.new.work.items ≡ [] }
+{
+    search.drop_cells(cells);
+    counts.truncate(cells as usize);
 }

@@ -1,5 +1,5 @@
 //! The cells that a search marks, and those from which it has still to go on.
-ghost use Rattle.std.specs.Prelude.{◌≡◌, ◌+◌, ◌<◌, ◌≤◌, ◌++◌, ◌∷◌, [], length, replicate, true, false, not, if◌then◌else◌, OnOk, count_by, slice_set, slice_index_or, vec_len, vec_capacity};
+ghost use Rattle.std.specs.Prelude.{◌≡◌, ◌+◌, ◌<◌, ◌≤◌, ◌++◌, ◌∷◌, [], length, take, replicate, true, false, not, if◌then◌else◌, OnOk, count_by, slice_set, slice_index_or, vec_len, vec_capacity};
 
 use heap_base::OutOfMemory;
 use std::alloc::Global;
@@ -44,6 +44,15 @@ impl Search {
         ensures work { self.new.work.items ≡ self.old.work.items }
     {
         self.marks.push_reserved(false);
+    }
+
+    /// Takes the cells behind the first so many away.
+    pub fn drop_cells(&mut self, cells: u32)
+        requires { self.old.work.items ≡ [] }
+        ensures marks { self.new.marks.items ≡ take cells self.old.marks.items }
+        ensures work { self.new.work.items ≡ [] }
+    {
+        self.marks.truncate(cells as usize);
     }
 
     /// Lets no cell be marked.

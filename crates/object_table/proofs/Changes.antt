@@ -553,7 +553,7 @@ module _ (p : Parts) (laid : IsLaidOut p) (kept : List Bool) (later : List (Opti
   after_leads true (Some o) leads = All-map (HoldsTaken later) (slot_after kept) o.slots (All-weaker (HoldsTaken p.cells) (λ s. HoldsTaken later (slot_after kept s)) holds_after o.slots leads)
   after_leads false o leads = tt
 
-  pub kept_laid : (slots : ℕ) → length later ≡ length p.cells → IsLaidOut (with_kept slots)
+  pub kept_laid : (slots : ℕ) → length later ≤ length p.cells → IsLaidOut (with_kept slots)
   kept_laid slots long = record {
     rising = AllPairs-filter (λ a b. a.0 < b.0) (λ e. is_flagged kept e.1) p.ids laid.rising;
     stands = λ k d h.
@@ -577,13 +577,13 @@ module _ (p : Parts) (laid : IsLaidOut p) (kept : List Bool) (later : List (Opti
       counted true b = refl
       counted false b = refl
 
-  pub kept_keeps : (slots : ℕ) → length later ≡ length p.cells → KeepsCells (placed_of p) (placed_of (with_kept slots)) kept_now
+  pub kept_keeps : (slots : ℕ) → length later ≤ length p.cells → KeepsCells (placed_of p) (placed_of (with_kept slots)) kept_now
   kept_keeps slots long = record {
     others = λ cell id is has.
         let at : id_held p.cells cell ≡ Some id = sym (id_in-cells p.cells cell) ∙ is in
         let (o, held, same) = held_with_id p.cells cell id at in
         id_in-cells later cell ∙ ap (option_map (λ (q : Resident). q.id)) (kept_held cell o held (sym (kept_cell p laid kept cell id at) ∙ has)) ∙ ap Some same;
-    count = length-map later (option_map (λ o. o.id)) ∙ long ∙ sym (length-map p.cells (option_map (λ o. o.id)));
+    count = omega (arith, length-map later (option_map (λ (o : Resident). o.id)), long, length-map p.cells (option_map (λ (o : Resident). o.id)));
   }
 
 -- ---- the slots together

@@ -1,9 +1,11 @@
 -- What the calls on cells leave: what each cell holds, and the list of the empty ones.
-use Rattle.std.proofs.Common.{◌≡◌, ℕ, zero, suc, ◌+◌, ◌-◌, ◌<◌, ◌≤◌, List, [], ◌∷◌, ◌++◌, length, map, take, drop, set, get_or, slice_get, Bool, cond, Option, Some, None, IfSome, IsSome, refl, sym, ◌∙◌, ap, subst, arith, add-one, append_assoc, length-append}
+use Rattle.std.proofs.Common.{◌≡◌, ℕ, zero, suc, ◌+◌, ◌-◌, ◌<◌, ◌≤◌, List, [], ◌∷◌, ◌++◌, length, map, take, drop, set, get_or, slice_get, Bool, true, false, cond, Option, Some, None, is_some, IfSome, IsSome, ◌⊎◌, inl, inr, ⊎_elim, refl, sym, ◌∙◌, ap, subst, arith, add-one, append_assoc, length-append}
 use Rattle.std.specs.Option.{option_map}
+use Rattle.std.proofs.Math.ListN.{get_or-eq_default}
 use Rattle.std.proofs.Math.Seq.{drop-cons, set-append_seam, get_or-append_seam}
+use Rattle.std.proofs.lemmas.Bool.{false≢true, cases_lt}
 use Rattle.std.proofs.lemmas.Bool.Decides.{nat_tests}
-use Rattle.std.proofs.lemmas.List.{take_more, length-take-le, take_all, drop_all, append-nil, length-map, length-set, length_push, map-set, map-append}
+use Rattle.std.proofs.lemmas.List.{take_more, take-take, length-take, length-take-le, get_or-take, take-map, take_all, drop_all, append-nil, length-map, length-set, length_push, map-set, map-append}
 use Rattle.std.proofs.lemmas.Option.{same_Some, slice_get-get_or, get_or_from_slice_get}
 use Rattle.heap_base.specs.declared.limits.TheConstants.{MOST_OBJECTS}
 use Rattle.object_table.specs.declared.slot.Slot.{Slot}
@@ -11,7 +13,7 @@ use Rattle.object_table.specs.declared.cell.Cell.{Cell}
 use Rattle.object_table.specs.declared.cell.Cell.TheVariants.{Taken, Empty}
 use Rattle.object_table.specs.Paged.{Roomy}
 use Rattle.object_table.specs.Residents.{Resident, is_flagged, resident_after, held_at, held_after, next_cell, with_resident}
-use Rattle.object_table.specs.Chains.{resident_in, empty_from, first_empty, next_in, HasSlot, with_slot_put, with_slots_cleared, cell_after, cells_after, IsHoused}
+use Rattle.object_table.specs.Chains.{resident_in, empty_from, first_empty, next_in, HasSlot, with_slot_put, with_slots_cleared, cell_after, cells_after, IsFrontOf, IsHoused}
 use Rattle.object_table.proofs.Chains.{first-none, first-some, linked_put, linked_push, linked_slot, linked_cleared, linked_after, length-cells_after, held_at-after}
 
 -- ---- one cell is changed
@@ -199,11 +201,11 @@ swept_all kept old now i first is none =
     let all : now ≡ cells_after kept 0 old = is.cells ∙ ap (λ k. take k old ++ cells_after kept k (drop k old)) none in
     (all, is.first_is ∙ ap (λ k. first_empty k (cells_after kept k (drop k old))) none ∙ ap (first_empty 0) (sym all))
 
-pub swept_housed : (kept : List Bool) (old now : List Cell) (old_first first : Option ℕ) → IsHoused old old_first → now ≡ cells_after kept 0 old → first ≡ first_empty 0 now → IsHoused now first
-swept_housed kept old now old_first first is all first_is = record {
+pub swept_housed : (kept : List Bool) (old now : List Cell) (first : Option ℕ) → length old ≤ MOST_OBJECTS → now ≡ cells_after kept 0 old → first ≡ first_empty 0 now → IsHoused now first
+swept_housed kept old now first few all first_is = record {
   first_is = first_is;
   linked = rw all (linked_after kept 0 old);
-  few = omega (arith, is.few, ap length all, length-cells_after kept 0 old);
+  few = omega (arith, few, ap length all, length-cells_after kept 0 old);
 }
 
 pub swept_held : (kept : List Bool) (old now : List Cell) → now ≡ cells_after kept 0 old → (cell : ℕ) → held_at (map resident_in now) cell ≡ held_after kept (map resident_in old) cell
@@ -212,3 +214,62 @@ swept_held kept old now all cell =
     ap (λ l. held_at (map resident_in l) cell) all
     ∙ held_at-after kept 0 cell old
     ∙ ap (λ k. cond (is_flagged kept k) (option_map (resident_after kept) (held_at (map resident_in old) cell)) None) same
+
+-- ---- the last cells are taken away
+
+front_held : (before after : List Cell) → after ≡ take (length after) before → (cell : ℕ) → cell < length after → held_at (map resident_in after) cell ≡ held_at (map resident_in before) cell
+front_held before after front cell within =
+    ap (λ l. held_at (map resident_in l) cell) front
+    ∙ ap (λ l. held_at l cell) (sym (take-map resident_in (length after) before))
+    ∙ get_or-take (length after) (map resident_in before) cell None within
+
+kept_by : (kept : List Bool) (cells others : List Cell) (cell : ℕ) → held_at (map resident_in cells) cell ≡ held_at (map resident_in others) cell → held_after kept (map resident_in cells) cell ≡ held_after kept (map resident_in others) cell
+kept_by kept cells others cell same = ap (λ o. cond (is_flagged kept cell) (option_map (resident_after kept) o) None) same
+
+beyond : (kept : List Bool) (cells : List Cell) (cell : ℕ) → length cells ≤ cell → held_after kept (map resident_in cells) cell ≡ None
+beyond kept cells cell past =
+    ap (λ o. cond (is_flagged kept cell) (option_map (resident_after kept) o) None) (get_or-eq_default (map resident_in cells) None (omega (arith, length-map cells resident_in, past)))
+    ∙ either (is_flagged kept cell)
+  where
+    either : (b : Bool) → cond b (option_map (resident_after kept) None) None ≡ None
+    either true = refl
+    either false = refl
+
+none_there : {X : Type 0} (o : Option X) → is_some o ≡ false → o ≡ None
+none_there None e = refl
+none_there (Some x) e = absurd (false≢true (sym e))
+
+module _ (kept : List Bool) where
+  pub front_none : (cells : List Cell) → IsFrontOf kept cells cells
+  front_none cells = record {
+    front = sym (take_all (length cells) cells (omega arith));
+    others = λ cell past. beyond kept cells cell past;
+  }
+
+  pub front_more : (before now after : List Cell) (cell : ℕ) → IsFrontOf kept before now → length now ≡ cell + 1 → after ≡ take cell now → is_some (held_after kept (map resident_in now) cell) ≡ false → IsFrontOf kept before after
+  front_more before now after cell is count popped gone =
+      let shorter : length after ≡ cell = ap length popped ∙ length-take-le cell now (omega (arith, count)) in
+      record {
+        front = popped
+            ∙ ap (take cell) is.front
+            ∙ take-take cell (length now) before (omega (arith, count))
+            ∙ ap (λ k. take k before) (sym shorter);
+        others = λ other past. ⊎_elim
+            (λ later. is.others other (omega (arith, later, count)))
+            (λ here. ap (held_after kept (map resident_in before)) here
+            ∙ sym (kept_by kept now before cell (front_held before now is.front cell (omega (arith, count))))
+            ∙ none_there (held_after kept (map resident_in now) cell) gone)
+            (later_or_here cell other (omega (arith, past, shorter)));
+      }
+    where
+      later_or_here : (cell other : ℕ) → cell ≤ other → (cell < other) ⊎ (other ≡ cell)
+      later_or_here cell other le = ⊎_elim (λ lt. inl lt) (λ ge. inr (omega (arith, le, ge))) (cases_lt cell other)
+
+  pub front_kept : (before after : List Cell) → IsFrontOf kept before after → (cell : ℕ) → held_after kept (map resident_in after) cell ≡ held_after kept (map resident_in before) cell
+  front_kept before after is cell = ⊎_elim
+      (λ within. kept_by kept after before cell (front_held before after is.front cell within))
+      (λ past. beyond kept after cell past ∙ sym (is.others cell past))
+      (cases_lt cell (length after))
+
+  pub front_shorter : (before after : List Cell) → IsFrontOf kept before after → length after ≤ length before
+  front_shorter before after is = omega (arith, ap length is.front, length-take (length after) before)

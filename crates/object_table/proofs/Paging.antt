@@ -6,7 +6,7 @@ use Rattle.std.proofs.lemmas.List.Elements.{All-head, All-tail, All-set}
 use Rattle.std.proofs.lemmas.Option.{slice_get-get_or, slice_get_cases, get_or_from_slice_get}
 use Rattle.std.proofs.lemmas.Grind.{take-set_at}
 use Rattle.std.proofs.Math.Nat.{div-add-mod}
-use Rattle.std.proofs.Math.Seq.{take-set-lt}
+use Rattle.std.proofs.Math.Seq.{take-set-lt, take-set-le, take-take}
 use Rattle.object_table.specs.Paged.{all_of, paged, IsPaged}
 
 module _ {X : Type 0} where
@@ -105,6 +105,13 @@ module _ {X : Type 0} where
         let room : length (set (all_of pages) i x) - (count + 1) ≡ (length (all_of pages) - count) - 1 = omega (arith, length-set (all_of pages) i x) in
         rw (put_all x, cells, room) refl
 
+    -- the last element is no longer used
+    pub popped_is : (x : X) → i + 1 ≡ count → (paged (set pages (i / 1024) (set page (i % 1024) x)) i).cells ≡ take i (paged pages count).cells
+    popped_is x last =
+        ap (take i) (put_all x)
+        ∙ take-set-le i (all_of pages) i x (omega arith)
+        ∙ sym (take-take i count (all_of pages) (omega (arith, last)))
+
   -- ---- an element that is used
 
   module _ (pages : List (List X)) (count i : ℕ) (page : List X) (is : IsPaged pages count) (h : i < length (paged pages count).cells) (at : page ≡ get_or pages (i / 1024) page) where
@@ -163,3 +170,16 @@ module _ {X : Type 0} where
 
   pub page_of_room : (pages : List (List X)) (count : ℕ) → IsPaged pages count → 0 < (paged pages count).room → count / 1024 < length pages
   page_of_room pages count is room = page_within pages count count is (room_in_all pages count room)
+
+  pub last_used : (pages : List (List X)) (count : ℕ) → IsPaged pages count → 0 < length (paged pages count).cells → count - 1 < length (paged pages count).cells
+  last_used pages count is some = let long = length-take-le count (all_of pages) is.used in omega arith
+
+  pub popped : (pages : List (List X)) (count : ℕ) (page later : List X) (x : X) → IsPaged pages count → 0 < length (paged pages count).cells → page ≡ get_or pages ((count - 1) / 1024) page → later ≡ set page ((count - 1) % 1024) x → IsPaged (set pages ((count - 1) / 1024) later) (count - 1) × ((paged (set pages ((count - 1) / 1024) later) (count - 1)).cells ≡ take (length (paged pages count).cells - 1) (paged pages count).cells)
+  popped pages count page later x is some at put =
+      let long : length (paged pages count).cells ≡ count = length-take-le count (all_of pages) is.used in
+      let all : count - 1 < length (all_of pages) = let few = is.used in omega arith in
+      let before : count - 1 ≡ length (paged pages count).cells - 1 = omega arith in
+      rw put (
+        put_keeps pages count (count - 1) page is all at (count - 1) x (omega (arith, all)),
+        popped_is pages count (count - 1) page is all at x (omega (arith, some, long)) ∙ ap (λ k. take k (paged pages count).cells) before,
+      )

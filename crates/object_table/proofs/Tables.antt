@@ -254,7 +254,7 @@ module _ (p : Parts) (is : IsTable p) where
 
   -- ---- cells are emptied
 
-  module _ (kept : List Bool) (later : List (Option Resident)) (long : length later ≡ length p.cells) (after : (cell : ℕ) → held_at later cell ≡ held_after kept p.cells cell) (leads : LeadsToKept (placed_of p).table (kept_ids (placed_of p).cells kept)) where
+  module _ (kept : List Bool) (later : List (Option Resident)) (long : length later ≤ length p.cells) (after : (cell : ℕ) → held_at later cell ≡ held_after kept p.cells cell) (leads : LeadsToKept (placed_of p).table (kept_ids (placed_of p).cells kept)) where
     sound_kept : (slots : ℕ) → IsSound (placed_of (with_kept p is.laid kept later after slots)).table
     sound_kept slots = subst IsSound (sym (kept_is p is.laid kept later after slots)) (sound_with_only (placed_of p).table (kept_ids (placed_of p).cells kept) is.sound leads)
 

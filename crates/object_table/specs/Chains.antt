@@ -1,8 +1,8 @@
 -- The empty cells of a list of cells: each leads to the next one.
-use Rattle.std.specs.Prelude.{◌≡◌, ℕ, ◌+◌, ◌<◌, ◌≤◌, List, [], ◌∷◌, length, Option, None, Some, Bool, true, false, slice_set}
+use Rattle.std.specs.Prelude.{◌≡◌, ℕ, ◌+◌, ◌<◌, ◌≤◌, List, [], ◌∷◌, length, map, take, Option, None, Some, Bool, true, false, slice_set}
 use Rattle.heap_base.specs.declared.limits.TheConstants.{MOST_OBJECTS}
 use Rattle.object_table.specs.declared.slot.Slot.{Slot}
-use Rattle.object_table.specs.Residents.{Resident, is_flagged, resident_after, resident_cleared, holders_held}
+use Rattle.object_table.specs.Residents.{Resident, is_flagged, held_after, resident_after, resident_cleared, holders_held}
 use Rattle.object_table.specs.declared.cell.Cell.{Cell}
 use Rattle.object_table.specs.declared.cell.Cell.TheVariants.{Taken, Empty}
 
@@ -71,6 +71,11 @@ abbrev pub cells_after : List Bool → ℕ → List Cell → List Cell
 cells_after kept n [] = []
 cells_after kept n (c ∷ cells) =
     let rest = cells_after kept (n + 1) cells in cell_after (is_flagged kept n) kept (first_empty (n + 1) rest) c ∷ rest
+
+-- The cells are the first of those before, and each of the others is empty, or not kept.
+pub record IsFrontOf (kept : List Bool) (before after : List Cell) : Type 0 where
+  pub front : after ≡ take (length after) before
+  pub others : (cell : ℕ) → length after ≤ cell → held_after kept (map resident_in before) cell ≡ None
 
 -- Each empty cell leads to the next, this is the first, and there are no more cells than there may be objects.
 pub record IsHoused (cells : List Cell) (first : Option ℕ) : Type 0 where

@@ -3,6 +3,7 @@ pub mod Chains
 pub mod Indexed
 pub mod Located
 pub mod Ordered
+pub mod Packing
 pub mod Paged
 pub mod Parts
 pub mod Placed

@@ -87,10 +87,10 @@ pub record LeadsToKept (t : Table) (kept : List ℕ) : Type 0 where
   pub by_roots : All (λ r. IsTrue (has_id kept r.1)) t.roots
   pub by_edges : (x y : ℕ) → IsTrue (has_id kept x) → IsTrue (has_id (targets t x) y) → IsTrue (has_id kept y)
 
--- Each kept object keeps its cell, and there are as many cells as before.
+-- Each kept object keeps its cell, and there are no more cells than before.
 pub record KeepsCells (before after : Placed) (kept : List ℕ) : Type 0 where
   pub others : (cell id : ℕ) → id_in before cell ≡ Some id → IsTrue (has_id kept id) → id_in after cell ≡ Some id
-  pub count : length after.cells ≡ length before.cells
+  pub count : length after.cells ≤ length before.cells
 
 -- what the slot holds, weakly or not, is kept
 abbrev pub HoldsOf : List ℕ → Slot → Type 0

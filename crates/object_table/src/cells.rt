@@ -1,8 +1,9 @@
-ghost use Rattle.std.specs.Prelude.{◌≡◌, ℕ, ◌<◌, ◌≤◌, [], length, map, sum_by, IsTrue, None, Some, IsSome, IfSome, OnOk, slice_get, slice_set, IfOk};
+ghost use Rattle.std.specs.Prelude.{◌≡◌, ℕ, ◌<◌, ◌≤◌, [], length, map, sum_by, IsTrue, None, Some, is_some, IsSome, IfSome, OnOk, slice_get, slice_set, IfOk};
 ghost use Rattle.std.specs.Option.{option_map};
 ghost use Rattle.heap_base.specs.declared.limits.TheConstants.{MOST_OBJECTS, MOST_SLOTS};
+ghost use Rattle.object_table.specs.Packing.{CanBePacked};
 ghost use Rattle.object_table.specs.Residents.{held_at, held_after, id_held, is_flagged, next_cell, with_resident, resident_cleared, holders_held};
-ghost use Rattle.object_table.specs.Chains.{first_empty, IsLinked, cells_after, cell_after, empty_from, with_slots_cleared, holders_at};
+ghost use Rattle.object_table.specs.Chains.{resident_in, first_empty, IsLinked, IsFrontOf, cells_after, cell_after, empty_from, with_slots_cleared, holders_at};
 
 use crate::cell::Cell;
 use crate::object::Object;
@@ -122,16 +123,19 @@ impl Cells {
     pub fn set_slot(&mut self, cell: u32, slot: u32, value: Slot)
         requires taken { IsSome (held_at self.old.cells cell) }
         requires a_slot { IfSome (held_at self.old.cells cell) (λ o. slot < length o.slots) }
+        requires packed { CanBePacked value }
         ensures { IfSome (held_at self.old.cells cell) (λ o. self.new.cells ≡ slice_set self.old.cells cell (Some (record o { slots = slice_set o.slots slot value }))) }
     {
         self.pages.set_slot(cell, slot, value);
     }
 
-    /// Empties the cells that are not kept, and each slot that holds what stood in one.
+    /// Empties the cells that are not kept, and each slot that holds what stood in one. Cells behind the last that is kept
+    /// are taken away.
     pub fn keep(&mut self, kept: &[bool])
-        ensures count { length self.new.cells ≡ length self.old.cells }
+        ensures count { length self.new.cells ≤ length self.old.cells }
         ensures after { (cell : ℕ) → held_at self.new.cells cell ≡ held_after kept.now self.old.cells cell }
     {
+        drop_last(&mut self.pages, kept);
         self.first_empty = sweep(&mut self.pages, kept);
     }
 
@@ -152,6 +156,26 @@ impl Cells {
     {
         clear_slots(&mut self.pages, marked)
     }
+}
+
+// Takes the cells behind the last that is kept away.
+fn drop_last(pages: &mut Pages, kept: &[bool])
+    ensures { IsFrontOf kept.now pages.old.cells pages.new.cells }
+{
+    for cell in (0..pages.len()).rev() {
+        if stays(pages, cell, kept) {
+            return;
+        }
+        pages.pop();
+    }
+}
+
+// Whether the cell holds an object and is kept.
+fn stays(pages: &Pages, cell: u32, kept: &[bool]) -> bool
+    requires { cell < length pages.now.cells }
+    ensures { result ≡ is_some (held_after kept.now (map resident_in pages.now.cells) cell) }
+{
+    is_flagged(kept, cell) && matches!(pages.at(cell), Cell::Taken(_))
 }
 
 // Empties the cells that are not kept, and each slot that holds what stood in one. It answers the first empty cell.

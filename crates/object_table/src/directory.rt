@@ -48,16 +48,16 @@ impl Directory {
 
     /// Takes up an id that is put behind these.
     pub fn add(&mut self, id: ObjId, ids: &[(ObjId, u32)]) -> Result<(), OutOfMemory> {
-        let most = ids.len() / 4 + 64;
+        let most = blocks_for(ids.len());
         if self.block(id) >= most {
             self.lay(ids, id, most)?;
         }
         self.reach(id, ids.len())
     }
 
-    /// Takes up these ids in place of those before. It asks for no memory, since there are no more blocks than before.
+    /// Takes up these ids in place of those before. It asks for no memory: there are no more blocks than there is memory for.
     pub fn keep(&mut self, ids: &[(ObjId, u32)]) {
-        let most = self.starts.len();
+        let most = blocks_for(ids.len()).min(self.starts.capacity());
         self.starts.clear();
         if let Some(last) = ids.last() {
             let _ = self.lay(ids, last.0, most);
@@ -111,6 +111,11 @@ impl Directory {
     fn start(&self, block: usize) -> Option<usize> {
         self.starts.get(block).map(|start| *start as usize)
     }
+}
+
+// How many blocks so many ids want, where they lie evenly.
+fn blocks_for(count: usize) -> usize {
+    count / 4 + 64
 }
 
 // The shift that leaves about `most` blocks in this span, and no more.

@@ -1,23 +1,29 @@
 ghost use Rattle.std.specs.Prelude.{◌≡◌, ◌<◌, ◌≤◌, length, map, replicate, slice_get, slice_set, Some, IfOk};
 ghost use Rattle.heap_base.specs.declared.limits.TheConstants.{MOST_SLOTS};
+ghost use Rattle.object_table.specs.Packing.{CanBePacked};
 ghost use Rattle.object_table.specs.Residents.{Resident, no_edge, slot_after, holders_in, resident_cleared};
 
-use crate::slot::Slot;
+use crate::slot::{PackedSlot, Slot, clear_slots_to, keep_slots};
 use heap_base::{ObjId, OutOfMemory};
+use smallvec::SmallVec;
 use std::alloc::Global;
 use std::marker::Model;
+
+/// So many slots stand in the object itself, and more in memory of their own.
+const OWN_SLOTS: usize = 4;
 
 /// An object as it stands in a cell: its id, the number of its type, and its slots.
 #[derive(Drop)]
 pub struct Object {
     id: ObjId,
     kind: u32,
-    slots: Vec<Slot>,
+    slots: SmallVec<PackedSlot, OWN_SLOTS>,
 }
 
 impl Model for Object {
     ghost use Rattle.std.specs.Prelude.{length, ◌≤◌};
     ghost use Rattle.heap_base.specs.declared.limits.TheConstants.{MOST_SLOTS};
+    ghost use Rattle.object_table.specs.Packing.{CanBePacked};
     ghost use Rattle.object_table.specs.Residents.{Resident};
 
     ghost Value = { Resident };
@@ -37,7 +43,7 @@ impl Object {
             held: None,
             weak: false,
         };
-        let slots = vec![in alloc; empty; slots as usize]?;
+        let slots = SmallVec::from_elem(alloc, PackedSlot::pack(empty), slots as usize)?;
         Ok(Object { id, kind, slots })
     }
 
@@ -48,7 +54,7 @@ impl Object {
         Ok(Object {
             id: self.id,
             kind: self.kind,
-            slots: self.slots.to_vec(*self.slots.allocator())?,
+            slots: SmallVec::from_slice(*self.slots.allocator(), self.slots.as_slice())?,
         })
     }
 
@@ -77,26 +83,26 @@ impl Object {
     /// One of its slots.
     pub fn slot(&self, slot: u32) -> Slot
         requires { slot < length self.now.slots }
-        ensures { slice_get self.now.slots slot ≡ Some result }
+        ensures found { slice_get self.now.slots slot ≡ Some result }
+        ensures packed { CanBePacked result }
     {
-        self.slots[slot as usize]
+        self.slots[slot as usize].slot()
     }
 
     /// Puts one of its slots.
     pub fn set_slot(&mut self, slot: u32, value: Slot)
-        requires { slot < length self.old.slots }
+        requires in_range { slot < length self.old.slots }
+        requires packed { CanBePacked value }
         ensures { self.new ≡ record self.old { slots = slice_set self.old.slots slot value } }
     {
-        self.slots[slot as usize] = value;
+        self.slots[slot as usize] = PackedSlot::pack(value);
     }
 
     /// Empties the slots that hold what stood in a cell that is not kept.
     pub fn keep(&mut self, kept: &[bool])
         ensures { self.new ≡ record self.old { slots = map (slot_after kept.now) self.old.slots } }
     {
-        for slot in 0..self.slots.len() {
-            self.slots[slot] = self.slots[slot].after(kept);
-        }
+        keep_slots(self.slots.as_mut_slice(), kept);
     }
 
     /// Empties the slots, weak or not, that hold the object of a marked cell. Answers how many these were.
@@ -104,10 +110,6 @@ impl Object {
         ensures cleared { self.new ≡ resident_cleared marked.now self.old }
         ensures count { result ≡ holders_in marked.now self.old }
     {
-        let mut cleared = 0;
-        for slot in 0..self.slots.len() {
-            cleared += u32::from(self.slots[slot].clear_to(marked));
-        }
-        cleared
+        clear_slots_to(self.slots.as_mut_slice(), marked)
     }
 }

@@ -1,4 +1,5 @@
 ghost use Rattle.std.specs.Prelude.{◌≡◌, ◌<◌, length, slice_get, slice_set, Some, IfSome, IfOk};
+ghost use Rattle.object_table.specs.Packing.{CanBePacked};
 ghost use Rattle.object_table.specs.Chains.{HasSlot, with_slot_put, with_slots_after, with_slots_cleared, holders_at};
 
 use crate::cell::Cell;
@@ -68,6 +69,7 @@ impl Page {
     pub fn set_slot(&mut self, place: usize, slot: u32, value: Slot)
         requires in_range { place < length self.old }
         requires a_slot { IfSome (slice_get self.old place) (HasSlot slot) }
+        requires packed { CanBePacked value }
         ensures { IfSome (slice_get self.old place) (λ c. self.new ≡ slice_set self.old place (with_slot_put slot value c)) }
     {
         if let Cell::Taken(object) = &mut self.cells[place] {

@@ -1,5 +1,6 @@
-ghost use Rattle.std.specs.Prelude.{◌≡◌, ◌-◌, ◌<◌, ◌≤◌, ◌++◌, ◌∷◌, [], length, slice_get, slice_set, Some, IfSome, OnOk, IfOk};
+ghost use Rattle.std.specs.Prelude.{◌≡◌, ◌-◌, ◌<◌, ◌≤◌, ◌++◌, ◌∷◌, [], length, take, slice_get, slice_set, Some, IfSome, OnOk, IfOk};
 ghost use Rattle.heap_base.specs.declared.limits.TheConstants.{MOST_OBJECTS};
+ghost use Rattle.object_table.specs.Packing.{CanBePacked};
 ghost use Rattle.object_table.specs.Chains.{HasSlot, with_slot_put, with_slots_after, with_slots_cleared, holders_at};
 
 use crate::cell::Cell;
@@ -84,6 +85,7 @@ impl Pages {
     pub fn set_slot(&mut self, cell: u32, slot: u32, value: Slot)
         requires in_range { cell < length self.old.cells }
         requires a_slot { IfSome (slice_get self.old.cells cell) (HasSlot slot) }
+        requires packed { CanBePacked value }
         ensures { IfSome (slice_get self.old.cells cell) (λ c. self.new ≡ record self.old { cells = slice_set self.old.cells cell (with_slot_put slot value c) }) }
     {
         let cell = cell as usize;
@@ -136,5 +138,16 @@ impl Pages {
         self.count += 1;
         let page = &mut self.pages[cell / PAGE];
         page.put(cell % PAGE, value);
+    }
+
+    /// Takes the last cell away, and what stood in it. Its memory stays for another one.
+    pub fn pop(&mut self)
+        requires { 0 < length self.old.cells }
+        ensures { self.new.cells ≡ take (length self.old.cells - 1) self.old.cells }
+    {
+        self.count -= 1;
+        let cell = self.count as usize;
+        let page = &mut self.pages[cell / PAGE];
+        page.put(cell % PAGE, Cell::Empty(None));
     }
 }

@@ -1,5 +1,10 @@
-ghost use Rattle.std.specs.Prelude.{◌≡◌};
+ghost use Rattle.std.specs.Prelude.{◌≡◌, ◌≤◌, length, map};
+ghost use Rattle.std.specs.List.{count_by};
+ghost use Rattle.heap_base.specs.declared.limits.TheConstants.{MOST_SLOTS};
 ghost use Rattle.object_table.specs.Residents.{holds_marked, is_flagged, slot_after, slot_cleared};
+ghost use Rattle.object_table.specs.Packing.{CanBePacked};
+
+use std::marker::Model;
 
 /// A slot of an object: the cell of the object that it holds, or nothing, and whether it is weak.
 #[derive(Clone, Copy)]
@@ -8,16 +13,61 @@ pub struct Slot {
     pub weak: bool,
 }
 
-impl Slot {
+/// A slot in four bytes. Contracts see the slot.
+#[derive(Clone, Copy, Default)]
+pub struct PackedSlot {
+    // twice the number of the cell and two more, or 0 where the slot is empty, and one more where it is weak
+    word: u32,
+}
+
+impl Model for PackedSlot {
+    ghost use Rattle.std.specs.Prelude.{◌≡◌};
+    ghost use Rattle.std.proofs.Common.{ap};
+    ghost use Rattle.object_table.specs.Packing.{packed, unpacked, packed-unpacked};
+    ghost use Rattle.object_table.specs.declared.slot.Slot.{Slot};
+
+    ghost Value = { Slot };
+
+    ghost view = { λ p. unpacked p.word };
+
+    ghost inverse = { λ s. record { word = packed s } };
+
+    ghost inverse_ok = { λ p h. ap (λ n. record { word = n }) (packed-unpacked p.word) };
+}
+
+impl PackedSlot {
+    /// The slot, where it is empty or the number of its cell is less than 2^31 - 1.
+    pub fn pack(slot: Slot) -> PackedSlot
+        requires { CanBePacked slot }
+        ensures { result ≡ slot }
+    {
+        let cell = match slot.held {
+            Some(cell) => cell + 1,
+            None => 0,
+        };
+        PackedSlot {
+            word: 2 * cell + u32::from(slot.weak),
+        }
+    }
+
+    /// The slot, as it was packed.
+    pub fn slot(self) -> Slot
+        ensures same { result ≡ self }
+        ensures packed { CanBePacked result }
+    {
+        let half = self.word / 2;
+        Slot {
+            held: if half == 0 { None } else { Some(half - 1) },
+            weak: self.word % 2 == 1,
+        }
+    }
+
     /// The slot after the cells that are not kept were emptied.
-    pub fn after(self, kept: &[bool]) -> Slot
+    pub fn after(self, kept: &[bool]) -> PackedSlot
         ensures { result ≡ slot_after kept.now self }
     {
-        match self.held {
-            Some(cell) if !is_flagged(kept, cell) => Slot {
-                held: None,
-                weak: self.weak,
-            },
+        match self.slot().held {
+            Some(cell) if !is_flagged(kept, cell) => self.emptied(),
             _ => self,
         }
     }
@@ -27,14 +77,45 @@ impl Slot {
         ensures cleared { self.new ≡ slot_cleared marked.now self.old }
         ensures held { result ≡ holds_marked marked.now self.old }
     {
-        match self.held {
+        match self.slot().held {
             Some(cell) if is_flagged(marked, cell) => {
-                self.held = None;
+                *self = self.emptied();
                 true
             }
             _ => false,
         }
     }
+
+    // The slot with nothing in it; it stays weak where it is.
+    fn emptied(self) -> PackedSlot
+        ensures { result ≡ record self { held = None } }
+    {
+        PackedSlot {
+            word: self.word % 2,
+        }
+    }
+}
+
+/// Empties the slots that hold what stood in a cell that is not kept.
+pub fn keep_slots(slots: &mut [PackedSlot], kept: &[bool])
+    ensures { slots.new ≡ map (slot_after kept.now) slots.old }
+{
+    for slot in 0..slots.len() {
+        slots[slot] = slots[slot].after(kept);
+    }
+}
+
+/// Empties the slots, weak or not, that hold the object of a marked cell. Answers how many these were.
+pub fn clear_slots_to(slots: &mut [PackedSlot], marked: &[bool]) -> u32
+    requires { length slots.old ≤ MOST_SLOTS }
+    ensures cleared { slots.new ≡ map (slot_cleared marked.now) slots.old }
+    ensures count { result ≡ count_by (holds_marked marked.now) slots.old }
+{
+    let mut cleared = 0;
+    for slot in 0..slots.len() {
+        cleared += u32::from(slots[slot].clear_to(marked));
+    }
+    cleared
 }
 
 /// Whether the flag of the cell is set.

@@ -1,7 +1,7 @@
 ghost use Rattle.std.specs.Prelude.{◌≡◌, ◌+◌, ◌<◌, ◌≤◌, ℕ, All, IsTrue, None, Some, true, false, length, drop, filter, sum_by, position, option_and_then, is_some, slice_get, drop, filter, IsSome, IfSome, IfOk, OnOk, OnErr};
 ghost use Rattle.std.specs.Result.{result_err};
 ghost use Rattle.std.specs.Str.{bytes_eq};
-ghost use Rattle.heap_base.specs.declared.limits.TheConstants.{MOST_SLOTS};
+ghost use Rattle.heap_base.specs.declared.limits.TheConstants.{MOST_OBJECTS, MOST_SLOTS};
 ghost use Rattle.graph_meaning.specs.Answers.{RefusesBy};
 ghost use Rattle.graph_meaning.specs.Heap.{edge_of, ids, is_live};
 ghost use Rattle.graph_meaning.specs.Collecting.{with_only, cut_off, holders_of};
@@ -322,7 +322,8 @@ impl ObjectTable {
     }
 
     /// Frees every object whose cell is not kept. Each kept object keeps its cell; a slot that held a freed one is
-    /// empty then, and stays weak where it is.
+    /// empty then, and stays weak where it is. Cells behind the last that is kept are taken away, so what goes over all
+    /// cells goes with what lives.
     pub fn keep(&mut self, kept: &[bool])
         requires each { length kept.now ≡ length self.old.cells }
         requires closed { LeadsToKept self.old.table (kept_ids self.old.cells kept.now) }
@@ -345,6 +346,7 @@ impl ObjectTable {
         requires stacked { IsStacked self.old number }
         ensures kept { self.new.table ≡ with_only (kept_ids self.old.cells kept.now) self.old.table }
         ensures cells { KeepsCells self.old self.new (kept_ids self.old.cells kept.now) }
+        ensures count { length self.new.cells ≡ length self.old.cells }
     {
         let first = self.ids.first_above(number);
         let freed = free_from(&mut self.cells, &self.ids, first, kept);
@@ -356,7 +358,6 @@ impl ObjectTable {
     /// one. A slot stays weak where it is, and each object keeps its cell. Answers how many slots and roots these
     /// were.
     pub fn clear_to(&mut self, marked: &[bool]) -> u32
-        requires each { length marked.now ≡ length self.old.cells }
         ensures cleared { self.new.table ≡ cut_off (has_id (marked_ids self.old.cells marked.now)) self.old.table }
         ensures count { result ≡ holders_of (has_id (marked_ids self.old.cells marked.now)) self.old.table }
         ensures cells { self.new.cells ≡ self.old.cells }
@@ -434,6 +435,7 @@ impl ObjectTable {
         ensures refused { result_err result ≡ target_refusal self.now.table to }
         ensures holds { IfOk result (λ cell. option_and_then (id_in self.now) cell ≡ to) }
         ensures taken { IfOk result (λ o. IfSome o (λ cell. IsSome (id_in self.now cell))) }
+        ensures few { IfOk result (λ o. IfSome o (λ cell. cell < MOST_OBJECTS)) }
     {
         let Some(id) = to else {
             return Ok(None);

@@ -11,7 +11,7 @@ use std::alloc::Global;
 use std::process::Abort;
 use std::test::Fail;
 use sweep::sweep;
-use test_support::{flags, id, table_apart};
+use test_support::{cell, flags, id, name, table_apart};
 
 const OBJECTS: [(u32, &str, u32); 4] = [(3, "A", 0), (5, "A", 0), (8, "A", 0), (9, "A", 0)];
 
@@ -123,6 +123,49 @@ fn the_freed_objects_are_counted(rt: HostRuntime) -> Result<(), Fail> {
         assert_eq!(rt; freed(rt.alloc(), stay)?, want);
     }
     Ok(())
+}
+
+// How many cells there are where only these of the four objects stay, which were allocated in the cells 0 to 3.
+fn cells_left(alloc: Global, stay: &[u32]) -> Result<u32, Fail> {
+    let mut table = table_apart(alloc, &OBJECTS)?;
+    sweep_all_but(alloc, &mut table, stay)?;
+    Ok(table.cells())
+}
+
+#[test]
+fn cells_behind_the_last_object_that_stays_go(rt: HostRuntime) -> Result<(), Fail> {
+    let cases: [(&[u32], u32); 4] = [(&[3, 9], 4), (&[3, 8], 3), (&[5], 2), (&[], 0)];
+    for (stay, cells) in cases {
+        assert_eq!(rt; cells_left(rt.alloc(), stay)?, cells);
+    }
+    Ok(())
+}
+
+// Allocates an object, and answers its cell and how many cells there are then.
+fn allocate(
+    alloc: Global,
+    table: &mut ObjectTable,
+    object: u32,
+) -> Result<(Option<u32>, u32), Fail> {
+    table.alloc_object(id(object)?, &name(alloc, "A")?, 0)?;
+    Ok((cell(table, object), table.cells()))
+}
+
+// Sweeps a table of those objects so that 3 and 8 stay in the cells 0 and 2, and allocates two more.
+fn check_cells(rt: &impl Abort, alloc: Global, table: &mut ObjectTable) -> Result<(), Fail>
+    requires roots { table.old.table.roots ≡ [] }
+    requires edges { (x : ℕ) → targets table.old.table x ≡ [] }
+{
+    sweep_all_but(alloc, table, &[3, 8])?;
+    assert_eq!(rt; allocate(alloc, table, 10)?, (Some(1), 3));
+    assert_eq!(rt; allocate(alloc, table, 11)?, (Some(3), 4));
+    Ok(())
+}
+
+#[test]
+fn an_empty_cell_before_the_last_object_is_taken_first(rt: HostRuntime) -> Result<(), Fail> {
+    let mut table = table_apart(rt.alloc(), &OBJECTS)?;
+    check_cells(&rt, rt.alloc(), &mut table)
 }
 
 // Sweeps a table of those objects so that 3 and 8 stay, where notes were taken before.

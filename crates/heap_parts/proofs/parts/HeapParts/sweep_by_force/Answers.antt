@@ -13,10 +13,6 @@ sweep-freed-requires-clause-closed c =
     let s : Parts = record { placed = c.self.inside.table; assertions = c.self.inside.registry; regions = c.self.inside.regions } in
     traced_closed s c.self.invariant c.cells.ensures.placed c.args.kept.now (subst (λ (h : PlacedHeap). FlagTraced h c.args.kept.now) (sym c.self.view_is) c.requires.kept)
 
-pub clear_to-cleared-requires : goal.clear_to-cleared-requires
-clear_to-cleared-requires c =
-    record { each = c.requires.to_clear.each ∙ ap (λ (h : PlacedHeap). length h.cells) (sym c.self.view_is) ∙ sym c.sweep-freed.ensures.cells.count }
-
 module _ (c : goal.After-clear_to-cleared) where
   -- the parts before the sweep, after it, and when the flagged objects are cut off
   abbrev before : Parts

@@ -1,4 +1,4 @@
-use Rattle.std.proofs.Common.{◌≡◌, ◌-◌, length, refl, sym, ap, ◌∙◌, arith}
+use Rattle.std.proofs.Common.{◌≡◌, ◌-◌, ◌≤◌, length, false, refl, ap, ◌∙◌, arith}
 use Rattle.std.specs.Vec.{vec_capacity}
 use Rattle.graph_meaning.specs.Heap.{Table}
 use Rattle.object_table.specs.Placed.{kept_ids}
@@ -7,6 +7,7 @@ use Rattle.minor_gc.specs.Marks.{Marks}
 use Rattle.minor_gc.specs.Nurseries.{Parts, heap_of}
 use Rattle.minor_gc.specs.Searches.{marks_of}
 use Rattle.minor_gc.proofs.Inside.{parts_in, IsSoundNursery}
+use Rattle.minor_gc.proofs.Fronts.{length-front, get_or-front}
 use Rattle.minor_gc.proofs.Remembered.{remembered_live, few_remembered, counted_remembered}
 use Rattle.minor_gc.proofs.Searching.{HasRun, full_marks}
 use Rattle.minor_gc.proofs.Settled.{MarksKept, LeavesKept, leads, settled, heap_is, collection_is, fewer_objects}
@@ -19,7 +20,7 @@ module _ (c : After-len-remembered) where
   before = parts_in c.self.inside
 
   sound : IsSoundNursery before
-  sound = record { nursery = c.self.invariant; placed = c.cells-cells.ensures.placed; sound = c.cells-cells.ensures.sound }
+  sound = record { nursery = c.self.invariant; placed = c.cells.ensures.placed; sound = c.cells.ensures.sound }
 
 -- what the search marked
 module _ (c : After-deref-2) where
@@ -41,9 +42,9 @@ module _ (c : goal.After-live) where
     placed = c.keep.new.self;
     old_up_to = c.self.inside.greatest;
     greatest = c.self.inside.greatest;
-    marks = c.run.new.self.marks.items;
-    work = c.run.new.self.work.items;
-    counts = c.forget.new.counts.items;
+    marks = c.drop_cells.new.search.marks.items;
+    work = c.drop_cells.new.search.work.items;
+    counts = c.drop_cells.new.counts.items;
     remembered = c.clear-2.new.self.items;
     room = vec_capacity c.clear-2.new.self;
   }
@@ -51,24 +52,34 @@ module _ (c : goal.After-live) where
   kept_then : MarksKept (parts_in c.self.inside) (kept_by_full (heap_of (parts_in c.self.inside))) (marks_of c.run.new.self)
   kept_then = kept (goal.at.invariant_of-self c).After-deref-2
 
+  fewer : c.cells-cells.result ≤ length c.self.inside.table.cells
+  fewer = omega (arith, c.cells-cells.ensures.count, c.keep.ensures.cells.count)
+
   leaves : LeavesKept (parts_in c.self.inside) (marks_of c.run.new.self) after
-  leaves =
-      let cells = rw c.deref-2.ensures.value at c.keep.ensures.cells in
-      record {
-        placed = c.cells.ensures.placed;
-        sound = c.cells.ensures.sound;
-        table = rw c.deref-2.ensures.value at c.keep.ensures.kept;
-        cells = cells;
-        old = refl;
-        greatest = refl;
-        each_mark = kept_then.each ∙ sym cells.count;
-        marks = λ cell within. refl;
-        idle = c.run.ensures.done;
-        each_count = c.forget.ensures.each ∙ c.self.invariant.each_count ∙ sym cells.count;
-        counts = λ cell within. c.forget.ensures.none cell;
-        remembered = c.clear-2.ensures.items;
-        room = omega (arith, c.clear-2.ensures.capacity);
-      }
+  leaves = record {
+    placed = c.cells-cells.ensures.placed;
+    sound = c.cells-cells.ensures.sound;
+    table = rw c.deref-2.ensures.value at c.keep.ensures.kept;
+    cells = rw c.deref-2.ensures.value at c.keep.ensures.cells;
+    old = refl;
+    greatest = refl;
+    each_mark =
+        length-front c.run.new.self.marks.items c.drop_cells.ensures.marks (omega (arith, fewer, kept_then.each)) ∙ c.cells-cells.ensures.count;
+    marks = λ cell within.
+        get_or-front c.run.new.self.marks.items c.drop_cells.ensures.marks cell false (omega (arith, within, c.cells-cells.ensures.count));
+    idle = c.drop_cells.ensures.work;
+    each_count =
+        length-front c.forget.new.counts.items c.drop_cells.ensures.counts (omega (arith, fewer, c.forget.ensures.each, c.self.invariant.each_count))
+        ∙ c.cells-cells.ensures.count;
+    counts = λ cell within.
+        get_or-front c.forget.new.counts.items c.drop_cells.ensures.counts cell 0 (omega (arith, within, c.cells-cells.ensures.count))
+        ∙ c.forget.ensures.none cell;
+    remembered = c.clear-2.ensures.items;
+    room = omega (arith, c.clear-2.ensures.capacity);
+  }
+
+pub prove-unreachable-requires : goal.prove-unreachable-requires
+prove-unreachable-requires c = omega (arith, c.cells.ensures.count, c.cells.ensures.placed.few)
 
 pub overflow_cast-remembered : goal.overflow_cast-remembered
 overflow_cast-remembered c =

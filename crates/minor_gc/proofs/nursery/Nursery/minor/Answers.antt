@@ -61,10 +61,10 @@ module _ (c : goal.After-live) where
         cells = cells;
         old = refl;
         greatest = refl;
-        each_mark = kept_then.each ∙ sym cells.count;
+        each_mark = kept_then.each ∙ sym c.keep_above.ensures.count;
         marks = λ cell within. refl;
         idle = c.run.ensures.done;
-        each_count = c.forget.ensures.each ∙ c.self.invariant.each_count ∙ sym cells.count;
+        each_count = c.forget.ensures.each ∙ c.self.invariant.each_count ∙ sym c.keep_above.ensures.count;
         counts = λ cell within. c.forget.ensures.none cell;
         remembered = c.clear.ensures.items;
         room = omega (arith, c.clear.ensures.capacity);

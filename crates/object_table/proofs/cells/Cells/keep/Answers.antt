@@ -1,15 +1,22 @@
-use Rattle.std.proofs.Common.{length, sym, ◌∙◌, ap}
+use Rattle.std.proofs.Common.{length, ◌∙◌, ap, arith}
 use Rattle.std.proofs.lemmas.List.{length-map}
 use Rattle.object_table.specs.Chains.{resident_in}
 use Rattle.object_table.proofs.Chains.{length-cells_after}
-use Rattle.object_table.proofs.Housing.{swept_housed, swept_held}
+use Rattle.object_table.proofs.Housing.{front_kept, front_shorter, swept_housed, swept_held}
 use Rattle.object_table.proofs.cells.Cells.keep.Goals as goal
 
 pub invariant_of-self : goal.invariant_of-self
-invariant_of-self c = swept_housed c.args.kept.now c.self.inside.pages.cells c.sweep-self-inside.new.pages.cells c.self.inside.first_empty c.sweep-self-inside.result c.self.invariant c.sweep-self-inside.ensures.cells c.sweep-self-inside.ensures.first
+invariant_of-self c =
+    let shorter = front_shorter c.args.kept.now c.self.inside.pages.cells c.drop_last.new.pages.cells c.drop_last.ensures in
+    swept_housed c.args.kept.now c.drop_last.new.pages.cells c.sweep-self-inside.new.pages.cells c.sweep-self-inside.result (omega (arith, shorter, c.self.invariant.few)) c.sweep-self-inside.ensures.cells c.sweep-self-inside.ensures.first
 
 pub returns-clause-count : goal.returns-clause-count
-returns-clause-count c = rw (← c.self.view_is) (length-map c.sweep-self-inside.new.pages.cells resident_in ∙ ap length c.sweep-self-inside.ensures.cells ∙ length-cells_after c.args.kept.now 0 c.self.inside.pages.cells ∙ sym (length-map c.self.inside.pages.cells resident_in))
+returns-clause-count c = rw (← c.self.view_is)
+    (let shorter = front_shorter c.args.kept.now c.self.inside.pages.cells c.drop_last.new.pages.cells c.drop_last.ensures in
+    let swept = ap length c.sweep-self-inside.ensures.cells ∙ length-cells_after c.args.kept.now 0 c.drop_last.new.pages.cells in
+    omega (arith, shorter, swept, length-map c.sweep-self-inside.new.pages.cells resident_in, length-map c.self.inside.pages.cells resident_in))
 
 pub returns-clause-after : goal.returns-clause-after
-returns-clause-after c = rw (← c.self.view_is) (swept_held c.args.kept.now c.self.inside.pages.cells c.sweep-self-inside.new.pages.cells c.sweep-self-inside.ensures.cells)
+returns-clause-after c = rw (← c.self.view_is)
+    (λ cell. swept_held c.args.kept.now c.drop_last.new.pages.cells c.sweep-self-inside.new.pages.cells c.sweep-self-inside.ensures.cells cell
+    ∙ front_kept c.args.kept.now c.self.inside.pages.cells c.drop_last.new.pages.cells c.drop_last.ensures cell)
