@@ -1,5 +1,5 @@
 //! A collection: the heap is traced, the assertions are checked, and what was not reached is freed.
-ghost use Rattle.std.specs.Prelude.{◌≡◌, ◌<◌, ◌^◌, is_some, IfOk, IfSome, OnOk, OnErr};
+ghost use Rattle.std.specs.Prelude.{◌≡◌, ◌<◌, ◌≤◌, ◌^◌, is_some, IfOk, IfSome, OnOk, OnErr};
 ghost use Rattle.heap_parts.specs.Parts.{AreDeadAndTraced};
 ghost use Rattle.heap_trace.specs.Traces.{IsTraceOf};
 ghost use Rattle.audit_core.specs.Audit.{AreItsRoles, heap_in, placed_of, next_collection, next_counted, after_next};
@@ -10,6 +10,24 @@ use heap_base::{Gate, OutOfMemory};
 use heap_trace::{Kit, Traced, trace};
 use std::thread::Threads;
 use verdicts::verdicts;
+
+// So many cells pay for a second worker: for its memory, and for the thread that is started for it.
+const CELLS_OF_TWO_WORKERS: u32 = 500;
+
+// So many more pay for each further worker.
+const CELLS_A_WORKER: u32 = 8_192;
+
+// How many workers, at most so many, trace a table of so many cells.
+fn workers_for(cells: u32, most: u32) -> u32
+    requires { 0 < most }
+    ensures { (0 < result) × (result ≤ most) }
+{
+    if cells < CELLS_OF_TWO_WORKERS {
+        1
+    } else {
+        (2 + cells / CELLS_A_WORKER).min(most)
+    }
+}
 
 impl Auditor {
     /// The roles that the assertions make of the heap as it stands.
@@ -65,7 +83,7 @@ impl Auditor {
         Ok(Some(flags))
     }
 
-    /// Traces the heap by the auditor's workers, checks the assertions, and frees what was not reached; by force it cuts
+    /// Traces the heap by the auditor's workers, of a small heap by few of them, checks the assertions, and frees what was not reached; by force it cuts
     /// off what is asserted dead and was reached. All memory is taken before the sweep: when out of memory nothing has
     /// changed.
     pub fn collect<R: Threads + Sync, G: Gate>(
@@ -80,7 +98,8 @@ impl Auditor {
     {
         let roles = self.start_collect()?;
         let table = self.table();
-        let kit = Kit::prepare(self.alloc, table.cells(), table.kinds(), self.workers)?;
+        let workers = workers_for(table.cells(), self.workers);
+        let kit = Kit::prepare(self.alloc, table.cells(), table.kinds(), workers)?;
         let traced = trace(rt, kit, table, &roles, gate);
         self.finish_collect(&roles, &traced)
     }
