@@ -38,8 +38,8 @@ impl Comparison {
         Ok(Comparison { pending, place: 0 })
     }
 
-    /// Takes more of the text, behind what was equal so far, and compares it with what the source has next. `TooLong` comes only
-    /// where nearly 2^64 bytes were equal.
+    /// Takes more of the text, behind what was equal so far, and compares it with what the source has next. `ReadFault` comes only where a
+    /// read of the source fails, and `TooLong` only where nearly 2^64 bytes were equal.
     pub fn take<B: Source>(&mut self, source: &mut B, text: &[u8]) -> Result<Compared, CompareError>
         ensures compared { (start : Option (List ℕ)) (before : List ℕ) → IsEqualSoFar start (B.left source.old) self.old before → HasCompared start (B.left source.new) self.new (before ++ text.now) result }
         ensures later { B.faults source.old ≤ B.faults source.new }
@@ -55,8 +55,8 @@ impl Comparison {
         Ok(Compared::Equal)
     }
 
-    /// Takes the last of the text, behind what was equal so far, and compares all of it with all that the source had. `TooLong` comes only
-    /// where nearly 2^64 bytes were equal.
+    /// Takes the last of the text, behind what was equal so far, and compares all of it with all that the source had. `ReadFault` comes only
+    /// where a read of the source fails, and `TooLong` only where nearly 2^64 bytes were equal.
     pub fn take_last<B: Source>(
         &mut self,
         source: &mut B,
