@@ -9,6 +9,7 @@ pub mod HeapLemmas
 pub mod Keeping
 pub mod Membership
 pub mod Orders
+mod Padding
 pub mod Reaching
 pub mod Rising
 pub mod Showing

@@ -1,5 +1,5 @@
--- How a table of roles keeps which cells are owners.
-use Rattle.std.specs.Prelude.{◌≡◌, ℕ, ◌<◌, List, length, sum_by, Bool, false, slice_index_or}
+-- How a table of roles keeps what it says of each cell, and which cells are owners.
+use Rattle.std.specs.Prelude.{◌≡◌, ℕ, ◌-◌, ◌<◌, List, ◌++◌, length, replicate, sum_by, Bool, false, slice_index_or}
 use Rattle.heap_base.specs.Counting.{bit}
 use Rattle.graph_meaning.specs.Reach.{has_id}
 
@@ -7,3 +7,7 @@ use Rattle.graph_meaning.specs.Reach.{has_id}
 pub record IsFlagged (flags : List Bool) (owners : List ℕ) : Type 0 where
   pub each : (cell : ℕ) → cell < length flags → slice_index_or flags cell false ≡ has_id owners cell
   pub many : length owners ≡ sum_by bit flags
+
+-- a list with the value behind it until it has so many elements
+abbrev pub padded : {X : Type 0} → List X → ℕ → X → List X
+padded xs many x = xs ++ replicate (many - length xs) x

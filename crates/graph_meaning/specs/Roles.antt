@@ -1,7 +1,7 @@
 -- What the assertions make of the objects and types of a table that stands still, by cell and by number of a type.
-use Rattle.std.specs.Prelude.{◌≡◌, ◌≢◌, ◌<◌, ◌↔◌, ℕ, List, [], replicate, length, AllPairs, Bool, false, IsTrue, Option, None, IsSome, unwrap_or, slice_index_or}
+use Rattle.std.specs.Prelude.{◌≡◌, ◌≢◌, ◌<◌, ◌↔◌, ℕ, List, [], replicate, length, AllPairs, Bool, true, false, IsTrue, Option, None, IsSome, unwrap_or, slice_index_or}
 use Rattle.graph_meaning.specs.declared.roles.OwnerRole.{OwnerRole}
-use Rattle.graph_meaning.specs.declared.roles.OwnerRole.TheVariants.{NotOwned, OwnerCell}
+use Rattle.graph_meaning.specs.declared.roles.OwnerRole.TheVariants.{NotOwned, OwnerCell, OwnerGone}
 use Rattle.graph_meaning.specs.Reach.{has_id}
 
 -- For each cell whether its object is asserted dead, whether it is asserted unshared, and whose ownee it is; for each
@@ -30,6 +30,12 @@ cells_of r = length r.dead
 -- how many types the roles were made for
 abbrev pub kinds_of : RoleTable → ℕ
 kinds_of r = length r.limits
+
+-- the role is that of an ownee, whether its owner is live or gone
+abbrev pub has_owner : OwnerRole → Bool
+has_owner NotOwned = false
+has_owner (OwnerCell owner) = true
+has_owner (OwnerGone id) = true
 
 -- whose ownee the object in a cell is
 abbrev pub owner_in : RoleTable → ℕ → OwnerRole

@@ -2,6 +2,7 @@
 //! (in `specs/`), and the plain types that travel between its layers.
 #![tactic(auto)]
 
+mod by_cell;
 mod collection;
 mod event;
 mod examples;

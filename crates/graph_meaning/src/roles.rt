@@ -1,7 +1,8 @@
 ghost use Rattle.std.specs.Prelude.{◌≡◌, ◌<◌, ◌++◌, ◌∷◌, [], IfOk, slice_set, slice_index_or, true, false, None};
 ghost use Rattle.graph_meaning.specs.Reach.{has_id};
-ghost use Rattle.graph_meaning.specs.Roles.{no_roles, cells_of, kinds_of, owner_in};
+ghost use Rattle.graph_meaning.specs.Roles.{no_roles, cells_of, kinds_of, owner_in, has_owner};
 
+use crate::by_cell::{ByCell, copy_with_room};
 use heap_base::OutOfMemory;
 use std::alloc::Global;
 use std::marker::Model;
@@ -15,29 +16,42 @@ pub enum OwnerRole {
     OwnerGone(u32),
 }
 
+impl OwnerRole {
+    /// Whether the object is an ownee, of an object that is there or of one that was freed.
+    #[inline]
+    pub fn has_owner(self) -> bool
+        ensures { result ≡ has_owner self }
+    {
+        match self {
+            OwnerRole::NotOwned => false,
+            OwnerRole::OwnerCell(_) | OwnerRole::OwnerGone(_) => true,
+        }
+    }
+}
+
 /// What the assertions make of the objects and types of a table: by cell who is asserted dead, who unshared and whose
 /// ownee it is, by number of a type its limit, and the cells of the owners in order. Contracts see a `RoleTable`.
 #[derive(Drop)]
 pub struct Roles {
-    dead: Vec<bool>,
-    unshared: Vec<bool>,
-    ownees: Vec<OwnerRole>,
+    dead: ByCell<bool>,
+    unshared: ByCell<bool>,
+    ownees: ByCell<OwnerRole>,
     limits: Vec<Option<u32>>,
     owners: Vec<u32>,
     // whether a cell is among the owners
-    is_owner: Vec<bool>,
+    is_owner: ByCell<bool>,
 }
 
 impl Model for Roles {
-    ghost use Rattle.std.specs.Prelude.{◌≡◌, ◌≤◌, length, vec_len, vec_capacity};
+    ghost use Rattle.std.specs.Prelude.{◌≡◌, ◌≤◌, length, vec_capacity};
     ghost use Rattle.graph_meaning.specs.Roles.{RoleTable};
     ghost use Rattle.graph_meaning.specs.Owners.{IsFlagged};
 
     ghost Value = { RoleTable };
 
-    ghost view = { λ r. record { dead = r.dead.items; unshared = r.unshared.items; ownees = r.ownees.items; limits = r.limits.items; owners = r.owners.items } };
+    ghost view = { λ r. record { dead = r.dead; unshared = r.unshared; ownees = r.ownees; limits = r.limits.items; owners = r.owners.items } };
 
-    ghost invariant = { λ r. (length r.unshared.items ≡ length r.dead.items) × (length r.ownees.items ≡ length r.dead.items) × (length r.is_owner.items ≡ length r.dead.items) × IsFlagged r.is_owner.items r.owners.items × (vec_len r.is_owner ≤ vec_capacity r.owners) };
+    ghost invariant = { λ r. (length r.unshared ≡ length r.dead) × (length r.ownees ≡ length r.dead) × (length r.is_owner ≡ length r.dead) × IsFlagged r.is_owner r.owners.items × (length r.is_owner ≤ vec_capacity r.owners) };
 }
 
 impl Roles {
@@ -45,12 +59,12 @@ impl Roles {
     pub fn make(alloc: Global, cells: u32, kinds: u32) -> Result<Roles, OutOfMemory>
         ensures { IfOk result (λ r. r ≡ no_roles cells kinds) }
     {
-        let dead = vec![in alloc; false; cells as usize]?;
-        let unshared = vec![in alloc; false; cells as usize]?;
-        let ownees = vec![in alloc; OwnerRole::NotOwned; cells as usize]?;
+        let dead = ByCell::make(alloc, cells, false)?;
+        let unshared = ByCell::make(alloc, cells, false)?;
+        let ownees = ByCell::make(alloc, cells, OwnerRole::NotOwned)?;
         let limits = vec![in alloc; None; kinds as usize]?;
         let owners = Vec::with_capacity(alloc, cells as usize)?;
-        let is_owner = vec![in alloc; false; cells as usize]?;
+        let is_owner = ByCell::make(alloc, cells, false)?;
         Ok(Roles {
             dead,
             unshared,
@@ -65,18 +79,13 @@ impl Roles {
     pub fn copy(&self) -> Result<Roles, OutOfMemory>
         ensures { IfOk result (λ r. r ≡ self.now) }
     {
-        let alloc = *self.owners.allocator();
-        let mut owners = Vec::with_capacity(alloc, self.owners.capacity())?;
-        for owner in &self.owners {
-            owners.push_reserved(*owner);
-        }
         Ok(Roles {
-            dead: self.dead.to_vec(alloc)?,
-            unshared: self.unshared.to_vec(alloc)?,
-            ownees: self.ownees.to_vec(alloc)?,
-            limits: self.limits.to_vec(alloc)?,
-            owners,
-            is_owner: self.is_owner.to_vec(alloc)?,
+            dead: self.dead.copy()?,
+            unshared: self.unshared.copy()?,
+            ownees: self.ownees.copy()?,
+            limits: copy_with_room(&self.limits)?,
+            owners: copy_with_room(&self.owners)?,
+            is_owner: self.is_owner.copy()?,
         })
     }
 
@@ -85,7 +94,7 @@ impl Roles {
         requires { cell < cells_of self.old }
         ensures { self.new ≡ record self.old { dead = slice_set self.old.dead cell true } }
     {
-        self.dead[cell as usize] = true;
+        self.dead.set(cell, true);
     }
 
     /// The object in the cell is asserted unshared.
@@ -93,7 +102,7 @@ impl Roles {
         requires { cell < cells_of self.old }
         ensures { self.new ≡ record self.old { unshared = slice_set self.old.unshared cell true } }
     {
-        self.unshared[cell as usize] = true;
+        self.unshared.set(cell, true);
     }
 
     /// Says whose ownee the object in the cell is.
@@ -101,7 +110,7 @@ impl Roles {
         requires { cell < cells_of self.old }
         ensures { self.new ≡ record self.old { ownees = slice_set self.old.ownees cell owner } }
     {
-        self.ownees[cell as usize] = owner;
+        self.ownees.set(cell, owner);
     }
 
     /// Sets the limit of a type, or takes it away.
@@ -119,7 +128,7 @@ impl Roles {
         ensures { self.new ≡ record self.old { owners = self.old.owners ++ cell ∷ [] } }
     {
         self.owners.push_reserved(cell);
-        self.is_owner[cell as usize] = true;
+        self.is_owner.set(cell, true);
     }
 
     /// Whether the object in the cell is asserted dead.
@@ -127,7 +136,7 @@ impl Roles {
         requires { cell < cells_of self.now }
         ensures { result ≡ slice_index_or self.now.dead cell false }
     {
-        self.dead[cell as usize]
+        self.dead.get(cell)
     }
 
     /// Whether the object in the cell is asserted unshared.
@@ -135,7 +144,7 @@ impl Roles {
         requires { cell < cells_of self.now }
         ensures { result ≡ slice_index_or self.now.unshared cell false }
     {
-        self.unshared[cell as usize]
+        self.unshared.get(cell)
     }
 
     /// Whose ownee the object in the cell is.
@@ -143,7 +152,7 @@ impl Roles {
         requires { cell < cells_of self.now }
         ensures { result ≡ owner_in self.now cell }
     {
-        self.ownees[cell as usize]
+        self.ownees.get(cell)
     }
 
     /// Whether the cell is among those of the owners.
@@ -151,7 +160,7 @@ impl Roles {
         requires { cell < cells_of self.now }
         ensures { result ≡ has_id self.now.owners cell }
     {
-        self.is_owner[cell as usize]
+        self.is_owner.get(cell)
     }
 
     /// The limit of a type, if it has one.

@@ -40,6 +40,14 @@ IsPassOf h p = (p.seat.table_id ≡ h.table.shared.table_id) × (p.workers ≡ h
 abbrev pub IsSamePass : Headers → Pass → Pass → Type 0
 IsSamePass h p q = IsPassOf h q × (q.number ≡ p.number)
 
+-- the pass q is the pass p, and has met nothing more
+pub record IsAsBefore (p q : Pass) : Type 0 where
+  pub number : q.number ≡ p.number
+  pub left : q.left ≡ p.left
+  pub adds : adds q ≡ adds p
+  pub wins : wins q ≡ wins p
+  pub marks : marks q ≡ marks p
+
 abbrev pub numbers : List Pass → List ℕ
 numbers ps = map (λ p. p.number) ps
 

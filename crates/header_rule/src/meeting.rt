@@ -1,15 +1,29 @@
 //! A meet: one add, and one change of the marks where some are given.
 ghost use Rattle.std.specs.Prelude.{◌≡◌, ◌+◌, ◌<◌, [], ◌∷◌, ◌++◌, if◌then◌else◌};
 ghost use Rattle.heap_base.specs.Counting.{IsOnce};
-ghost use Rattle.header_rule.specs.Passes.{adds, wins, marks, IsPassOf, marks_at};
+ghost use Rattle.header_rule.specs.Passes.{adds, wins, marks, IsPassOf, IsAsBefore, marks_at};
 
 use crate::headers::Headers;
 use crate::layout::{bits, count};
 use crate::mark::Marks;
 use crate::pass::Pass;
-use crate::steps::{Add, SetMarks};
+use crate::steps::{Add, ReadWord, SetMarks};
 
 impl Headers {
+    /// Looks at the word of a cell and changes nothing. A meet that comes soon finds the word at hand: looks overlap with one
+    /// another, and each meet waits for its word by itself.
+    #[inline]
+    pub fn prefetch(&self, pass: &mut Pass, cell: u32)
+        requires cell { cell < self.now.cells }
+        requires pass { IsPassOf self.now pass.old }
+        ensures pass { IsPassOf self.now pass.new }
+        ensures same { IsAsBefore pass.old pass.new }
+    {
+        self.table
+            .shared
+            .load::<ReadWord>(&mut pass.seat, cell as usize + 1);
+    }
+
     /// Meets a cell: adds 1 to its count and sets the marks that are given. Answers true exactly where this add
     /// found the count 0, so that of all the meets of a cell, by whatever passes, one answers true. It takes no
     /// memory, and waits for nobody.

@@ -17,13 +17,13 @@ use Rattle.graph_meaning.specs.declared.roles.OwnerRole.TheVariants.{NotOwned, O
 use Rattle.graph_meaning.specs.Assertions.{is_owner, is_ownee}
 use Rattle.graph_meaning.specs.Heap.{Heap}
 use Rattle.graph_meaning.specs.Reach.{has_id}
-use Rattle.graph_meaning.specs.Roles.{RoleTable, owner_in}
+use Rattle.graph_meaning.specs.Roles.{RoleTable, owner_in, has_owner}
 use Rattle.object_table.specs.Placed.{Placed, id_in, IsPlaced}
 use Rattle.assert_registry.specs.Assertions.{owner_of}
 use Rattle.assert_registry.specs.Laws.{StandFor, SayOfHeap}
 use Rattle.assert_registry.proofs.ByHeap.{roles_say_of_heap}
 use Rattle.assert_registry.proofs.RolesOfTable.{and_parts}
-use Rattle.scan_job.specs.Cells.{is_owned, is_owned_by}
+use Rattle.scan_job.specs.Cells.{is_owned_by}
 use Rattle.heap_trace.specs.TracedHeaps.{owns}
 
 -- The heap has this table, and its owners and ownees are those of the roles.
@@ -33,7 +33,7 @@ use Rattle.heap_trace.specs.TracedHeaps.{owns}
 pub record OwnersAgree (p : Placed) (r : RoleTable) (h : Heap) : Type 0 where
   pub table : h.table ≡ p.table
   pub owners : (cell id : ℕ) → id_in p cell ≡ Some id → is_owner h id ≡ has_id r.owners cell
-  pub ownees : (cell id : ℕ) → id_in p cell ≡ Some id → is_ownee h id ≡ is_owned (owner_in r cell)
+  pub ownees : (cell id : ℕ) → id_in p cell ≡ Some id → is_ownee h id ≡ has_owner (owner_in r cell)
   pub pairs : (cell other id owner : ℕ) → id_in p cell ≡ Some id → id_in p other ≡ Some owner → owns h owner id ≡ is_owned_by other (owner_in r cell)
 
 -- ---- the owner that a look-up finds
@@ -76,7 +76,7 @@ module _ (p : Placed) (r : RoleTable) (h : Heap) (placed : IsPlaced p) (stand : 
   say : SayOfHeap h p r
   say = roles_say_of_heap h p r placed stand
 
-  same-ownee : (cell id : ℕ) → id_in p cell ≡ Some id → (role : OwnerRole) → owner_in r cell ≡ role → is_ownee h id ≡ is_owned role
+  same-ownee : (cell id : ℕ) → id_in p cell ≡ Some id → (role : OwnerRole) → owner_in r cell ≡ role → is_ownee h id ≡ has_owner role
   same-ownee cell id at NotOwned e = (say.ownees cell id at).0 e
   same-ownee cell id at (OwnerCell o) e =
       ⊎_elim (λ some. some) (λ none. (let un = (say.ownees cell id at).1 none in cc)) (cases_Bool (is_ownee h id))

@@ -11,14 +11,14 @@ use Rattle.graph_meaning.specs.Heap.{Heap, Table, ids, targets}
 use Rattle.graph_meaning.specs.Reach.{has_id, distance, reached_nodes}
 use Rattle.graph_meaning.specs.Assertions.{open_graph, object_graph, is_owner, is_ownee, is_border, is_owned, owner_ids, root_ids, under_owners, is_traced, is_met, finds, found_from}
 use Rattle.graph_meaning.specs.Paths.{ways_from, way_ends}
-use Rattle.graph_meaning.specs.Roles.{RoleTable, owner_in, id_at}
+use Rattle.graph_meaning.specs.Roles.{RoleTable, owner_in, id_at, has_owner}
 use Rattle.graph_meaning.proofs.Distances.{is_some-distance}
 use Rattle.graph_meaning.proofs.HeapLemmas.{has_id-ids}
 use Rattle.graph_meaning.proofs.Tracing.{met_has_level, traced_is_reached}
 use Rattle.graph_meaning.proofs.Ways.{ends-root_ways, ends-owner_ways}
 use Rattle.object_table.specs.Placed.{Placed, IsPlaced, id_in, cell_of}
 use Rattle.path_cert.specs.Cells.{by_id}
-use Rattle.path_cert.specs.Finds.{has_owner, is_border_cell, finds_in}
+use Rattle.path_cert.specs.Finds.{is_border_cell, finds_in}
 use Rattle.path_cert.specs.Levels.{LevelTable, AreLevelsOf, search_of, level_in, graph_of, ends_of}
 use Rattle.path_cert.specs.declared.start.Start.TheVariants.{Roots, Owners}
 use Rattle.path_cert.proofs.ByIds.{by_id-held}

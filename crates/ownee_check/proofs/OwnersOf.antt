@@ -15,7 +15,7 @@ use Rattle.graph_meaning.specs.declared.roles.OwnerRole.{OwnerRole}
 use Rattle.graph_meaning.specs.declared.roles.OwnerRole.TheVariants.{NotOwned, OwnerCell, OwnerGone}
 use Rattle.graph_meaning.specs.Heap.{Heap}
 use Rattle.graph_meaning.specs.Reach.{has_id}
-use Rattle.graph_meaning.specs.Roles.{RoleTable, owner_in}
+use Rattle.graph_meaning.specs.Roles.{RoleTable, owner_in, has_owner}
 use Rattle.object_table.specs.Placed.{Placed, id_in}
 use Rattle.graph_meaning.proofs.Membership.{has_id-filter, filter_agree_all, map-filter, list_any_agree}
 use Rattle.assert_registry.specs.Assertions.{owner_of}
@@ -24,7 +24,6 @@ use Rattle.assert_registry.specs.Laws.{StandFor}
 use Rattle.assert_registry.proofs.Owners.{is_at-itself, is_at-other}
 use Rattle.assert_registry.proofs.Rising.{Rise, Rise-head, Rise-tail, same_rising}
 use Rattle.assert_registry.proofs.RolesOfTable.{and_parts}
-use Rattle.path_cert.specs.Finds.{has_owner}
 
 -- the role of an object says whether it has an owner
 role-says : (p : Placed) (o : Option ℕ) (role : OwnerRole) → IsRoleBy p o role → has_owner role ≡ is_some o

@@ -5,7 +5,7 @@ use Rattle.std.specs.Option.{is_some}
 use Rattle.std.proofs.lemmas.Bool.{false≢true, false_from_ne_true}
 use Rattle.graph_meaning.specs.Assertions.{is_met, is_ownee, finds}
 use Rattle.graph_meaning.specs.Heap.{Heap}
-use Rattle.graph_meaning.specs.Roles.{RoleTable, owner_in}
+use Rattle.graph_meaning.specs.Roles.{RoleTable, owner_in, has_owner}
 use Rattle.header_rule.specs.ClosedWords.{has_mark_in}
 use Rattle.header_rule.specs.declared.mark.Mark.TheVariants.{Found, MetByRoots}
 use Rattle.object_table.specs.Placed.{Placed, id_in}
@@ -13,7 +13,6 @@ use Rattle.assert_registry.specs.Assertions.{owner_of}
 use Rattle.assert_registry.specs.Laws.{StandFor}
 use Rattle.assert_registry.proofs.Rising.{Rise, Rise-sorted}
 use Rattle.assert_registry.proofs.RolesOfTable.{and_parts}
-use Rattle.path_cert.specs.Finds.{has_owner}
 use Rattle.heap_trace.specs.Results.{TraceResult}
 use Rattle.heap_trace.specs.Traces.{IsTraceOf}
 use Rattle.ownee_check.specs.Cells.{cells_by_id}

@@ -1,10 +1,9 @@
 -- Which ownees the marks of a trace leave in doubt.
 use Rattle.std.specs.Prelude.{ℕ, Bool, not, ◌&&◌}
-use Rattle.graph_meaning.specs.Roles.{RoleTable, owner_in}
+use Rattle.graph_meaning.specs.Roles.{RoleTable, owner_in, has_owner}
 use Rattle.header_rule.specs.ClosedWords.{has_mark_in}
 use Rattle.header_rule.specs.declared.mark.Mark.TheVariants.{Found, MetByRoots}
 use Rattle.header_rule.specs.declared.words.Words.{Words}
-use Rattle.path_cert.specs.Finds.{has_owner}
 
 -- An ownee that is marked as met by roots and not as found: it may violate.
 abbrev pub is_in_doubt : RoleTable → Words → ℕ → Bool

@@ -9,7 +9,6 @@ use graph_meaning::Roles;
 use header_rule::Words;
 use heap_base::OutOfMemory;
 use object_table::ObjectTable;
-use path_cert::has_owner;
 use std::alloc::Global;
 
 /// The cells of the ownees that are marked as met by roots and not as found, by the ids of the objects. Whatever is
@@ -44,5 +43,5 @@ fn is_in_doubt(roles: &Roles, words: &Words, cell: u32) -> bool
     requires words { cell < words.now.cells }
     ensures { result ≡ is_in_doubt roles.now words.now cell }
 {
-    has_owner(roles.owner(cell)) && words.met_by_roots(cell) && !words.found(cell)
+    roles.owner(cell).has_owner() && words.met_by_roots(cell) && !words.found(cell)
 }

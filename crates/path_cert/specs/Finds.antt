@@ -1,19 +1,11 @@
 -- What an owner finds, by cells.
-use Rattle.std.specs.Prelude.{ℕ, List, Bool, true, false, ◌||◌}
-use Rattle.graph_meaning.specs.declared.roles.OwnerRole.{OwnerRole}
-use Rattle.graph_meaning.specs.declared.roles.OwnerRole.TheVariants.{NotOwned, OwnerCell, OwnerGone}
+use Rattle.std.specs.Prelude.{ℕ, List, Bool, ◌||◌}
 use Rattle.graph_meaning.specs.Heap.{targets}
 use Rattle.graph_meaning.specs.Reach.{Graph, has_id, reached_nodes}
 use Rattle.graph_meaning.specs.Assertions.{open_graph}
-use Rattle.graph_meaning.specs.Roles.{RoleTable, owner_in, id_at}
+use Rattle.graph_meaning.specs.Roles.{RoleTable, has_owner, owner_in, id_at}
 use Rattle.object_table.specs.Placed.{Placed}
 use Rattle.path_cert.specs.Cells.{by_id}
-
--- the role is that of an ownee
-abbrev pub has_owner : OwnerRole → Bool
-has_owner NotOwned = false
-has_owner (OwnerCell owner) = true
-has_owner (OwnerGone id) = true
 
 -- the object in a cell is an owner or an ownee
 abbrev pub is_border_cell : RoleTable → ℕ → Bool

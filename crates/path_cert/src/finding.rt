@@ -4,10 +4,10 @@ ghost use Rattle.graph_meaning.specs.Heap.{targets};
 ghost use Rattle.graph_meaning.specs.Reach.{has_id};
 ghost use Rattle.graph_meaning.specs.Roles.{AreRolesOf, cells_of, id_at};
 ghost use Rattle.object_table.specs.Placed.{id_in, IsPlaced};
-ghost use Rattle.path_cert.specs.Finds.{has_owner, is_border_cell, finds_in};
+ghost use Rattle.path_cert.specs.Finds.{is_border_cell, finds_in};
 ghost use Rattle.path_cert.specs.Quests.{MeetsAll, Reaches, KeepsSearching, remaining};
 
-use graph_meaning::{OwnerRole, Roles};
+use graph_meaning::Roles;
 use heap_base::OutOfMemory;
 use object_table::ObjectTable;
 use std::alloc::Global;
@@ -220,16 +220,5 @@ fn is_border(roles: &Roles, cell: u32) -> bool
     requires { cell < cells_of roles.now }
     ensures { result ≡ is_border_cell roles.now cell }
 {
-    roles.is_owner(cell) || has_owner(roles.owner(cell))
-}
-
-/// Whether the role is that of an ownee.
-pub fn has_owner(role: OwnerRole) -> bool
-    ensures { result ≡ has_owner role }
-{
-    match role {
-        OwnerRole::NotOwned => false,
-        OwnerRole::OwnerCell(_) => true,
-        OwnerRole::OwnerGone(_) => true,
-    }
+    roles.is_owner(cell) || roles.owner(cell).has_owner()
 }

@@ -12,7 +12,7 @@ mod searching;
 mod start;
 mod trail;
 
-pub use finding::{OwnerSearch, finds, has_owner};
+pub use finding::{OwnerSearch, finds};
 pub use level_table::Levels;
 pub use objects::{object_id, object_kind};
 pub use references::{owner_step, root_path};

@@ -2,10 +2,9 @@
 use Rattle.std.proofs.Common.{◌≡◌, ℕ, List, filter, ap, sym, ◌∙◌}
 use Rattle.std.specs.Option.{is_some}
 use Rattle.graph_meaning.specs.Heap.{Heap}
-use Rattle.graph_meaning.specs.Roles.{RoleTable, owner_in}
+use Rattle.graph_meaning.specs.Roles.{RoleTable, owner_in, has_owner}
 use Rattle.object_table.specs.Placed.{Placed}
 use Rattle.assert_registry.specs.Laws.{StandFor}
-use Rattle.path_cert.specs.Finds.{has_owner}
 use Rattle.ownee_check.specs.Cells.{cells_by_id}
 use Rattle.ownee_check.specs.Ownership.{AreDoubts}
 use Rattle.ownee_check.proofs.OwnersOf.{ownee-found, owned-by_role}

@@ -1,14 +1,12 @@
 //! The ownees of a heap.
 ghost use Rattle.std.specs.Prelude.{◌≡◌, ◌<◌, length, filter, IfOk};
-ghost use Rattle.graph_meaning.specs.Roles.{cells_of, owner_in};
+ghost use Rattle.graph_meaning.specs.Roles.{cells_of, owner_in, has_owner};
 ghost use Rattle.object_table.specs.Placed.{IsPlaced};
-ghost use Rattle.path_cert.specs.Finds.{has_owner};
 ghost use Rattle.ownee_check.specs.Cells.{cells_by_id};
 
 use graph_meaning::Roles;
 use heap_base::OutOfMemory;
 use object_table::ObjectTable;
-use path_cert::has_owner;
 use std::alloc::Global;
 
 /// The cells of all ownees, by the ids of the objects.
@@ -26,7 +24,7 @@ pub(crate) fn ownees_of(
     for number in 0..table.live() {
         let cell = table.nth_cell(number);
         prove!(cell < cells);
-        if has_owner(roles.owner(cell)) {
+        if roles.owner(cell).has_owner() {
             ownees.push(cell)?;
         }
     }

@@ -1,5 +1,5 @@
 -- A meeting with one cell, and meetings one after another.
-use Rattle.std.proofs.Common.{◌≡◌, ℕ, ◌+◌, ◌<◌, ◌≤◌, Bool, true, false, cond, ⊎_elim, List, [], ◌∷◌, ◌++◌, filter, map, length, sym, refl, ap, ◌∙◌, arith, eqb, eqb-true, append_assoc, append-nil, length-append, IsTrue}
+use Rattle.std.proofs.Common.{◌≡◌, ℕ, ◌+◌, ◌<◌, ◌≤◌, Bool, true, false, cond, ⊎_elim, List, [], ◌∷◌, ◌++◌, filter, map, length, slice_index, sym, refl, ap, ◌∙◌, arith, eqb, eqb-true, append_assoc, append-nil, length-append, IsTrue}
 use Rattle.std.proofs.lemmas.Bool.{or_cases, false≢true}
 use Rattle.std.proofs.lemmas.List.{map-append, length-map}
 use Rattle.std.proofs.lemmas.List.Elements.{filter-append}
@@ -12,7 +12,7 @@ use Rattle.header_rule.specs.Passes.{adds, wins, marks}
 use Rattle.scan_job.specs.declared.mode.Mode.{Mode}
 use Rattle.scan_job.specs.Graphs.{StoppedGraph}
 use Rattle.scan_job.specs.Scans.{Meeting, is_held, is_put, marks_on, all_marks, Meets, task_at, put_tasks}
-use Rattle.scan_job.specs.States.{ScanState, IsWithinWins, room_of}
+use Rattle.scan_job.specs.States.{ScanState, IsSameJob, IsWithinWins, room_of}
 use Rattle.scan_job.proofs.Numbers.{few-below}
 
 -- the cell, where it was won
@@ -32,6 +32,32 @@ below-won ws cells cell true below less x at =
 pub few-wins : (j : ScanState) → IsWithinWins j → length (wins j.pass) ≤ j.cells
 few-wins j w = few-below j.cells (wins j.pass) w.once w.below
 
+-- ---- no cell
+
+pub same-job : (j : ScanState) → IsSameJob j j
+same-job j = record {
+  mode = refl;
+  pass = record { number = refl; left = refl; adds = refl; wins = refl; marks = refl };
+  cells = refl;
+  held = refl;
+  tally = refl;
+}
+
+pub same-jobs : (j i k : ScanState) → IsSameJob j i → IsSameJob i k → IsSameJob j k
+same-jobs j i k p q = record {
+  mode = q.mode ∙ p.mode;
+  pass = record {
+    number = q.pass.number ∙ p.pass.number;
+    left = q.pass.left ∙ p.pass.left;
+    adds = q.pass.adds ∙ p.pass.adds;
+    wins = q.pass.wins ∙ p.pass.wins;
+    marks = q.pass.marks ∙ p.pass.marks;
+  };
+  cells = q.cells ∙ p.cells;
+  held = q.held ∙ p.held;
+  tally = q.tally ∙ p.tally;
+}
+
 -- ---- one after another
 
 abbrev pub both_meetings : Meeting → Meeting → Meeting
@@ -41,19 +67,23 @@ abbrev pub no_meeting : ℕ → Meeting
 no_meeting tag = record { tag = tag; cells = []; won = [] }
 
 module _ (g : StoppedGraph) where
-  pub meets-none : (j : ScanState) (tag : ℕ) → Meets g (no_meeting tag) j j
-  meets-none j tag = record {
-    mode = refl;
-    number = refl;
-    cells = refl;
-    kinds = refl;
-    adds = sym (append-nil _);
-    wins = sym (append-nil _);
+  -- a job that has met nothing more
+  pub meets-same : (j k : ScanState) (tag : ℕ) → IsSameJob j k → Meets g (no_meeting tag) j k
+  meets-same j k tag same = record {
+    mode = same.mode;
+    number = same.pass.number;
+    cells = same.cells;
+    kinds = ap length same.tally;
+    adds = same.pass.adds ∙ sym (append-nil _);
+    wins = same.pass.wins ∙ sym (append-nil _);
     among = λ f. omega arith;
-    marks = sym (append-nil _);
-    held = sym (append-nil _);
-    tally = λ n. omega arith;
+    marks = same.pass.marks ∙ sym (append-nil _);
+    held = same.held ∙ sym (append-nil _);
+    tally = λ n. (let e = ap (λ counts. slice_index counts n) same.tally in omega arith);
   }
+
+  pub meets-none : (j : ScanState) (tag : ℕ) → Meets g (no_meeting tag) j j
+  meets-none j tag = meets-same j j tag (same-job j)
 
   pub meets-both : (m n : Meeting) (j i k : ScanState) → n.tag ≡ m.tag → Meets g m j i → Meets g n i k → Meets g (both_meetings m n) j k
   meets-both m n j i k same p q = record {

@@ -14,10 +14,10 @@ use Rattle.graph_meaning.specs.declared.roles.OwnerRole.{OwnerRole}
 use Rattle.graph_meaning.specs.declared.roles.OwnerRole.TheVariants.{NotOwned, OwnerCell, OwnerGone}
 use Rattle.graph_meaning.specs.Heap.{Slot, Object, empty_slot, object_at, edge_of}
 use Rattle.graph_meaning.specs.Reach.{has_id}
-use Rattle.graph_meaning.specs.Roles.{RoleTable, owner_in, AreRolesOf}
+use Rattle.graph_meaning.specs.Roles.{RoleTable, owner_in, has_owner, AreRolesOf}
 use Rattle.object_table.specs.Placed.{Placed, id_in, slots_in, slot_in, IsPlaced, IsSound, cell_of, holds_id}
 use Rattle.scan_job.specs.Graphs.{IsWhole}
-use Rattle.scan_job.specs.Cells.{target_of, targets_of, is_owned, is_owned_by, graph_of}
+use Rattle.scan_job.specs.Cells.{target_of, targets_of, is_owned_by, graph_of}
 use Rattle.scan_job.proofs.Numbers.{once-range, once-filter, in-range}
 use Rattle.scan_job.proofs.Reaching.{at-filter, filter-at}
 
@@ -188,5 +188,5 @@ is-whole p r roles = record {
   edges = λ x y at. (let s = leads p (slots_in p x) y at in node-from_held p r y (target-held p s.0 y s.1));
   named = λ x at. node-from_held p r x (named-held p p.table.roots x at);
   owners = λ x at. (let c = (roles.are_owners x).0 at in node-from_held p r x (roles.by_others c.0 x c.1).1);
-  owned = λ o e own. (let is = owned-by o (owner_in r e) own in ((roles.are_owners o).1 (e, is), ap is_owned is));
+  owned = λ o e own. (let is = owned-by o (owner_in r e) own in ((roles.are_owners o).1 (e, is), ap has_owner is));
 }

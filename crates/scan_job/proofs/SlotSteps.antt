@@ -12,10 +12,10 @@ use Rattle.steal_pool.specs.Outboxes.{Held}
 use Rattle.scan_job.specs.declared.shared.ScanShared.{ScanShared}
 use Rattle.scan_job.specs.Cells.{targets_of}
 use Rattle.scan_job.specs.Scans.{Meeting, one_meeting, Meets, put_tasks, Works}
-use Rattle.scan_job.specs.States.{ScanState, IsWithinWins, room_of}
+use Rattle.scan_job.specs.States.{ScanState, IsSameJob, IsWithinWins, room_of}
 use Rattle.scan_job.specs.Jobs.{IsReady, shared_graph}
 use Rattle.scan_job.proofs.Placing.{targets-more, length-targets, few-slots}
-use Rattle.scan_job.proofs.Meetings.{meets-none, meets-both, puts-both, length-puts, room-falls, won_of}
+use Rattle.scan_job.proofs.Meetings.{meets-same, meets-both, puts-both, length-puts, room-falls, won_of}
 
 -- A job and its outbox.
 pub record Worker : Type 0 where
@@ -34,15 +34,18 @@ pub record HasScanned (s : ScanShared) (t : Task) (slots : ℕ) (old new : Worke
   pub outbox : new.out.room ≡ old.out.room
   pub room : room_of new.job + length won ≤ room_of old.job
 
-pub scan-begins : (s : ScanShared) (t : Task) (w : Worker) → IsReady w.job s → HasScanned s t 0 w w
-scan-begins s t w ready = record {
-  won = [];
-  meets = meets-none (shared_graph s) w.job t.tag;
-  ready = ready;
-  tasks = sym (append-nil w.out.tasks);
-  outbox = refl;
-  room = omega arith;
-}
+pub scan-begins : (s : ScanShared) (t : Task) (j k : ScanState) (out : Held) → IsSameJob j k → IsReady k s → HasScanned s t 0 (record { job = j; out = out }) (record { job = k; out = out })
+scan-begins s t j k out same ready =
+    let cells = same.cells in
+    let won = ap length same.pass.wins in
+    record {
+      won = [];
+      meets = meets-same (shared_graph s) j k t.tag same;
+      ready = ready;
+      tasks = sym (append-nil out.tasks);
+      outbox = refl;
+      room = omega arith;
+    }
 
 module _ (s : ScanShared) (t : Task) (i : ℕ) (old now : Worker) (p : HasScanned s t i old now) where
   -- there is room in the outbox for what may still be won

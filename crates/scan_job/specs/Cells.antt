@@ -1,12 +1,12 @@
 -- The graph that a table and the roles of its objects stand for, by cells.
-use Rattle.std.specs.Prelude.{ℕ, ◌==◌, List, length, filter, position, Bool, true, false, Option, option_and_then, is_some, unwrap_or}
+use Rattle.std.specs.Prelude.{ℕ, ◌==◌, List, length, filter, position, Bool, false, Option, option_and_then, is_some, unwrap_or}
 use Rattle.std.specs.List.{filter_map, range_with_len}
 use Rattle.std.specs.Str.{bytes_eq}
 use Rattle.graph_meaning.specs.declared.roles.OwnerRole.{OwnerRole}
 use Rattle.graph_meaning.specs.declared.roles.OwnerRole.TheVariants.{NotOwned, OwnerCell, OwnerGone}
 use Rattle.graph_meaning.specs.Heap.{Slot, edge_of}
 use Rattle.graph_meaning.specs.Reach.{has_id}
-use Rattle.graph_meaning.specs.Roles.{RoleTable, owner_in}
+use Rattle.graph_meaning.specs.Roles.{RoleTable, owner_in, has_owner}
 use Rattle.object_table.specs.Placed.{Placed, id_in, cell_of, object_in, slots_in}
 use Rattle.scan_job.specs.Graphs.{StoppedGraph}
 
@@ -22,12 +22,6 @@ targets_of p slots = filter_map (target_of p) slots
 abbrev pub kind_in : Placed → ℕ → Option ℕ
 kind_in p cell = option_and_then (λ o. position (bytes_eq o.kind) p.table.kinds) (object_in p cell)
 
--- the role is that of an ownee
-abbrev pub is_owned : OwnerRole → Bool
-is_owned NotOwned = false
-is_owned (OwnerCell o) = true
-is_owned (OwnerGone id) = true
-
 -- the role is that of an ownee whose owner is in this cell
 abbrev pub is_owned_by : ℕ → OwnerRole → Bool
 is_owned_by cell NotOwned = false
@@ -42,6 +36,6 @@ graph_of p r = record {
   roots = filter_map (λ root. cell_of p root.1) p.table.roots;
   kind = λ cell. unwrap_or (kind_in p cell) 0;
   is_owner = has_id r.owners;
-  is_ownee = λ cell. is_owned (owner_in r cell);
+  is_ownee = λ cell. has_owner (owner_in r cell);
   owns = λ owner cell. is_owned_by owner (owner_in r cell);
 }

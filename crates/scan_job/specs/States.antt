@@ -1,10 +1,10 @@
 -- What contracts see of a scan job.
-use Rattle.std.specs.Prelude.{ℕ, ◌-◌, ◌/◌, ◌<◌, ◌≤◌, List, [], length, replicate, IsTrue, slice_index}
+use Rattle.std.specs.Prelude.{◌≡◌, ℕ, ◌-◌, ◌/◌, ◌<◌, ◌≤◌, List, [], length, replicate, IsTrue, slice_index}
 use Rattle.heap_base.specs.declared.limits.TheConstants.{MOST_SLOTS}
 use Rattle.heap_base.specs.Counting.{IsOnce}
 use Rattle.graph_meaning.specs.Reach.{has_id}
 use Rattle.header_rule.specs.declared.pass.Pass.{Pass}
-use Rattle.header_rule.specs.Passes.{wins}
+use Rattle.header_rule.specs.Passes.{wins, IsAsBefore}
 use Rattle.scan_job.specs.declared.mode.Mode.{Mode}
 use Rattle.scan_job.specs.declared.mode.Mode.TheVariants.{Owner}
 
@@ -24,6 +24,14 @@ pub record IsWithinWins (j : ScanState) : Type 0 where
   pub below : (cell : ℕ) → IsTrue (has_id (wins j.pass) cell) → cell < j.cells
   pub held : length j.held ≤ length (wins j.pass)
   pub tally : (kind : ℕ) → slice_index j.tally kind ≤ length (wins j.pass)
+
+-- the job k is the job j, and has met nothing more
+pub record IsSameJob (j k : ScanState) : Type 0 where
+  pub mode : k.mode ≡ j.mode
+  pub pass : IsAsBefore j.pass k.pass
+  pub cells : k.cells ≡ j.cells
+  pub held : k.held ≡ j.held
+  pub tally : k.tally ≡ j.tally
 
 -- a job with this pass for so many cells and types that has met nothing yet
 abbrev pub new_state : Pass → ℕ → ℕ → ScanState

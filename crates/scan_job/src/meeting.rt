@@ -4,7 +4,7 @@ ghost use Rattle.graph_meaning.specs.Roles.{cells_of};
 ghost use Rattle.header_rule.specs.Passes.{marks_at};
 ghost use Rattle.object_table.specs.Placed.{id_in};
 ghost use Rattle.scan_job.specs.declared.mode.Mode.TheVariants.{Root};
-ghost use Rattle.scan_job.specs.Cells.{is_owned, is_owned_by};
+ghost use Rattle.scan_job.specs.Cells.{is_owned_by};
 ghost use Rattle.scan_job.specs.Jobs.{IsReady, shared_graph};
 ghost use Rattle.scan_job.specs.Scans.{Meets, one_meeting, is_held, is_put, marks_on, put_tasks};
 ghost use Rattle.scan_job.specs.States.{IsWithinWins, room_of, turns_of};
@@ -16,17 +16,6 @@ use graph_meaning::OwnerRole;
 use header_rule::Marks;
 use heap_base::Task;
 use steal_pool::Outbox;
-
-// Whether the role is that of an ownee.
-fn is_owned(role: OwnerRole) -> bool
-    ensures { result ≡ is_owned role }
-{
-    match role {
-        OwnerRole::NotOwned => false,
-        OwnerRole::OwnerCell(_) => true,
-        OwnerRole::OwnerGone(_) => true,
-    }
-}
 
 // Whether the role is that of an ownee whose owner is in this cell.
 fn is_owned_by(cell: u32, role: OwnerRole) -> bool
@@ -46,7 +35,7 @@ impl ScanShared<'_> {
         ensures { marks_at cell result ≡ marks_on (shared_graph self.now) mode tag cell }
     {
         let role = self.roles.owner(cell);
-        let owned = is_owned(role);
+        let owned = role.has_owner();
         let own = is_owned_by(tag, role);
         match mode {
             Mode::Owner => Marks {
@@ -73,7 +62,7 @@ impl ScanShared<'_> {
         ensures { result ≡ is_put (shared_graph self.now) mode cell }
     {
         let owner = self.roles.is_owner(cell);
-        let owned = is_owned(self.roles.owner(cell));
+        let owned = self.roles.owner(cell).has_owner();
         match mode {
             Mode::Owner => !(owner || owned),
             Mode::TakeUp => !owner,
@@ -87,7 +76,7 @@ impl ScanShared<'_> {
         ensures { result ≡ is_held (shared_graph self.now) mode cell }
     {
         let owner = self.roles.is_owner(cell);
-        let owned = is_owned(self.roles.owner(cell));
+        let owned = self.roles.owner(cell).has_owner();
         match mode {
             Mode::Owner => owned && !owner,
             Mode::TakeUp => false,

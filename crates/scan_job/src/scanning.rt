@@ -1,6 +1,8 @@
 //! The scan of a task's cell.
-ghost use Rattle.std.specs.Prelude.{◌≡◌};
-ghost use Rattle.scan_job.specs.States.{room_of, turns_of};
+ghost use Rattle.std.specs.Prelude.{◌≡◌, IsSome};
+ghost use Rattle.object_table.specs.Placed.{id_in};
+ghost use Rattle.scan_job.specs.Jobs.{IsReady};
+ghost use Rattle.scan_job.specs.States.{IsSameJob, room_of, turns_of};
 
 use crate::job::ScanJob;
 use crate::shared::ScanShared;
@@ -26,12 +28,40 @@ impl<'a> Job<ScanShared<'a>> for ScanJob {
         self.pass.left() / MOST_SLOTS as u64
     }
 
-    /// Reads each slot of the task's cell once, in order, and meets what it leads to.
+    /// Meets what each slot of the task's cell leads to, once and in order. Their words are looked at before the first is met,
+    /// so that it waits for all of them at once.
     fn work(&mut self, shared: &ScanShared<'a>, task: Task, out: &mut Outbox) {
+        self.prefetch_targets(shared, task.cell);
         for slot in 0..shared.table.slots_at(task.cell) {
             if let Some(cell) = shared.table.slot_at(task.cell, slot) {
                 self.meet_and_put(shared, task.tag, cell, out);
             }
         }
+    }
+}
+
+impl ScanJob {
+    // Looks at the words of what the slots of the object in a cell lead to.
+    fn prefetch_targets(&mut self, shared: &ScanShared<'_>, cell: u32)
+        requires ready { IsReady self.old shared.now }
+        requires cell { IsSome (id_in shared.now.table.now cell) }
+        ensures ready { IsReady self.new shared.now }
+        ensures same { IsSameJob self.old self.new }
+    {
+        for slot in 0..shared.table.slots_at(cell) {
+            if let Some(target) = shared.table.slot_at(cell, slot) {
+                self.prefetch(shared, target);
+            }
+        }
+    }
+
+    // Looks at the word of a cell.
+    fn prefetch(&mut self, shared: &ScanShared<'_>, cell: u32)
+        requires ready { IsReady self.old shared.now }
+        requires cell { IsSome (id_in shared.now.table.now cell) }
+        ensures ready { IsReady self.new shared.now }
+        ensures same { IsSameJob self.old self.new }
+    {
+        shared.headers.prefetch(&mut self.pass, cell);
     }
 }

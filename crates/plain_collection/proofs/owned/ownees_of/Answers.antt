@@ -1,8 +1,7 @@
 use Rattle.std.proofs.Common.{◌++◌, [], ◌∷◌, ℕ, cond, take, filter, sym, ap, ◌∙◌, arith}
 use Rattle.std.proofs.lemmas.List.{append-nil}
 use Rattle.std.proofs.lemmas.List.Elements.{filter_more}
-use Rattle.graph_meaning.specs.Roles.{owner_in}
-use Rattle.path_cert.specs.Finds.{has_owner}
+use Rattle.graph_meaning.specs.Roles.{owner_in, has_owner}
 use Rattle.ownee_check.specs.Cells.{cells_by_id}
 use Rattle.ownee_check.proofs.CellsById.{nth-cell, nth-held, count-cells}
 use Rattle.plain_collection.proofs.owned.ownees_of.Goals as goal

@@ -1,6 +1,5 @@
 use Rattle.std.proofs.Common.{◌≡◌, take, filter}
-use Rattle.graph_meaning.specs.Roles.{owner_in}
-use Rattle.path_cert.specs.Finds.{has_owner}
+use Rattle.graph_meaning.specs.Roles.{owner_in, has_owner}
 use Rattle.ownee_check.specs.Cells.{cells_by_id}
 use Rattle.plain_collection.proofs.owned.ownees_of.Given as goal
 

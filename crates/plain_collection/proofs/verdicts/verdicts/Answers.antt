@@ -1,8 +1,7 @@
 use Rattle.std.proofs.Common.{map, ap, subst, ◌∙◌, arith}
-use Rattle.graph_meaning.specs.Roles.{owner_in}
+use Rattle.graph_meaning.specs.Roles.{owner_in, has_owner}
 use Rattle.graph_meaning.specs.Laws.{AllLive}
 use Rattle.graph_meaning.specs.Collecting.{first_with_paths, violating_ownees, ownedby_verdict}
-use Rattle.path_cert.specs.Finds.{has_owner}
 use Rattle.verdict_list.specs.Counts.{counted_in}
 use Rattle.verdict_list.specs.Listed.{GoesOn, owned_pair}
 use Rattle.verdict_list.proofs.WholeLists.{map_pairs}

@@ -1,19 +1,36 @@
-use Rattle.std.proofs.Common.{◌≡◌, ◌||◌, false, List, None, Some, IsTrue, length, get_or, map, replicate, sym, ap, subst, ◌∙◌}
+use Rattle.std.proofs.Common.{◌≡◌, ℕ, arith, ◌||◌, false, List, Option, None, Some, IsTrue, IsSome, length, get_or, map, replicate, sym, ap, subst, ◌∙◌}
 use Rattle.std.specs.List.{All}
-use Rattle.std.specs.Map.{values_of}
+use Rattle.std.specs.Map.{keys_of, values_of}
 use Rattle.std.proofs.lemmas.List.Elements.{All-weaker, All-filter}
 use Rattle.graph_meaning.specs.declared.roles.OwnerRole.{OwnerRole}
 use Rattle.graph_meaning.specs.declared.roles.OwnerRole.TheVariants.{NotOwned}
 use Rattle.graph_meaning.specs.Heap.{ids, is_live}
+use Rattle.graph_meaning.specs.Laws.{AllLive}
 use Rattle.graph_meaning.specs.Reach.{has_id}
 use Rattle.graph_meaning.specs.Roles.{RoleTable}
 use Rattle.graph_meaning.proofs.HeapLemmas.{has_id-ids}
 use Rattle.graph_meaning.proofs.Membership.{All-has_id}
-use Rattle.assert_registry.specs.Assertions.{AreConsistent}
+use Rattle.assert_registry.specs.Assertions.{Assertions, limit_of, AreConsistent, AreOfSeenTypes}
 use Rattle.assert_registry.specs.ByCell.{IsRoleBy, holds_one_of, owner_at}
 use Rattle.assert_registry.proofs.Marking.{get_or-replicate_same}
 use Rattle.assert_registry.proofs.RolesOfTable.{roles_of_table}
 use Rattle.assert_registry.proofs.registry.AssertRegistry.roles.Goals as goal
+
+pub set_dead-requires-clause-live : goal.set_dead-requires-clause-live
+set_dead-requires-clause-live c = subst (λ (a : Assertions). AllLive c.args.table.now.table a.dead) (sym c.self.view_is) c.requires.dead
+
+pub set_unshared-requires-clause-live : goal.set_unshared-requires-clause-live
+set_unshared-requires-clause-live c = subst (λ (a : Assertions). AllLive c.args.table.now.table a.unshared) (sym c.self.view_is) c.requires.unshared
+
+pub set_owners-requires-clause-live : goal.set_owners-requires-clause-live
+set_owners-requires-clause-live c = subst (λ (a : Assertions). AllLive c.args.table.now.table (keys_of a.owners)) (sym c.self.view_is) c.requires.ownees
+
+pub set_limits-requires-clause-below : goal.set_limits-requires-clause-below
+set_limits-requires-clause-below c kind limited =
+    let seen = subst (λ (a : Assertions). AreOfSeenTypes a.limits c.args.table.now.table.kinds) (sym c.self.view_is) c.requires.limits in
+    let below = seen kind (subst (λ (limits : List (Option ℕ)). IsSome (limit_of limits kind)) c.deref.ensures.value limited) in
+    let count = c.kinds-2.ensures.count in
+    omega (arith, below, count)
 
 pub add_owners-requires-clause-live : goal.add_owners-requires-clause-live
 add_owners-requires-clause-live c =

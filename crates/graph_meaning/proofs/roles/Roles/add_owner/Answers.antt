@@ -1,4 +1,4 @@
-use Rattle.std.proofs.Common.{◌<◌, ◌∙◌, length, arith, ap, subst, sym, set, true, List, ℕ}
+use Rattle.std.proofs.Common.{◌≡◌, ◌<◌, [], ◌∷◌, ◌++◌, ◌∙◌, length, arith, ap, subst, sym, set, true, Bool, List, ℕ}
 use Rattle.std.proofs.lemmas.List.{length-set}
 use Rattle.graph_meaning.specs.Reach.{has_id}
 use Rattle.graph_meaning.specs.Roles.{cells_of}
@@ -11,15 +11,22 @@ push_reserved-requires c =
     let i = c.self.inside in
     let (unshared, ownees, flags, flagged, room) = c.self.invariant in
     let within = ap cells_of c.self.view_is in
-    let in_flags : c.args.cell < length i.is_owner.items = omega (arith, within, flags, c.requires.cell) in
-    let few = owners_few i.is_owner.items i.owners.items c.args.cell flagged in_flags (ap (λ r. has_id r.owners c.args.cell) c.self.view_is ∙ c.requires.new) in
-    omega (arith, few, room, i.is_owner.ok.0, i.owners.ok.0)
+    let in_flags : c.args.cell < length i.is_owner = omega (arith, within, flags, c.requires.cell) in
+    let few = owners_few i.is_owner i.owners.items c.args.cell flagged in_flags (ap (λ r. has_id r.owners c.args.cell) c.self.view_is ∙ c.requires.new) in
+    omega (arith, few, room, i.owners.ok.0)
 
 pub invariant_of-self : goal.invariant_of-self
 invariant_of-self c =
     let i = c.self.inside in
     let (unshared, ownees, flags, flagged, room) = c.self.invariant in
     let within = ap cells_of c.self.view_is in
-    let in_flags : c.args.cell < length i.is_owner.items = omega (arith, within, flags, c.requires.cell) in
-    let added = IsFlagged-add i.is_owner.items i.owners.items c.args.cell flagged in_flags (ap (λ r. has_id r.owners c.args.cell) c.self.view_is ∙ c.requires.new) in
-    (unshared, ownees, length-set i.is_owner.items c.args.cell true ∙ flags, subst (λ (os : List ℕ). IsFlagged (set i.is_owner.items c.args.cell true) os) (sym c.push_reserved.ensures.items) added, omega (arith, room, c.push_reserved.ensures.capacity))
+    let in_flags : c.args.cell < length i.is_owner = omega (arith, within, flags, c.requires.cell) in
+    let added = IsFlagged-add i.is_owner i.owners.items c.args.cell flagged in_flags (ap (λ r. has_id r.owners c.args.cell) c.self.view_is ∙ c.requires.new) in
+    let set_flag = c.set.ensures in
+    let many : length c.set.new.self ≡ length i.dead = ap length set_flag ∙ length-set i.is_owner c.args.cell true ∙ flags in (
+      unshared,
+      ownees,
+      many,
+      subst (λ (os : List ℕ). IsFlagged c.set.new.self os) (sym c.push_reserved.ensures.items) (subst (λ (bs : List Bool). IsFlagged bs (i.owners.items ++ c.args.cell ∷ [])) (sym set_flag) added),
+      omega (arith, room, flags, many, c.push_reserved.ensures.capacity),
+    )

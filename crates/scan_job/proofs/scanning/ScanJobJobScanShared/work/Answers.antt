@@ -8,18 +8,20 @@ use Rattle.scan_job.proofs.SlotSteps.{HasScanned, scan-begins, room-left, left-f
 use Rattle.scan_job.proofs.scanning.ScanJobJobScanShared.work.Goals as goal
 use Rattle.scan_job.proofs.scanning.ScanJobJobScanShared.work.Goals.{in-Some, in_default}
 
-pub slots_at-slot-end-requires : goal.slots_at-slot-end-requires
-slots_at-slot-end-requires c =
+pub prefetch_targets-requires-clause-cell : goal.prefetch_targets-requires-clause-cell
+prefetch_targets-requires-clause-cell c =
     let s = c.args.shared.now in
     let j = c.args.self.now in
-    let g = shared_graph s in
     let whole = is-whole s.table.now s.roles.now c.requires.ready.roles in
-    let fits = (fit_tasks-is g whole j.mode c.args.task).0 c.requires.fit in
-    record { taken = held-from_node s.table.now s.roles.now c.args.task.cell (fit-node g whole j.mode c.args.task fits) }
+    let fits = (fit_tasks-is (shared_graph s) whole j.mode c.args.task).0 c.requires.fit in
+    held-from_node s.table.now s.roles.now c.args.task.cell (fit-node (shared_graph s) whole j.mode c.args.task fits)
+
+pub slots_at-slot-end-requires : goal.slots_at-slot-end-requires
+slots_at-slot-end-requires c = record { taken = prefetch_targets-requires-clause-cell c.before }
 
 pub loop-slot-init : goal.loop-slot-init
 loop-slot-init c =
-    scan-begins c.args.shared.now c.args.task (record { job = c.args.self.now; out = c.args.out.now }) c.requires.ready
+    scan-begins c.args.shared.now c.args.task c.args.self.now c.prefetch_targets.new.self c.args.out.now c.prefetch_targets.ensures.same c.prefetch_targets.ensures.ready
 
 pub meet_and_put-requires-clause-left : goal.meet_and_put-requires-clause-left
 meet_and_put-requires-clause-left c =
