@@ -43,8 +43,9 @@ gave_fit fit (r ∷ rs) [] t on a = absurd a
 gave_fit fit (r ∷ rs) (s ∷ ss) t on a = ⊎_elim (λ b. subst (λ f. Contains f t) on.0 b.0.1.are_fit.0) (λ b. gave_fit fit rs ss t on.1 b.1) a
 
 -- a task that waited
-pub found_waiting : (q r : Waiting) (l : Lane) (rs : List Victim) (t : Task) → q.tasks ≡ t ∷ r.tasks → r.spare ≡ q.spare → r.room ≡ q.room → FindsTask (sources q l rs) t (sources r l rs)
-found_waiting q r l rs t is spare room =
+pub found_waiting : {q r : Waiting} {l : Lane} (rs : List Victim) {t : Task} → q.tasks ≡ t ∷ r.tasks → r.spare ≡ q.spare → r.room ≡ q.room
+    → FindsTask (sources q l rs) t (sources r l rs)
+found_waiting {r = r} rs is spare room =
     record {
       sum = λ h. (let a = ap (total h) is in omega arith);
       fewer = (let e = ap (total one) is in omega arith);
@@ -57,15 +58,25 @@ found_waiting q r l rs t is spare room =
       others = all_same_from rs rs (all_untouched rs);
     }
 
+-- no task waited at the queue, which is now r
+pub record NoneWaits (q r : Waiting) : Type 0 where
+  pub old : q.tasks ≡ []
+  pub new : r.tasks ≡ []
+  pub spare : r.spare ≡ q.spare
+  pub room : r.room ≡ q.room
+
 -- a task of the own deque
-pub found_own : (q r : Waiting) (l m : Lane) (rs : List Victim) (t : Task) → q.tasks ≡ [] → r.tasks ≡ [] → r.spare ≡ q.spare → r.room ≡ q.room → Takes (own_hand l) (t ∷ []) (own_hand m) → worker_deque m.owner ≡ worker_deque l.owner → FindsTask (sources q l rs) t (sources r m rs)
-found_own q r l m rs t none none' spare room a deque =
+pub found_own : {q r : Waiting} {l m : Lane} (rs : List Victim) {t : Task} → NoneWaits q r → Takes (own_hand l) (t ∷ []) (own_hand m)
+    → worker_deque m.owner ≡ worker_deque l.owner → FindsTask (sources q l rs) t (sources r m rs)
+found_own {r = r} {l = l} rs {t = t} queue a deque =
     record {
-      sum = λ h. (let e = ap (λ (v : Hand). total h v.took) a.hand ∙ total-append h (own_hand l).took (t ∷ []) in let n = ap (total h) none in let n' = ap (total h) none' in omega arith);
-      fewer = (let n = ap (total one) none' in omega arith);
+      sum = λ h. (
+          let took = ap (λ (v : Hand). total h v.took) a.hand ∙ total-append h (own_hand l).took (t ∷ []) in
+          omega (arith, took, ap (total h) queue.old, ap (total h) queue.new));
+      fewer = omega (arith, ap (total one) queue.new);
       is_fit = λ fit b e on. subst (λ f. Contains f t) e a.are_fit.0;
-      rest_fit = λ fit b. subst (AllFit fit) (sym none') tt;
-      queue = λ i. record { tasks = r.tasks; spare = spare i; room = room i };
+      rest_fit = λ fit b. subst (AllFit fit) (sym queue.new) tt;
+      queue = λ i. record { tasks = r.tasks; spare = queue.spare i; room = queue.room i };
       hand = a.hand ∙ (λ i. record (own_hand l) { took = (sym a.hand i).took });
       few = λ f. a.own l.owns;
       deque = deque;
@@ -73,16 +84,17 @@ found_own q r l m rs t none none' spare room a deque =
     }
 
 -- a task of another deque
-pub found_stolen : (q r : Waiting) (l m : Lane) (rs ss : List Victim) (t : Task) → q.tasks ≡ [] → r.tasks ≡ [] → r.spare ≡ q.spare → r.room ≡ q.room → own_hand m ≡ own_hand l → worker_deque m.owner ≡ worker_deque l.owner → StealsFromOne rs t ss → FindsTask (sources q l rs) t (sources r m ss)
-found_stolen q r l m rs ss t none none' spare room same deque a =
+pub found_stolen : {q r : Waiting} {l m : Lane} (rs ss : List Victim) {t : Task} → NoneWaits q r
+    → (own_hand m ≡ own_hand l) × (worker_deque m.owner ≡ worker_deque l.owner) → StealsFromOne rs t ss → FindsTask (sources q l rs) t (sources r m ss)
+found_stolen {r = r} {l = l} rs ss {t = t} queue lane a =
     record {
-      sum = λ h. (let e = ap (λ (v : Hand). total h v.took) same in let g = gave_sum h rs ss t a in let n = ap (total h) none in let n' = ap (total h) none' in omega arith);
-      fewer = (let n = ap (total one) none' in omega arith);
+      sum = λ h. omega (arith, ap (λ (v : Hand). total h v.took) lane.0, gave_sum h rs ss t a, ap (total h) queue.old, ap (total h) queue.new);
+      fewer = omega (arith, ap (total one) queue.new);
       is_fit = λ fit b e on. gave_fit fit rs ss t on a;
-      rest_fit = λ fit b. subst (AllFit fit) (sym none') tt;
-      queue = λ i. record { tasks = r.tasks; spare = spare i; room = room i };
-      hand = same ∙ (λ i. record (own_hand l) { took = (sym same i).took });
-      few = λ f. (let p = ap (λ (v : Hand). total one v.put) same in let e = ap (λ (v : Hand). total one v.took) same in omega arith);
-      deque = deque;
+      rest_fit = λ fit b. subst (AllFit fit) (sym queue.new) tt;
+      queue = λ i. record { tasks = r.tasks; spare = queue.spare i; room = queue.room i };
+      hand = lane.0 ∙ (λ i. record (own_hand l) { took = (sym lane.0 i).took });
+      few = λ f. omega (arith, f, ap (λ (v : Hand). total one v.put) lane.0, ap (λ (v : Hand). total one v.took) lane.0);
+      deque = lane.1;
       others = gave_same rs ss t a;
     }

@@ -17,19 +17,22 @@ module _ {J : Type 0} (works : J → Task → J → List Task → Type 0) where
   does_append j k l (t ∷ ts) us p q d e = (d.0, d.1, d.2 ++ q, d.3, does_append d.0 k l ts us d.2 q d.4 e, ap (λ r. r ++ q) d.5 ∙ append_assoc d.1 d.2 q)
 
 module _ {X W : Type 0} (R : X → W → X → Type 0) where
-  first_step : (ws : List W) (ys : List X) (z : X) (d : X) (dw : W) → 0 < length ys → 0 < length ws → R (get_or ys 0 d) (get_or ws 0 dw) z → Upto R 1 ys ws (set ys 0 z)
+  first_step : (ws : List W) (ys : List X) (z : X) (d : X) (dw : W) → 0 < length ys → 0 < length ws → R (get_or ys 0 d) (get_or ws 0 dw) z
+      → Upto R 1 ys ws (set ys 0 z)
   first_step ws [] z d dw l m r = absurd (omega arith)
   first_step [] (y ∷ ys) z d dw l m r = absurd (omega arith)
   first_step (w ∷ ws) (y ∷ ys) z d dw l m r = (r, refl)
 
-  step_suc : (k : ℕ) (xs : List X) (ws : List W) (ys : List X) (z d : X) (dw : W) → Upto R k xs ws ys → k < length ys → k < length ws → R (get_or ys k d) (get_or ws k dw) z → Upto R (suc k) xs ws (set ys k z)
+  step_suc : (k : ℕ) (xs : List X) (ws : List W) (ys : List X) (z d : X) (dw : W) → Upto R k xs ws ys → k < length ys → k < length ws
+      → R (get_or ys k d) (get_or ws k dw) z → Upto R (suc k) xs ws (set ys k z)
   step_suc zero xs ws ys z d dw u l m r = subst (λ zs. Upto R 1 zs ws (set ys 0 z)) (sym u) (first_step ws ys z d dw l m r)
   step_suc (suc k) [] ws ys z d dw u l m r = absurd u
   step_suc (suc k) (x ∷ xs) [] ys z d dw u l m r = absurd u
   step_suc (suc k) (x ∷ xs) (w ∷ ws) [] z d dw u l m r = absurd u
   step_suc (suc k) (x ∷ xs) (w ∷ ws) (y ∷ ys) z d dw u l m r = (u.0, step_suc k xs ws ys z d dw u.1 (omega arith) (omega arith) r)
 
-  pub upto_step : (k : ℕ) (xs : List X) (ws : List W) (ys : List X) (z d : X) (dw : W) → Upto R k xs ws ys → k < length ys → k < length ws → R (get_or ys k d) (get_or ws k dw) z → Upto R (k + 1) xs ws (set ys k z)
+  pub upto_step : (k : ℕ) (xs : List X) (ws : List W) (ys : List X) (z d : X) (dw : W) → Upto R k xs ws ys → k < length ys → k < length ws
+      → R (get_or ys k d) (get_or ws k dw) z → Upto R (k + 1) xs ws (set ys k z)
   upto_step k xs ws ys z d dw u l m r = let e : suc k ≡ k + 1 = omega arith in subst (λ n. Upto R n xs ws (set ys k z)) e (step_suc k xs ws ys z d dw u l m r)
 
   pub upto_all : (xs : List X) (ws : List W) (ys : List X) → length ws ≡ length xs → Upto R (length xs) xs ws ys → Each R xs ws ys

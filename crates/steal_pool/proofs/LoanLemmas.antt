@@ -1,14 +1,20 @@
 -- Hands lent.
-use Rattle.std.proofs.Common.{◌≡◌, ℕ, zero, suc, ◌+◌, ◌-◌, ◌<◌, ◌≤◌, false, List, [], ◌∷◌, ◌++◌, length, map, get_or, set, take, drop, sym, refl, ap, ◌∙◌, subst, arith, append_assoc, append-nil, length-append, vec_len, vec_capacity}
+use Rattle.std.proofs.Common.{◌≡◌, ℕ, zero, suc, ◌+◌, ◌-◌, ◌<◌, ◌≤◌, false, List, [], ◌∷◌, ◌++◌, ◌∙◌, Option}
+use Rattle.std.proofs.Common.{length, map, get_or, set, take, drop, sym, refl, ap, subst, arith, append_assoc, append-nil, length-append, vec_len, vec_capacity}
 use Rattle.std.specs.List.{AllByRecursion}
 use Rattle.crossbeam_deque.specs.Handles.{worker_deque}
 use Rattle.crossbeam_utils.specs.Padded.{padded_value}
 use Rattle.crossbeam_utils.specs.declared.cache_padded.CachePadded.{CachePadded}
+use Rattle.steal_pool.specs.declared.place.Count.{Count}
 use Rattle.steal_pool.specs.declared.place.Place.{Place}
 use Rattle.steal_pool.specs.Steps.{lent_hand}
 use Rattle.steal_pool.specs.Lanes.{own_hand}
 use Rattle.steal_pool.specs.Lists.{Each}
+use Rattle.steal_pool.specs.Queues.{Waiting}
 use Rattle.steal_pool.specs.Loans.{keys_of_others, HandKey, hand_key, keys_of, keys_in, key_in, IsFresh, CanLend, CanReceive, LendsHands, OnlyLends, ReceivesHands, ExchangesHands, TakesBackHands}
+
+abbrev pub Places : Type 0 → Type 0
+Places J = List (CachePadded (Place J))
 
 module _ {X : Type 0} where
   one_front : (head rest : List X) (d : X) → length head ≡ 1 → head ++ rest ≡ get_or head 0 d ∷ rest
@@ -21,12 +27,19 @@ module _ {X : Type 0} where
   one_set (x ∷ []) rest z e = refl
   one_set (x ∷ y ∷ zs) rest z e = absurd (omega arith)
 
-  pub front_is : (old head rest : List X) (d : X) → old ≡ head ++ rest → length head ≡ 1 → old ≡ get_or head 0 d ∷ rest
-  front_is old head rest d e l = e ∙ one_front head rest d l
+  -- a list that was split behind its first element
+  pub record IsSplit (old head rest : List X) : Type 0 where
+    pub whole : old ≡ head ++ rest
+    pub one : length head ≡ 1
+
+  pub front_is : {old head rest : List X} → IsSplit old head rest → (d : X) → old ≡ get_or head 0 d ∷ rest
+  front_is {head = head} {rest = rest} split d = split.whole ∙ one_front head rest d split.one
 
   -- what holds of the list by its head and rest, before and after
-  pub headed : (P : List X → List X → Type 0) (old head rest : List X) (d z : X) (rest' : List X) → old ≡ head ++ rest → length head ≡ 1 → P (get_or head 0 d ∷ rest) (z ∷ rest') → P old (set head 0 z ++ rest')
-  headed P old head rest d z rest' e l p = subst (λ xs. P xs (set head 0 z ++ rest')) (sym (front_is old head rest d e l)) (subst (P (get_or head 0 d ∷ rest)) (sym (one_set head rest' z l)) p)
+  pub headed : {old head rest : List X} (P : List X → List X → Type 0) → IsSplit old head rest → (d z : X) (rest' : List X)
+      → P (get_or head 0 d ∷ rest) (z ∷ rest') → P old (set head 0 z ++ rest')
+  headed {head = head} {rest = rest} P split d z rest' p =
+      subst (λ xs. P xs (set head 0 z ++ rest')) (sym (front_is split d)) (subst (P (get_or head 0 d ∷ rest)) (sym (one_set head rest' z split.one)) p)
 
   pub none_is : (xs : List X) → length xs ≡ 0 → xs ≡ []
   none_is [] e = refl
@@ -53,8 +66,8 @@ module _ {J : Type 0} where
         space = b.space ∙ a.space;
       }
 
-  pub gets_on : (ms ns : List HandKey) (p q r : Place J) → ReceivesHands ms p q → ReceivesHands ns q r → ReceivesHands (ms ++ ns) p r
-  gets_on ms ns p q r a b =
+  pub gets_on : {ms ns : List HandKey} {p q r : Place J} → ReceivesHands ms p q → ReceivesHands ns q r → ReceivesHands (ms ++ ns) p r
+  gets_on {ms = ms} {ns = ns} {p = p} {r = r} a b =
       record {
         rest = b.rest ∙ (λ i. record (a.rest i) { others = r.others });
         came = b.came ∙ (ap (λ xs. xs ++ ns) a.came ∙ append_assoc (keys_of p) ms ns);
@@ -66,27 +79,27 @@ module _ {J : Type 0} where
   pub gets_none : (p : Place J) → ReceivesHands [] p p
   gets_none p = record { rest = refl; came = sym (append-nil (keys_of p)); fresh = λ h. h; space = refl; count = omega arith }
 
-  abbrev EachGets : List (CachePadded (Place J)) → List HandKey → List (CachePadded (Place J)) → Type 0
+  abbrev EachGets : Places J → List HandKey → Places J → Type 0
   EachGets ps ms qs = Each (λ p m q. ReceivesHands (m ∷ []) (padded_value p) (padded_value q)) ps ms qs
 
-  abbrev EachGives : List (CachePadded (Place J)) → List (CachePadded (Place J)) → Type 0
+  abbrev EachGives : Places J → Places J → Type 0
   EachGives ps qs = Each (λ p _ q. OnlyLends 1 (padded_value p) (padded_value q)) ps ps qs
 
-  abbrev EachDealt : ℕ → List (CachePadded (Place J)) → List (CachePadded (Place J)) → Type 0
+  abbrev EachDealt : ℕ → Places J → Places J → Type 0
   EachDealt k ps qs = Each (λ p _ q. ExchangesHands k (padded_value p) (padded_value q)) ps ps qs
 
-  abbrev AllGive : ℕ → List (CachePadded (Place J)) → Type 0
+  abbrev AllGive : ℕ → Places J → Type 0
   AllGive k ps = AllByRecursion (λ p. CanLend k (padded_value p)) ps
 
-  abbrev AllGet : ℕ → List (CachePadded (Place J)) → Type 0
+  abbrev AllGet : ℕ → Places J → Type 0
   AllGet k ps = AllByRecursion (λ p. CanReceive k (padded_value p)) ps
 
-  pub got_length : (m : HandKey) (ps qs : List (CachePadded (Place J))) → EachGets ps (map (λ _. m) ps) qs → length qs ≡ length ps
+  pub got_length : (m : HandKey) (ps qs : Places J) → EachGets ps (map (λ _. m) ps) qs → length qs ≡ length ps
   got_length m [] qs e = ap length e.1
   got_length m (p ∷ ps) [] e = absurd e
   got_length m (p ∷ ps) (q ∷ qs) e = let r = got_length m ps qs e.1 in omega arith
 
-  pub gave_length : (ps qs : List (CachePadded (Place J))) → EachGives ps qs → length qs ≡ length ps
+  pub gave_length : (ps qs : Places J) → EachGives ps qs → length qs ≡ length ps
   gave_length [] qs e = ap length e.1
   gave_length (p ∷ ps) [] e = absurd e
   gave_length (p ∷ ps) (q ∷ qs) e = let r = gave_length ps qs e.1 in omega arith
@@ -95,17 +108,19 @@ module _ {J : Type 0} where
   give_after p q ms k l g c = subst (CanLend 1) (sym g.rest) (record { rights = (let r = c.rights in omega arith); stock = (let r = c.stock in omega arith); kin = c.kin })
 
   -- who could give k hands, and got one, can give one
-  pub can_give_one : (m : HandKey) (k : ℕ) (ps qs : List (CachePadded (Place J))) → length ps ≤ k → EachGets ps (map (λ _. m) ps) qs → AllGive k ps → AllGive 1 qs
+  pub can_give_one : (m : HandKey) (k : ℕ) (ps qs : Places J) → length ps ≤ k → EachGets ps (map (λ _. m) ps) qs → AllGive k ps
+      → AllGive 1 qs
   can_give_one m k [] [] l e a = tt
   can_give_one m k [] (q ∷ qs) l e a = absurd (let f = ap length e.1 in omega arith)
   can_give_one m k (p ∷ ps) [] l e a = absurd e
   can_give_one m k (p ∷ ps) (q ∷ qs) l e a = (give_after (padded_value p) (padded_value q) (m ∷ []) k (omega arith) e.0 a.0, can_give_one m k ps qs (omega arith) e.1 a.1)
 
-  pub get_one : (k : ℕ) (ps : List (CachePadded (Place J))) → length ps ≤ k → AllGet k ps → AllGet 1 ps
+  pub get_one : (k : ℕ) (ps : Places J) → length ps ≤ k → AllGet k ps → AllGet 1 ps
   get_one k [] l a = tt
   get_one k (p ∷ ps) l a = (let x = a.0 in omega arith, get_one k ps (omega arith) a.1)
 
-  give_less : (p q r : Place J) (ms : List HandKey) (k j : ℕ) → 1 + j ≡ k → ReceivesHands ms p q → OnlyLends 1 q r → CanLend k p → CanLend j r
+  give_less : (p q r : Place J) (ms : List HandKey) (k j : ℕ) → 1 + j ≡ k → ReceivesHands ms p q → OnlyLends 1 q r → CanLend k p
+      → CanLend j r
   give_less p q r ms k j l g h c =
       let d : CanLend k q = subst (CanLend k) (sym g.rest) (record { rights = c.rights; stock = c.stock; kin = c.kin }) in
       record {
@@ -114,11 +129,13 @@ module _ {J : Type 0} where
         kin = h.1.kin;
       }
 
-  get_less : (p q r : Place J) (m : HandKey) (k j : ℕ) → 1 + j ≡ k → ReceivesHands (m ∷ []) p q → OnlyLends 1 q r → CanReceive k p → CanReceive j r
+  get_less : (p q r : Place J) (m : HandKey) (k j : ℕ) → 1 + j ≡ k → ReceivesHands (m ∷ []) p q → OnlyLends 1 q r → CanReceive k p
+      → CanReceive j r
   get_less p q r m k j l g h c = subst (CanReceive j) (sym h.0) (let x = g.count in let y = g.space in omega arith)
 
   -- who could give and get k hands, and gave and got one, can give and get one less
-  pub can_go_on : (m : HandKey) (k j : ℕ) (ps qs rs : List (CachePadded (Place J))) → (0 < length ps → 1 + j ≡ k) → EachGets ps (map (λ _. m) ps) qs → EachGives qs rs → AllGive k ps → AllGet k ps → AllGive j rs × AllGet j rs
+  pub can_go_on : (m : HandKey) (k j : ℕ) (ps qs rs : Places J) → (0 < length ps → 1 + j ≡ k) → EachGets ps (map (λ _. m) ps) qs
+      → EachGives qs rs → AllGive k ps → AllGet k ps → AllGive j rs × AllGet j rs
   can_go_on m k j [] [] [] l e f a b = (tt, tt)
   can_go_on m k j [] [] (r ∷ rs) l e f a b = absurd (let n = ap length f.1 in omega arith)
   can_go_on m k j [] (q ∷ qs) rs l e f a b = absurd (let n = ap length e.1 in omega arith)
@@ -131,13 +148,17 @@ module _ {J : Type 0} where
         (get_less (padded_value p) (padded_value q) (padded_value r) m k j n e.0 f.0 b.0, t.1),
       )
 
-  pub same_rest : (p r : Place J) → r.job ≡ p.job → r.queue ≡ p.queue → r.count ≡ p.count → r ≡ record p { lane = r.lane; spare = r.spare; others = r.others }
-  same_rest p r a b c = λ i. record r { job = a i; queue = b i; count = c i }
+  -- what neither a loan nor a return changes
+  abbrev pub kept_by : Place J → Option J × Waiting × Count
+  kept_by p = (p.job, p.queue, p.count)
+
+  pub same_rest : (p r : Place J) → kept_by r ≡ kept_by p → r ≡ record p { lane = r.lane; spare = r.spare; others = r.others }
+  same_rest p r same = λ i. (let kept = same i in record r { job = kept.0; queue = kept.1; count = kept.2 })
 
   pub exchanged_head : (k : ℕ) (ms : List HandKey) (p q r : Place J) → OnlyLends k p q → ReceivesHands ms q r → ExchangesHands k p r
   exchanged_head k ms p q r a b =
       record {
-        rest = same_rest p r (ap (λ (u : Place J). u.job) b.rest ∙ ap (λ (u : Place J). u.job) a.0) (ap (λ (u : Place J). u.queue) b.rest ∙ ap (λ (u : Place J). u.queue) a.0) (ap (λ (u : Place J). u.count) b.rest ∙ ap (λ (u : Place J). u.count) a.0);
+        rest = same_rest p r (ap kept_by b.rest ∙ ap kept_by a.0);
         lent = subst (LendsHands k p) (sym b.rest) (record { view = a.1.view; rights = a.1.rights; deque = a.1.deque; stock = a.1.stock; kin = a.1.kin; space = a.1.space });
         fresh = λ h. b.fresh (subst IsFresh (sym a.0) h);
         space = b.space ∙ ap (λ (u : Place J). vec_capacity u.others) a.0;
@@ -154,16 +175,18 @@ module _ {J : Type 0} where
         space = l.space ∙ ap (λ (u : Place J). vec_capacity u.spare) g.rest;
       }
 
-  exchanged_later : (k j : ℕ) (m : HandKey) (p q r s : Place J) → 1 + j ≡ k → ReceivesHands (m ∷ []) p q → OnlyLends 1 q r → ExchangesHands j r s → ExchangesHands k p s
+  exchanged_later : (k j : ℕ) (m : HandKey) (p q r s : Place J) → 1 + j ≡ k → ReceivesHands (m ∷ []) p q → OnlyLends 1 q r
+      → ExchangesHands j r s → ExchangesHands k p s
   exchanged_later k j m p q r s l a b c =
       record {
-        rest = same_rest p s (ap (λ (u : Place J). u.job) c.rest ∙ (ap (λ (u : Place J). u.job) b.0 ∙ ap (λ (u : Place J). u.job) a.rest)) (ap (λ (u : Place J). u.queue) c.rest ∙ (ap (λ (u : Place J). u.queue) b.0 ∙ ap (λ (u : Place J). u.queue) a.rest)) (ap (λ (u : Place J). u.count) c.rest ∙ (ap (λ (u : Place J). u.count) b.0 ∙ ap (λ (u : Place J). u.count) a.rest));
+        rest = same_rest p s (ap kept_by c.rest ∙ (ap kept_by b.0 ∙ ap kept_by a.rest));
         lent = subst (λ n. LendsHands n p s) l (lent_from (1 + j) p q s (m ∷ []) a (lent_on 1 j q r s b.1 c.lent));
         fresh = λ h. c.fresh (subst IsFresh (sym b.0) (a.fresh h));
         space = c.space ∙ (ap (λ (u : Place J). vec_capacity u.others) b.0 ∙ a.space);
       }
 
-  pub exchanged_rest : (m : HandKey) (k j : ℕ) (ps qs rs ss : List (CachePadded (Place J))) → (0 < length ps → 1 + j ≡ k) → EachGets ps (map (λ _. m) ps) qs → EachGives qs rs → EachDealt j rs ss → EachDealt k ps ss
+  pub exchanged_rest : (m : HandKey) (k j : ℕ) (ps qs rs ss : Places J) → (0 < length ps → 1 + j ≡ k) → EachGets ps (map (λ _. m) ps) qs
+      → EachGives qs rs → EachDealt j rs ss → EachDealt k ps ss
   exchanged_rest m k j [] [] [] ss l e f d = (refl, d.1)
   exchanged_rest m k j [] [] (r ∷ rs) ss l e f d = absurd (let n = ap length f.1 in omega arith)
   exchanged_rest m k j [] (q ∷ qs) rs ss l e f d = absurd (let n = ap length e.1 in omega arith)
@@ -174,20 +197,21 @@ module _ {J : Type 0} where
       let n = l (omega arith) in
       (exchanged_later k j m (padded_value p) (padded_value q) (padded_value r) (padded_value s) n e.0 f.0 d.0, exchanged_rest m k j ps qs rs ss (λ _. n) e.1 f.1 d.1)
 
-  pub marks_given : (qs rs : List (CachePadded (Place J))) → EachGives qs rs → map key_in rs ≡ map key_in qs
+  pub marks_given : (qs rs : Places J) → EachGives qs rs → map key_in rs ≡ map key_in qs
   marks_given [] [] e = refl
   marks_given [] (r ∷ rs) e = absurd (let n = ap length e.1 in omega arith)
   marks_given (q ∷ qs) [] e = absurd e
   marks_given (q ∷ qs) (r ∷ rs) e = λ i. key_lent 1 (padded_value q) (padded_value r) e.0.1 i ∷ marks_given qs rs e.1 i
 
-  pub marks_dealt : (j : ℕ) (rs ss : List (CachePadded (Place J))) → EachDealt j rs ss → map key_in ss ≡ map key_in rs
+  pub marks_dealt : (j : ℕ) (rs ss : Places J) → EachDealt j rs ss → map key_in ss ≡ map key_in rs
   marks_dealt j [] [] e = refl
   marks_dealt j [] (s ∷ ss) e = absurd (let n = ap length e.1 in omega arith)
   marks_dealt j (r ∷ rs) [] e = absurd e
   marks_dealt j (r ∷ rs) (s ∷ ss) e = λ i. key_lent j (padded_value r) (padded_value s) e.0.lent i ∷ marks_dealt j rs ss e.1 i
 
   -- each place has one key more
-  pub rows_got : (m : HandKey) (b : List HandKey) (ps qs rs : List (CachePadded (Place J))) → EachGets ps (map (λ _. m) ps) qs → EachGives qs rs → AllByRecursion (λ p. keys_in p ≡ b) ps → AllByRecursion (λ p. keys_in p ≡ b ++ m ∷ []) rs
+  pub rows_got : (m : HandKey) (b : List HandKey) (ps qs rs : Places J) → EachGets ps (map (λ _. m) ps) qs → EachGives qs rs
+      → AllByRecursion (λ p. keys_in p ≡ b) ps → AllByRecursion (λ p. keys_in p ≡ b ++ m ∷ []) rs
   rows_got m b [] [] [] e f a = tt
   rows_got m b [] [] (r ∷ rs) e f a = absurd (let n = ap length f.1 in omega arith)
   rows_got m b [] (q ∷ qs) rs e f a = absurd (let n = ap length e.1 in omega arith)
@@ -196,8 +220,9 @@ module _ {J : Type 0} where
   rows_got m b (p ∷ ps) (q ∷ qs) (r ∷ rs) e f a = (ap keys_of f.0.0 ∙ (e.0.came ∙ ap (λ xs. xs ++ m ∷ []) a.0), rows_got m b ps qs rs e.1 f.1 a.1)
 
   -- the keys of the first place and those of the rest are those of all
-  pub rows_cross : (b : List HandKey) (p q r : Place J) (ns : List HandKey) (ss : List (CachePadded (Place J))) (k : ℕ) → keys_of p ≡ b → OnlyLends k p q → ReceivesHands ns q r → ns ≡ map key_in ss
-      → map keys_in ss ≡ keys_of_others (b ++ hand_key p.lane ∷ []) (map key_in ss) → keys_of r ∷ map keys_in ss ≡ keys_of_others b (hand_key r.lane ∷ map key_in ss)
+  pub rows_cross : (b : List HandKey) (p q r : Place J) (ns : List HandKey) (ss : Places J) (k : ℕ) → keys_of p ≡ b → OnlyLends k p q
+      → ReceivesHands ns q r → ns ≡ map key_in ss → map keys_in ss ≡ keys_of_others (b ++ hand_key p.lane ∷ []) (map key_in ss)
+      → keys_of r ∷ map keys_in ss ≡ keys_of_others b (hand_key r.lane ∷ map key_in ss)
   rows_cross b p q r ns ss k at g h same c =
       let first : keys_of r ≡ b ++ map key_in ss = h.came ∙ (λ i. (ap keys_of g.0 ∙ at) i ++ same i) in
       let m : hand_key r.lane ≡ hand_key p.lane = ap (λ (u : Place J). hand_key u.lane) h.rest ∙ key_lent k p q g.1 in
@@ -211,6 +236,7 @@ drop_suc (suc k) (x ∷ xs) d l = drop_suc k xs d (omega arith)
 pub drop_at : {X : Type 0} (k : ℕ) (xs : List X) (d : X) → k < length xs → drop k xs ≡ get_or xs k d ∷ drop (k + 1) xs
 drop_at k xs d l = let e : suc k ≡ k + 1 = omega arith in subst (λ n. drop k xs ≡ get_or xs k d ∷ drop n xs) e (drop_suc k xs d l)
 
-pub split_one : {X : Type 0} (st head rest : List X) (d : X) → 0 < length st → head ≡ take 1 st → rest ≡ drop 1 st → st ≡ get_or head 0 d ∷ rest
+pub split_one : {X : Type 0} (st head rest : List X) (d : X) → 0 < length st → head ≡ take 1 st → rest ≡ drop 1 st
+    → st ≡ get_or head 0 d ∷ rest
 split_one [] head rest d l a b = absurd (omega arith)
 split_one (x ∷ xs) head rest d l a b = λ i. get_or (sym a i) 0 d ∷ sym b i

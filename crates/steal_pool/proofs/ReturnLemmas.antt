@@ -15,16 +15,19 @@ use Rattle.steal_pool.specs.Steps.{joined_hand}
 use Rattle.steal_pool.specs.Victims.{total_took}
 use Rattle.steal_pool.specs.Lanes.{own_hand}
 use Rattle.steal_pool.specs.Lists.{Each}
-use Rattle.steal_pool.specs.Loans.{keys_of_others, HandKey, hand_key, victim_key, keys_of, keys_in, key_in, CanTakeBack, TakesBackHands, OnlyTakesBack, ReturnsHands, RestoresHands, IsThiefOf, own_took, others_took, all_took}
+use Rattle.steal_pool.specs.Loans.{HandKey, CanTakeBack, TakesBackHands, OnlyTakesBack, ReturnsHands, RestoresHands, IsThiefOf}
+use Rattle.steal_pool.specs.Loans.{keys_of_others, hand_key, victim_key, keys_of, keys_in, key_in, own_took, others_took, all_took}
 use Rattle.heap_base.proofs.Counting.{total-append, total-snoc}
 use Rattle.steal_pool.proofs.Elements.{all-snoc}
-use Rattle.steal_pool.proofs.LoanLemmas.{same_rest, key_joined}
+use Rattle.steal_pool.proofs.LoanLemmas.{Places, kept_by, same_rest, key_joined}
 
 -- the last hand is the one with this key
-pub last_seen : (xs : List Victim) (r : Victim) (front : List HandKey) (m : HandKey) → map victim_key (xs ++ r ∷ []) ≡ front ++ m ∷ [] → (map victim_key xs ≡ front) × (victim_key r ≡ m)
+pub last_seen : (xs : List Victim) (r : Victim) (front : List HandKey) (m : HandKey) → map victim_key (xs ++ r ∷ []) ≡ front ++ m ∷ []
+    → (map victim_key xs ≡ front) × (victim_key r ≡ m)
 last_seen xs r front m e = same_from_push (map victim_key xs) front (victim_key r) m (sym (map-append victim_key xs (r ∷ [])) ∙ e)
 
-pub sum_one : (h : Task → ℕ) (l m : Lane) (rs : List Victim) (r : Victim) → own_hand m ≡ joined_hand (own_hand l) (view r.pass) → total h (own_hand m).took + total_took h rs ≡ total h (own_hand l).took + total_took h (rs ++ r ∷ [])
+pub sum_one : (h : Task → ℕ) (l m : Lane) (rs : List Victim) (r : Victim) → own_hand m ≡ joined_hand (own_hand l) (view r.pass)
+    → total h (own_hand m).took + total_took h rs ≡ total h (own_hand l).took + total_took h (rs ++ r ∷ [])
 sum_one h l m rs r e =
     let v : Hand = view r.pass in
     let a : total h (own_hand m).took ≡ total h (own_hand l).took + total h v.took = ap (λ (u : Hand). total h u.took) e ∙ total-append h (own_hand l).took v.took in
@@ -49,45 +52,50 @@ module _ {J : Type 0} where
   pub joins_on : (j k : ℕ) (p q r : Place J) → OnlyTakesBack j p q → OnlyTakesBack k q r → OnlyTakesBack (j + k) p r
   joins_on j k p q r a b = (b.0 ∙ (λ i. record (a.0 i) { lane = r.lane; spare = r.spare }), joined_on j k p q r a.1 b.1)
 
-  abbrev EachReturns : List (CachePadded (Place J)) → List HandKey → List (CachePadded (Place J)) → Type 0
+  abbrev EachReturns : Places J → List HandKey → Places J → Type 0
   EachReturns ps ms qs = Each (λ p m q. ReturnsHands (m ∷ []) (padded_value p) (padded_value q)) ps ms qs
 
-  abbrev EachJoins : List (CachePadded (Place J)) → List (CachePadded (Place J)) → Type 0
+  abbrev EachJoins : Places J → Places J → Type 0
   EachJoins ps qs = Each (λ p _ q. OnlyTakesBack 1 (padded_value p) (padded_value q)) ps ps qs
 
-  abbrev EachGathered : ℕ → List (CachePadded (Place J)) → List (CachePadded (Place J)) → Type 0
+  abbrev EachGathered : ℕ → Places J → Places J → Type 0
   EachGathered k ps qs = Each (λ p _ q. RestoresHands k (padded_value p) (padded_value q)) ps ps qs
 
-  abbrev AllJoin : ℕ → List (CachePadded (Place J)) → Type 0
+  abbrev AllJoin : ℕ → Places J → Type 0
   AllJoin k ps = AllByRecursion (λ p. CanTakeBack k (padded_value p)) ps
 
-  pub joins_length : (ps qs : List (CachePadded (Place J))) → EachJoins ps qs → length qs ≡ length ps
+  pub joins_length : (ps qs : Places J) → EachJoins ps qs → length qs ≡ length ps
   joins_length [] qs e = ap length e.1
   joins_length (p ∷ ps) [] e = absurd e
   joins_length (p ∷ ps) (q ∷ qs) e = let r = joins_length ps qs e.1 in omega arith
 
-  pub returns_length : (m : HandKey) (ps qs : List (CachePadded (Place J))) → EachReturns ps (map (λ _. m) ps) qs → length qs ≡ length ps
+  pub returns_length : (m : HandKey) (ps qs : Places J) → EachReturns ps (map (λ _. m) ps) qs → length qs ≡ length ps
   returns_length m [] qs e = ap length e.1
   returns_length m (p ∷ ps) [] e = absurd e
   returns_length m (p ∷ ps) (q ∷ qs) e = let r = returns_length m ps qs e.1 in omega arith
 
-  pub restored_length : (k : ℕ) (ps qs : List (CachePadded (Place J))) → EachGathered k ps qs → length qs ≡ length ps
+  pub restored_length : (k : ℕ) (ps qs : Places J) → EachGathered k ps qs → length qs ≡ length ps
   restored_length k [] qs e = ap length e.1
   restored_length k (p ∷ ps) [] e = absurd e
   restored_length k (p ∷ ps) (q ∷ qs) e = let r = restored_length k ps qs e.1 in omega arith
 
-  pub join_less : (k j : ℕ) (ps : List (CachePadded (Place J))) → (0 < length ps → j ≤ k) → AllJoin k ps → AllJoin j ps
+  pub join_less : (k j : ℕ) (ps : Places J) → (0 < length ps → j ≤ k) → AllJoin k ps → AllJoin j ps
   join_less k j [] l a = tt
   join_less k j (p ∷ ps) l a = let n = l (omega arith) in (record { space = (let x = a.0.space in omega arith); kin = a.0.kin }, join_less k j ps (λ _. n) a.1)
 
-  join_after : (k j : ℕ) (p q r : Place J) (ms : List HandKey) → j + 1 ≤ k → CanTakeBack k p → RestoresHands j p q → ReturnsHands ms q r → CanTakeBack 1 r
+  join_after : (k j : ℕ) (p q r : Place J) (ms : List HandKey) → j + 1 ≤ k → CanTakeBack k p → RestoresHands j p q → ReturnsHands ms q r
+      → CanTakeBack 1 r
   join_after k j p q r ms l c g h =
       record {
-        space = (let x = c.space in let y = g.joined.stock in let z = g.joined.space in let u = ap (λ (u : Place J). vec_len u.spare) h.rest in let v = ap (λ (u : Place J). vec_capacity u.spare) h.rest in omega arith);
+        space = (
+            let stock = ap (λ (u : Place J). vec_len u.spare) h.rest in
+            let space = ap (λ (u : Place J). vec_capacity u.spare) h.rest in
+            omega (arith, c.space, g.joined.stock, g.joined.space, stock, space));
         kin = subst (λ (u : Place J). AllByRecursion (IsThiefOf (worker_deque u.lane.owner)) u.spare.items) (sym h.rest) g.joined.kin;
       }
 
-  pub can_join_one : (k j : ℕ) (m : HandKey) (ps qs rs : List (CachePadded (Place J))) → (0 < length ps → j + 1 ≤ k) → AllJoin k ps → EachGathered j ps qs → EachReturns qs (map (λ _. m) qs) rs → AllJoin 1 rs
+  pub can_join_one : (k j : ℕ) (m : HandKey) (ps qs rs : Places J) → (0 < length ps → j + 1 ≤ k) → AllJoin k ps → EachGathered j ps qs
+      → EachReturns qs (map (λ _. m) qs) rs → AllJoin 1 rs
   can_join_one k j m [] [] [] l a g h = tt
   can_join_one k j m [] [] (r ∷ rs) l a g h = absurd (let n = ap length h.1 in omega arith)
   can_join_one k j m [] (q ∷ qs) rs l a g h = absurd (let n = ap length g.1 in omega arith)
@@ -97,15 +105,18 @@ module _ {J : Type 0} where
       let n = l (omega arith) in
       (join_after k j (padded_value p) (padded_value q) (padded_value r) (m ∷ []) n a.0 g.0 h.0, can_join_one k j m ps qs rs (λ _. n) a.1 g.1 h.1)
 
-  pub lasts : (b : List HandKey) (m : HandKey) (ps : List (CachePadded (Place J))) → AllByRecursion (λ p. keys_in p ≡ b ++ m ∷ []) ps → AllByRecursion (λ p. (front : List HandKey) × (keys_in p ≡ front ++ m ∷ [])) ps
+  pub lasts : (b : List HandKey) (m : HandKey) (ps : Places J) → AllByRecursion (λ p. keys_in p ≡ b ++ m ∷ []) ps
+      → AllByRecursion (λ p. (front : List HandKey) × (keys_in p ≡ front ++ m ∷ [])) ps
   lasts b m [] a = tt
   lasts b m (p ∷ ps) a = ((b, a.0), lasts b m ps a.1)
 
-  pub tails : (m n : HandKey) (ps : List (CachePadded (Place J))) → m ≡ n → AllByRecursion (λ p. (front : List HandKey) × (keys_in p ≡ front ++ m ∷ [])) ps → AllByRecursion (λ p. (front : List HandKey) × (keys_in p ≡ front ++ n ∷ [])) ps
+  pub tails : (m n : HandKey) (ps : Places J) → m ≡ n → AllByRecursion (λ p. (front : List HandKey) × (keys_in p ≡ front ++ m ∷ [])) ps
+      → AllByRecursion (λ p. (front : List HandKey) × (keys_in p ≡ front ++ n ∷ [])) ps
   tails m n ps e a = subst (λ x. AllByRecursion (λ p. (front : List HandKey) × (keys_in p ≡ front ++ x ∷ [])) ps) e a
 
   -- the keys of the first place, and those of the rest
-  pub first_row : (b : List HandKey) (p : CachePadded (Place J)) (ps : List (CachePadded (Place J))) → map keys_in (p ∷ ps) ≡ keys_of_others b (map key_in (p ∷ ps))
+  pub first_row : (b : List HandKey) (p : CachePadded (Place J)) (ps : Places J)
+      → map keys_in (p ∷ ps) ≡ keys_of_others b (map key_in (p ∷ ps))
       → (keys_in p ≡ b ++ map key_in ps) × (map keys_in ps ≡ keys_of_others (b ++ key_in p ∷ []) (map key_in ps))
   first_row b p ps e = (ap (λ xs. get_or xs 0 []) e, ap tail e)
     where
@@ -113,36 +124,52 @@ module _ {J : Type 0} where
       tail [] = []
       tail (x ∷ xs) = xs
 
-  pub keys_restored : (j : ℕ) (ps qs : List (CachePadded (Place J))) → EachGathered j ps qs → map key_in qs ≡ map key_in ps
+  pub keys_restored : (j : ℕ) (ps qs : Places J) → EachGathered j ps qs → map key_in qs ≡ map key_in ps
   keys_restored j [] [] e = refl
   keys_restored j [] (q ∷ qs) e = absurd (let n = ap length e.1 in omega arith)
   keys_restored j (p ∷ ps) [] e = absurd e
   keys_restored j (p ∷ ps) (q ∷ qs) e = λ i. key_joined j (padded_value p) (padded_value q) e.0.joined i ∷ keys_restored j ps qs e.1 i
 
-  pub keys_returned : (m : HandKey) (ps qs : List (CachePadded (Place J))) → EachReturns ps (map (λ _. m) ps) qs → map key_in qs ≡ map key_in ps
+  pub keys_returned : (m : HandKey) (ps qs : Places J) → EachReturns ps (map (λ _. m) ps) qs → map key_in qs ≡ map key_in ps
   keys_returned m [] [] e = refl
   keys_returned m [] (q ∷ qs) e = absurd (let n = ap length e.1 in omega arith)
   keys_returned m (p ∷ ps) [] e = absurd e
   keys_returned m (p ∷ ps) (q ∷ qs) e = λ i. ap (λ (u : Place J). hand_key u.lane) e.0.rest i ∷ keys_returned m ps qs e.1 i
 
+  -- the same of a place that only gave hands back since
+  joined_still : (k : ℕ) (p q r : Place J) → r ≡ record q { others = r.others } → TakesBackHands k p q → TakesBackHands k p r
+  joined_still k p q r same a =
+      subst (TakesBackHands k p) (sym same) (record {
+        rights = a.rights;
+        terms = a.terms;
+        bound = a.bound;
+        put = a.put;
+        more = a.more;
+        deque = a.deque;
+        stock = a.stock;
+        kin = a.kin;
+        space = a.space;
+      })
+
   pub restored_head : (k : ℕ) (ms : List HandKey) (p q r : Place J) → OnlyTakesBack k p q → ReturnsHands ms q r → RestoresHands k p r
   restored_head k ms p q r a b =
       record {
-        rest = same_rest p r (ap (λ (u : Place J). u.job) b.rest ∙ ap (λ (u : Place J). u.job) a.0) (ap (λ (u : Place J). u.queue) b.rest ∙ ap (λ (u : Place J). u.queue) a.0) (ap (λ (u : Place J). u.count) b.rest ∙ ap (λ (u : Place J). u.count) a.0);
-        joined = subst (TakesBackHands k p) (sym b.rest) (record { rights = a.1.rights; terms = a.1.terms; bound = a.1.bound; put = a.1.put; more = a.1.more; deque = a.1.deque; stock = a.1.stock; kin = a.1.kin; space = a.1.space });
+        rest = same_rest p r (ap kept_by b.rest ∙ ap kept_by a.0);
+        joined = joined_still k p q r b.rest a.1;
         space = b.space ∙ ap (λ (u : Place J). vec_capacity u.others) a.0;
       }
 
-  restored_later : (k j : ℕ) (ms : List HandKey) (p q r s : Place J) → j + 1 ≡ k → RestoresHands j p q → ReturnsHands ms q r → OnlyTakesBack 1 r s → RestoresHands k p s
+  restored_later : (k j : ℕ) (ms : List HandKey) (p q r s : Place J) → j + 1 ≡ k → RestoresHands j p q → ReturnsHands ms q r
+      → OnlyTakesBack 1 r s → RestoresHands k p s
   restored_later k j ms p q r s l a b c =
-      let mid : TakesBackHands j p r = subst (TakesBackHands j p) (sym b.rest) (record { rights = a.joined.rights; terms = a.joined.terms; bound = a.joined.bound; put = a.joined.put; more = a.joined.more; deque = a.joined.deque; stock = a.joined.stock; kin = a.joined.kin; space = a.joined.space }) in
       record {
-        rest = same_rest p s (ap (λ (u : Place J). u.job) c.0 ∙ (ap (λ (u : Place J). u.job) b.rest ∙ ap (λ (u : Place J). u.job) a.rest)) (ap (λ (u : Place J). u.queue) c.0 ∙ (ap (λ (u : Place J). u.queue) b.rest ∙ ap (λ (u : Place J). u.queue) a.rest)) (ap (λ (u : Place J). u.count) c.0 ∙ (ap (λ (u : Place J). u.count) b.rest ∙ ap (λ (u : Place J). u.count) a.rest));
-        joined = subst (λ n. TakesBackHands n p s) l (joined_on j 1 p r s mid c.1);
+        rest = same_rest p s (ap kept_by c.0 ∙ (ap kept_by b.rest ∙ ap kept_by a.rest));
+        joined = subst (λ n. TakesBackHands n p s) l (joined_on j 1 p r s (joined_still j p q r b.rest a.joined) c.1);
         space = ap (λ (u : Place J). vec_capacity u.others) c.0 ∙ (b.space ∙ a.space);
       }
 
-  pub restored_rest : (k j : ℕ) (m : HandKey) (ps qs rs ss : List (CachePadded (Place J))) → (0 < length ps → j + 1 ≡ k) → EachGathered j ps qs → EachReturns qs (map (λ _. m) qs) rs → EachJoins rs ss → EachGathered k ps ss
+  pub restored_rest : (k j : ℕ) (m : HandKey) (ps qs rs ss : Places J) → (0 < length ps → j + 1 ≡ k) → EachGathered j ps qs
+      → EachReturns qs (map (λ _. m) qs) rs → EachJoins rs ss → EachGathered k ps ss
   restored_rest k j m [] [] [] ss l a b c = (refl, c.1)
   restored_rest k j m [] [] (r ∷ rs) ss l a b c = absurd (let n = ap length b.1 in omega arith)
   restored_rest k j m [] (q ∷ qs) rs ss l a b c = absurd (let n = ap length a.1 in omega arith)
@@ -154,7 +181,8 @@ module _ {J : Type 0} where
       (restored_later k j (m ∷ []) (padded_value p) (padded_value q) (padded_value r) (padded_value s) n a.0 b.0 c.0, restored_rest k j m ps qs rs ss (λ _. n) a.1 b.1 c.1)
 
   -- each place has one key less
-  pub rows_returned : (b : List HandKey) (m : HandKey) (qs rs ss : List (CachePadded (Place J))) → AllByRecursion (λ q. keys_in q ≡ b ++ m ∷ []) qs → EachReturns qs (map (λ _. m) qs) rs → EachJoins rs ss → AllByRecursion (λ q. keys_in q ≡ b) ss
+  pub rows_returned : (b : List HandKey) (m : HandKey) (qs rs ss : Places J) → AllByRecursion (λ q. keys_in q ≡ b ++ m ∷ []) qs
+      → EachReturns qs (map (λ _. m) qs) rs → EachJoins rs ss → AllByRecursion (λ q. keys_in q ≡ b) ss
   rows_returned b m [] [] [] a e f = tt
   rows_returned b m [] [] (s ∷ ss) a e f = absurd (let n = ap length f.1 in omega arith)
   rows_returned b m [] (r ∷ rs) ss a e f = absurd (let n = ap length e.1 in omega arith)
@@ -163,7 +191,7 @@ module _ {J : Type 0} where
   rows_returned b m (q ∷ qs) (r ∷ rs) (s ∷ ss) a e f = (ap keys_of f.0.0 ∙ append_cancel_right (keys_in r) b (m ∷ []) (sym e.0.left ∙ a.0), rows_returned b m qs rs ss a.1 e.1 f.1)
 
   -- what the hands took is counted at the owners, as they go back
-  pub took_returned : (h : Task → ℕ) (m : HandKey) (qs rs ss : List (CachePadded (Place J))) → EachReturns qs (map (λ _. m) qs) rs → EachJoins rs ss
+  pub took_returned : (h : Task → ℕ) (m : HandKey) (qs rs ss : Places J) → EachReturns qs (map (λ _. m) qs) rs → EachJoins rs ss
       → (total (own_took h) rs ≡ total (own_took h) qs) × (total (others_took h) ss ≡ total (others_took h) rs)
   took_returned h m [] [] [] e f = (refl, refl)
   took_returned h m [] [] (s ∷ ss) e f = absurd (let n = ap length f.1 in omega arith)
@@ -178,18 +206,22 @@ module _ {J : Type 0} where
       let y = t.1 in
       (omega arith, omega arith)
 
-  pub total_all : (h : Task → ℕ) (ps : List (CachePadded (Place J))) → total (all_took h) ps ≡ total (own_took h) ps + total (others_took h) ps
+  pub total_all : (h : Task → ℕ) (ps : Places J) → total (all_took h) ps ≡ total (own_took h) ps + total (others_took h) ps
   total_all h [] = refl
   total_all h (p ∷ ps) = let t = total_all h ps in omega arith
 
   -- one hand goes back to its owner
-  pub join_one : (p q : Place J) (r : Victim) → victim_key r ≡ hand_key p.lane → own_hand q.lane ≡ joined_hand (own_hand p.lane) (view r.pass) → (own_hand p.lane).owner ≡ true → worker_deque q.lane.owner ≡ worker_deque p.lane.owner
-      → q.spare.items ≡ p.spare.items ++ r.thief ∷ [] → vec_len q.spare ≡ vec_len p.spare + 1 → vec_capacity q.spare ≡ vec_capacity p.spare → CanTakeBack 1 p → TakesBackHands 1 p q
+  pub join_one : (p q : Place J) (r : Victim) → victim_key r ≡ hand_key p.lane
+      → own_hand q.lane ≡ joined_hand (own_hand p.lane) (view r.pass) → (own_hand p.lane).owner ≡ true
+      → worker_deque q.lane.owner ≡ worker_deque p.lane.owner → q.spare.items ≡ p.spare.items ++ r.thief ∷ []
+      → vec_len q.spare ≡ vec_len p.spare + 1 → vec_capacity q.spare ≡ vec_capacity p.spare → CanTakeBack 1 p → TakesBackHands 1 p q
   join_one p q r at view-is owns deque items len space can =
       let v : Hand = view r.pass in
       let one : v.rights ≡ 1 = ap (λ (m : HandKey). m.1.rights) at in
       let none : v.put ≡ [] = ap (λ (m : HandKey). m.1.put) at in
       let thief : stealer_deque r.thief ≡ worker_deque p.lane.owner = ap (λ (m : HandKey). m.0) at in
+      let IsKin = IsThiefOf (worker_deque p.lane.owner) in
+      let kin = all-snoc IsKin p.spare.items r.thief can.kin (thief, r.fifo) in
       record {
         rights = (let e = ap (λ (u : Hand). u.rights) view-is in omega arith);
         terms = ap (λ (u : Hand). u.fit) view-is;
@@ -198,6 +230,6 @@ module _ {J : Type 0} where
         more = λ h. (let e = ap (λ (u : Hand). total h u.took) view-is in let w = total-append h (own_hand p.lane).took v.took in omega arith);
         deque = deque;
         stock = len;
-        kin = subst (λ d. AllByRecursion (IsThiefOf d) q.spare.items) (sym deque) (subst (λ xs. AllByRecursion (IsThiefOf (worker_deque p.lane.owner)) xs) (sym items) (all-snoc (IsThiefOf (worker_deque p.lane.owner)) p.spare.items r.thief can.kin (thief, r.fifo)));
+        kin = subst (λ d. AllByRecursion (IsThiefOf d) q.spare.items) (sym deque) (subst (AllByRecursion IsKin) (sym items) kin);
         space = space;
       }

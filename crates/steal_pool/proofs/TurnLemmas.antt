@@ -57,13 +57,15 @@ offers_fit a b o f =
     subst (λ fit. AllFit fit b.queue.tasks) (sym same) (all-front (Contains (own_hand a.lane).fit) o.moved b.queue.tasks (subst (AllFit (own_hand a.lane).fit) o.tasks f)).1
 
 -- what was offered is what the queue lost and the deque got
-offers_sum : (a b : Sources) → Offers a b → (h : Task → ℕ) → total h (own_hand b.lane).put + total h b.queue.tasks ≡ total h (own_hand a.lane).put + total h a.queue.tasks
+offers_sum : (a b : Sources) → Offers a b → (h : Task → ℕ)
+    → total h (own_hand b.lane).put + total h b.queue.tasks ≡ total h (own_hand a.lane).put + total h a.queue.tasks
 offers_sum a b o h =
     let p = ap (λ (v : Hand). total h v.put) o.hand ∙ total-append h (own_hand a.lane).put o.moved in
     let q = ap (total h) o.tasks ∙ total-append h o.moved b.queue.tasks in
     omega arith
 
-pub offers_bound : (a b : Sources) → Offers a b → total one (own_hand a.lane).put + total one a.queue.tasks ≤ (own_hand a.lane).bound → total one (own_hand b.lane).put + total one b.queue.tasks ≤ (own_hand b.lane).bound
+pub offers_bound : (a b : Sources) → Offers a b → total one (own_hand a.lane).put + total one a.queue.tasks ≤ (own_hand a.lane).bound
+    → total one (own_hand b.lane).put + total one b.queue.tasks ≤ (own_hand b.lane).bound
 offers_bound a b o l =
     let s = offers_sum a b o one in
     let e : (own_hand b.lane).bound ≡ (own_hand a.lane).bound = ap (λ (v : Hand). v.bound) o.hand in
@@ -188,7 +190,8 @@ module _ {J S : Type 0} (M : Meaning J S) (s : S) where
     pub same_fit : M.fit k s ≡ M.fit j s
     pub turns : M.turns j ≤ M.turns k + 1
 
-  pub done_can : (j k : J) (a b : Sources) (t : Task) (q : Waiting) → CanWork M s j a → FindsTask a t b → DoesTask j b t k q → CanWork M s k (sources q b.lane b.others)
+  pub done_can : (j k : J) (a b : Sources) (t : Task) (q : Waiting) → CanWork M s j a → FindsTask a t b → DoesTask j b t k q
+      → CanWork M s k (sources q b.lane b.others)
   done_can j k a b t q c f d =
       let put : total one (own_hand b.lane).put ≡ total one (own_hand a.lane).put = ap (λ (v : Hand). total one v.put) f.hand in
       let bound : (own_hand b.lane).bound ≡ (own_hand a.lane).bound = ap (λ (v : Hand). v.bound) f.hand in
@@ -217,7 +220,8 @@ module _ {J S : Type 0} (M : Meaning J S) (s : S) where
         turns = omega arith;
       }
 
-  pub done_went : (j k : J) (a b : Sources) (t : Task) (q : Waiting) → CanWork M s j a → FindsTask a t b → DoesTask j b t k q → Advances M s (j, a) (k, sources q b.lane b.others)
+  pub done_went : (j k : J) (a b : Sources) (t : Task) (q : Waiting) → CanWork M s j a → FindsTask a t b → DoesTask j b t k q
+      → Advances M s (j, a) (k, sources q b.lane b.others)
   done_went j k a b t q c f d =
       record {
         done = t ∷ [];

@@ -9,7 +9,8 @@ use Rattle.steal_pool.specs.Steps.{Takes}
 use Rattle.steal_pool.specs.Victims.{IsUntouched, StealsFrom, AreUntouched, StealsFromOne, total_took}
 use Rattle.heap_base.proofs.Counting.{total-append}
 
-pub either_way : {X : Type 0} (P P' : Type 0) (Q Q' : X → Type 0) (o : Option X) → (P → P') → ((t : X) → Q t → Q' t) → MatchOption o P Q → MatchOption o P' Q'
+pub either_way : {X : Type 0} (P P' : Type 0) (Q Q' : X → Type 0) (o : Option X) → (P → P') → ((t : X) → Q t → Q' t) → MatchOption o P Q
+    → MatchOption o P' Q'
 either_way P P' Q Q' None f g m = f m
 either_way P P' Q Q' (Some x) f g m = g x m
 
@@ -23,14 +24,16 @@ twice r s t a b = (b.0 ∙ a.0, b.1 ∙ a.1)
 later_stolen : (r s u : Victim) (t : Task) → IsUntouched r s → StealsFrom s t u → StealsFrom r t u
 later_stolen r s u t a b = (b.0 ∙ a.0, subst (λ (v : Hand). Takes v (t ∷ []) (view u.pass)) a.1 b.1)
 
-pub tried_none : (rs ss : List Victim) (i : ℕ) (d s : Victim) → AreUntouched rs ss → i < length ss → IsUntouched (get_or ss i d) s → AreUntouched rs (set ss i s)
+pub tried_none : (rs ss : List Victim) (i : ℕ) (d s : Victim) → AreUntouched rs ss → i < length ss → IsUntouched (get_or ss i d) s
+    → AreUntouched rs (set ss i s)
 tried_none [] [] i d s a h u = absurd (omega arith)
 tried_none [] (q ∷ ss) i d s a h u = absurd a
 tried_none (r ∷ rs) [] i d s a h u = absurd a
 tried_none (r ∷ rs) (q ∷ ss) zero d s a h u = (twice r q s a.0 u, a.1)
 tried_none (r ∷ rs) (q ∷ ss) (suc i) d s a h u = (a.0, tried_none rs ss i d s a.1 (omega arith) u)
 
-pub tried_some : (rs ss : List Victim) (i : ℕ) (d s : Victim) (t : Task) → AreUntouched rs ss → i < length ss → StealsFrom (get_or ss i d) t s → StealsFromOne rs t (set ss i s)
+pub tried_some : (rs ss : List Victim) (i : ℕ) (d s : Victim) (t : Task) → AreUntouched rs ss → i < length ss
+    → StealsFrom (get_or ss i d) t s → StealsFromOne rs t (set ss i s)
 tried_some [] [] i d s t a h u = absurd (omega arith)
 tried_some [] (q ∷ ss) i d s t a h u = absurd a
 tried_some (r ∷ rs) [] i d s t a h u = absurd a

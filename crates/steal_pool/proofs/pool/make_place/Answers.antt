@@ -14,5 +14,7 @@ loop-preserved g c =
     record {
       len = omega arith;
       space = c.push_reserved.ensures.capacity ∙ k.space;
-      kin = subst (All P) (sym c.push_reserved.ensures.items) (All-push P c.loop.spare.items c.in_ok-stealer.field-0 k.kin (c.in_ok-stealer.ensures.0, c.in_ok-stealer.ensures.1 ∙ c.in_ok-owner.ensures.fifo));
+      kin =
+          subst (All P) (sym c.push_reserved.ensures.items)
+          (All-push P c.loop.spare.items c.in_ok-stealer.field-0 k.kin (c.in_ok-stealer.ensures.0, c.in_ok-stealer.ensures.1 ∙ c.in_ok-owner.ensures.fifo));
     }

@@ -2,18 +2,22 @@ use Rattle.std.proofs.Common.{◌++◌, [], ◌∷◌, slice_index_or, sym, ◌�
 use Rattle.crossbeam_utils.specs.Padded.{padded_value, padded_with_value}
 use Rattle.steal_pool.specs.Lists.{Each}
 use Rattle.steal_pool.specs.Seats.{GivesJob}
-use Rattle.steal_pool.proofs.LoanLemmas.{headed}
+use Rattle.steal_pool.proofs.LoanLemmas.{IsSplit, headed}
 use Rattle.steal_pool.proofs.seating.+unseat_jobs.Goals as goal
 
 pub returns-in-Some : goal.returns-in-Some
 returns-in-Some g t c =
     let s = c.split_at_mut-head in
-    let rest = s.result.1.now in
+    let split : IsSplit c.args.places.now s.result.0.now s.result.1.now = record { whole = s.ensures.value; one = s.ensures.front_len } in
     let x = slice_index_or s.result.0.now 0 c.index-head-0.result in
     let b = c.unseat_jobs.ensures in
-    let job = c.in-Some.job in (
+    let job = c.in-Some.job in
+    let first = padded_with_value x (record c.deref_mut-first.result.now { job = c.take.new.self }) in
+    let had = ap (λ u. u.job) (sym c.deref_mut-first.ensures.value) ∙ (sym c.take.ensures.value ∙ c.in-Some.is) in
+    let gave : GivesJob (padded_value x) job (padded_value first) =
+    (had, (λ i. record (c.deref_mut-first.ensures.value i) { job = c.take.ensures.after i })) in (
       job ∷ b.0,
       b.1 ∙ (ap (λ xs. xs ++ b.0) c.push_reserved.ensures.items ∙ append_assoc c.args.jobs.now.items (job ∷ []) b.0),
-      headed (λ xs ys. Each (λ p j q. GivesJob (padded_value p) j (padded_value q)) xs (job ∷ b.0) ys) c.args.places.now s.result.0.now rest c.index-head-0.result (padded_with_value x (record c.deref_mut-first.result.now { job = c.take.new.self })) c.unseat_jobs.new.places s.ensures.value s.ensures.front_len
-          ((ap (λ u. u.job) (sym c.deref_mut-first.ensures.value) ∙ (sym c.take.ensures.value ∙ c.in-Some.is), (λ i. record (c.deref_mut-first.ensures.value i) { job = c.take.ensures.after i })), b.2),
+      headed (λ xs ys. Each (λ p j q. GivesJob (padded_value p) j (padded_value q)) xs (job ∷ b.0) ys) split c.index-head-0.result first
+          c.unseat_jobs.new.places (gave, b.2),
     )

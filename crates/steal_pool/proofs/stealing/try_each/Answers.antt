@@ -15,4 +15,5 @@ pub returns-in-Some : goal.returns-in-Some
 returns-in-Some c =
     let same = c.loop-other.auto.others in
     let here = c.loop-other-test.true in
-    tried_some c.args.others.now c.loop-other.others c.loop-other.other-index c.other-item.result c.steal.new.self c.in-Some.task c.loop-other.invariant (omega arith) c.in-Some.ensures
+    tried_some c.args.others.now c.loop-other.others c.loop-other.other-index c.other-item.result c.steal.new.self c.in-Some.task
+    c.loop-other.invariant (omega arith) c.in-Some.ensures

@@ -16,7 +16,8 @@ returns-in-None c =
     let q = c.split_at_mut-before.result.1.now in
     let p' : List Victim = c.try_each-in-None.new.others in
     let q' : List Victim = c.try_each.new.others in
-    either_way (AreUntouched p p') (AreUntouched c.args.others.now (p' ++ q')) (λ t. StealsFromOne p t p') (λ t. StealsFromOne c.args.others.now t (p' ++ q')) c.try_each-in-None.result
+    either_way (AreUntouched p p') (AreUntouched c.args.others.now (p' ++ q')) (λ t. StealsFromOne p t p')
+    (λ t. StealsFromOne c.args.others.now t (p' ++ q')) c.try_each-in-None.result
     (λ a. subst (λ (xs : List Victim). AreUntouched xs (p' ++ q')) (sym c.split_at_mut-before.ensures.value) (untouched_append p p' q q' a c.in-None.ensures))
     (λ t a. subst (λ (xs : List Victim). StealsFromOne xs t (p' ++ q')) (sym c.split_at_mut-before.ensures.value) (gave_front p p' q q' t a c.in-None.ensures))
     c.try_each-in-None.ensures

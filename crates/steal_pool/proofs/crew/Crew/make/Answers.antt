@@ -10,10 +10,13 @@ loop-preserved g c =
     let k = c.loop.invariant in
     let a = k.len in
     let b = c.push_reserved.ensures.len in
+    let last = subst (IsAtRest c.args.workers c.args.room) (sym c.new.ensures) c.in_ok-make_place.ensures in
     record {
       len = omega arith;
       space = c.push_reserved.ensures.capacity ∙ k.space;
-      rest = subst (All (λ p. IsAtRest c.args.workers c.args.room (padded_value p))) (sym c.push_reserved.ensures.items) (All-push (λ p. IsAtRest c.args.workers c.args.room (padded_value p)) c.loop.places.items c.new.result k.rest (subst (IsAtRest c.args.workers c.args.room) (sym c.new.ensures) c.in_ok-make_place.ensures));
+      rest =
+          subst (All (λ p. IsAtRest c.args.workers c.args.room (padded_value p))) (sym c.push_reserved.ensures.items)
+          (All-push (λ p. IsAtRest c.args.workers c.args.room (padded_value p)) c.loop.places.items c.new.result k.rest last);
     }
 
 pub invariant_of-result-clause-rest : goal.invariant_of-result-clause-rest

@@ -5,7 +5,8 @@ use Rattle.heap_base.specs.declared.task.Task.{Task}
 use Rattle.steal_pool.specs.FirstLists.{FirstLists}
 use Rattle.steal_pool.proofs.first_tasks.FirstTasks.add.Goals as goal
 
-list_at : (xs : List (Vec Task)) (i : ℕ) (d : Vec Task) → i < length (map (λ (v : Vec Task). v.items) xs) → get_or (map (λ (v : Vec Task). v.items) xs) i [] ≡ (let w : Vec Task = get_or xs i d in w.items)
+list_at : (xs : List (Vec Task)) (i : ℕ) (d : Vec Task) → i < length (map (λ (v : Vec Task). v.items) xs)
+    → get_or (map (λ (v : Vec Task). v.items) xs) i [] ≡ (let w : Vec Task = get_or xs i d in w.items)
 list_at [] i d l = absurd (omega arith)
 list_at (x ∷ xs) zero d l = refl
 list_at (x ∷ xs) (suc i) d l = list_at xs i d (omega arith)
@@ -16,7 +17,9 @@ returns-clause-lists c =
     let i = c.args.worker in
     let is : map (λ (v : Vec Task). v.items) xs ≡ c.args.self.now.lists = ap (λ (f : FirstLists). f.lists) c.self.view_is in
     let here = subst (λ (fs : List (List Task)). i < length fs) (sym is) c.requires.worker in
-    let at = ap (λ (fs : List (List Task)). slice_index_or fs i []) (sym is) ∙ (list_at xs i c.index_mut.result.now here ∙ ap (λ (v : Vec Task). v.items) (sym c.index_mut.ensures.value)) in
+    let at =
+    ap (λ (fs : List (List Task)). slice_index_or fs i []) (sym is)
+    ∙ (list_at xs i c.index_mut.result.now here ∙ ap (λ (v : Vec Task). v.items) (sym c.index_mut.ensures.value)) in
     map-set (λ (v : Vec Task). v.items) xs i c.push_reserved.new.self
     ∙ (ap (λ (fs : List (List Task)). slice_set fs i c.push_reserved.new.self.items) is
     ∙ ap (slice_set c.args.self.now.lists i) (c.push_reserved.ensures.items ∙ ap (λ (ys : List Task). ys ++ c.args.task ∷ []) (sym at)))

@@ -9,7 +9,8 @@ items_length : (xs : List (Vec Task)) → length (map (λ (v : Vec Task). v.item
 items_length [] = refl
 items_length (x ∷ xs) = let e = items_length xs in omega arith
 
-all_empty : (xs : List (Vec Task)) → ((k : ℕ) (d : Vec Task) → k < length xs → (let w : Vec Task = get_or xs k d in w.items) ≡ []) → map (λ (v : Vec Task). v.items) xs ≡ replicate (length xs) []
+all_empty : (xs : List (Vec Task)) → ((k : ℕ) (d : Vec Task) → k < length xs → (let w : Vec Task = get_or xs k d in w.items) ≡ [])
+    → map (λ (v : Vec Task). v.items) xs ≡ replicate (length xs) []
 all_empty [] h = refl
 all_empty (x ∷ xs) h = λ i. h 0 x (omega arith) i ∷ all_empty xs (λ k d l. h (suc k) d (omega arith)) i
 

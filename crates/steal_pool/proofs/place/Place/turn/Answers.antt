@@ -1,99 +1,114 @@
-use Rattle.std.proofs.Common.{List, length, drop, refl, sym, ◌∙◌, subst, arith}
+use Rattle.std.proofs.Common.{◌≡◌, List, length, drop, Some, rules, refl, sym, ◌∙◌, subst, arith}
+use Rattle.std.specs.Global.{Vec}
 use Rattle.std.specs.Vec.{with_items}
+use Rattle.steal_pool.specs.declared.lane.Lane.{Lane}
+use Rattle.steal_pool.specs.declared.place.Place.{Place}
 use Rattle.steal_pool.specs.declared.victim.Victim.{Victim}
 use Rattle.steal_pool.specs.Jobs.{AllFit}
+use Rattle.steal_pool.specs.Queues.{Waiting}
 use Rattle.steal_pool.specs.Searches.{sources, FindsTask}
-use Rattle.steal_pool.specs.Workers.{sources_of}
 use Rattle.steal_pool.proofs.ListLemmas.{take_front}
-use Rattle.steal_pool.proofs.PlaceTurns.{offers_none, can_at, none_ends, none_fewer, did_ends, did_few, did_fewer}
-use Rattle.steal_pool.proofs.TurnLemmas.{turn_left, done_can}
+use Rattle.steal_pool.proofs.PlaceTurns.{offers_none, with_others, finds_none, HasRested, none_ends, none_fewer, HasFound, has_turn, can_do, HasOffered, did_ends, did_few, did_fewer}
+use Rattle.steal_pool.proofs.TurnLemmas.{DoesTask}
+use Rattle.steal_pool.proofs.place.Place.turn.Given as given
 use Rattle.steal_pool.proofs.place.Place.turn.Goals as goal
+use Rattle.steal_pool.proofs.place.Place.turn.Goals.{In_default-find_task, In-Some-find_task, After-work}
+
+items_are : (o : Vec Victim) (ss : List Victim) → length ss ≡ o.len → (with_items o ss).items ≡ ss
+items_are o ss same = take_front o.len ss (drop (length ss) o.items) same
+
+module _ (g : given.Over) where
+  -- a task was found among the sources of the place
+  found : (c : In-Some-find_task g)
+      → HasFound g.J.Job.meaning c.args.shared.now c.args.self.now c.in-Some.job c.in-Some-find_task.task
+      (sources c.find_task.new.queue c.find_task.new.lane c.find_task.new.others)
+  found c =
+      let p = c.args.self.now in
+      let after = sources c.find_task.new.queue c.find_task.new.lane c.find_task.new.others in
+      record {
+        is = c.in-Some.is;
+        can = c.requires.can;
+        few = c.requires.few;
+        finds =
+            subst (λ us. FindsTask (sources p.queue p.lane us) c.in-Some-find_task.task after) c.as_mut_slice-others.ensures.value
+            c.in-Some-find_task.ensures;
+      }
+
+  -- the job did it
+  did : (c : After-work g)
+      → DoesTask g.J.Job.meaning c.args.shared.now c.in-Some.job (sources c.find_task.new.queue c.find_task.new.lane c.find_task.new.others)
+      c.in-Some-find_task.task c.work.new.job c.work.new.self
+  did c =
+      let w = c.work.ensures in
+      record { puts = w.puts; spare = w.spare; room = w.room; ready = w.ready; same_fit = w.fit; turns = w.turns }
+
+  -- no task was found
+  rested : (c : In_default-find_task g)
+      → HasRested g.J.Job.meaning c.args.shared.now c.args.self.now
+      (record c.args.self.now {
+        job = Some c.in-Some.job;
+        queue = c.find_task.new.queue;
+        lane = c.find_task.new.lane;
+        others = with_items c.args.self.now.others c.find_task.new.others;
+      })
+  rested c =
+      let p = c.args.self.now in
+      let ss = c.find_task.new.others in
+      let items = items_are p.others ss (c.find_task.auto.others ∙ c.as_mut_slice-others.ensures.len) in
+      record {
+        can = c.requires.can;
+        job = sym c.in-Some.is;
+        none = finds_none c.as_mut_slice-others.ensures.value items c.in_default-find_task.ensures;
+        spare = refl;
+        space = refl;
+      }
 
 pub returns-in_default-find_task-clause-went : goal.returns-in_default-find_task-clause-went
-returns-in_default-find_task-clause-went g c =
-    let p = c.args.self.now in
-    let ss = c.find_task.new.others in
-    let at = take_front p.others.len ss (drop (length ss) p.others.items) (c.find_task.auto.others ∙ c.as_mut_slice-others.ensures.len) in
-    none_ends g.J.Job.meaning c.args.shared.now p c.in-Some.job c.in-Some.is c.as_mut_slice-others.result.now ss c.as_mut_slice-others.ensures.value c.find_task.new.queue c.find_task.new.lane (with_items p.others ss) at c.in_default-find_task.ensures c.requires.can refl
+returns-in_default-find_task-clause-went g c = none_ends _ _ _ _ (rested g c)
 
 pub returns-in_default-find_task-clause-fewer : goal.returns-in_default-find_task-clause-fewer
-returns-in_default-find_task-clause-fewer g c =
-    let p = c.args.self.now in
-    let ss = c.find_task.new.others in
-    let at = take_front p.others.len ss (drop (length ss) p.others.items) (c.find_task.auto.others ∙ c.as_mut_slice-others.ensures.len) in
-    none_fewer g.J.Job.meaning c.args.shared.now p c.in-Some.job c.in-Some.is c.as_mut_slice-others.result.now ss c.as_mut_slice-others.ensures.value c.find_task.new.queue c.find_task.new.lane (with_items p.others ss) at c.in_default-find_task.ensures
+returns-in_default-find_task-clause-fewer g c = none_fewer _ _ _ _ (rested g c)
 
 pub work-requires-clause-turns : goal.work-requires-clause-turns
-work-requires-clause-turns g c κs within =
-    let p = c.args.self.now in
-    let found = subst (λ (us : List Victim). FindsTask (sources p.queue p.lane us) c.in-Some-find_task.task (sources c.find_task.new.queue c.find_task.new.lane c.find_task.new.others)) c.as_mut_slice-others.ensures.value c.in-Some-find_task.ensures in
-    turn_left g.J.Job.meaning c.args.shared.now c.in-Some.job (sources_of p) _ c.in-Some-find_task.task (can_at g.J.Job.meaning c.args.shared.now p c.in-Some.job c.requires.can c.in-Some.is) c.requires.few found
+work-requires-clause-turns g c κs within = has_turn _ _ (found g (goal.at.work-requires-clause-turns g c).In-Some-find_task)
 
 pub offer-requires-clause-fit : goal.offer-requires-clause-fit
 offer-requires-clause-fit g c =
-    let p = c.args.self.now in
-    let w = c.work.ensures in
-    let found = subst (λ (us : List Victim). FindsTask (sources p.queue p.lane us) c.in-Some-find_task.task (sources c.find_task.new.queue c.find_task.new.lane c.find_task.new.others)) c.as_mut_slice-others.ensures.value c.in-Some-find_task.ensures in
-    let can = done_can g.J.Job.meaning c.args.shared.now c.in-Some.job c.work.new.job (sources_of p) _ c.in-Some-find_task.task c.work.new.self (can_at g.J.Job.meaning c.args.shared.now p c.in-Some.job c.requires.can c.in-Some.is) found
-    (record { puts = w.puts; spare = w.spare; room = w.room; ready = w.ready; same_fit = w.fit; turns = w.turns }) in
+    let at = goal.at.offer-requires-clause-fit g c in
+    let can = can_do _ _ (found g at.In-Some-find_task) (did g at.After-work) in
     subst (λ fit. AllFit fit c.work.new.self.tasks) (sym can.terms) can.waiting
 
 pub offer-requires-clause-bound : goal.offer-requires-clause-bound
 offer-requires-clause-bound g c =
-    let p = c.args.self.now in
-    let w = c.work.ensures in
-    let found = subst (λ (us : List Victim). FindsTask (sources p.queue p.lane us) c.in-Some-find_task.task (sources c.find_task.new.queue c.find_task.new.lane c.find_task.new.others)) c.as_mut_slice-others.ensures.value c.in-Some-find_task.ensures in
-    let can = done_can g.J.Job.meaning c.args.shared.now c.in-Some.job c.work.new.job (sources_of p) _ c.in-Some-find_task.task c.work.new.self (can_at g.J.Job.meaning c.args.shared.now p c.in-Some.job c.requires.can c.in-Some.is) found
-    (record { puts = w.puts; spare = w.spare; room = w.room; ready = w.ready; same_fit = w.fit; turns = w.turns }) in
-    let bound = can.bound in
-    omega arith
+    let at = goal.at.offer-requires-clause-bound g c in
+    omega (arith, (can_do _ _ (found g at.In-Some-find_task) (did g at.After-work)).bound)
 
-pub returns-then-not-is_empty-clause-went : goal.returns-then-not-is_empty-clause-went
-returns-then-not-is_empty-clause-went g c =
-    let p = c.args.self.now in
-    let w = c.work.ensures in
-    let ss = c.find_task.new.others in
-    let at = take_front p.others.len ss (drop (length ss) p.others.items) (c.find_task.auto.others ∙ c.as_mut_slice-others.ensures.len) in
-    did_ends g.J.Job.meaning c.args.shared.now p c.in-Some.job c.work.new.job c.in-Some.is c.as_mut_slice-others.result.now ss c.as_mut_slice-others.ensures.value
-    c.find_task.new.queue c.work.new.self c.offer.new.queue c.find_task.new.lane c.offer.new.lane (with_items p.others ss) at c.in-Some-find_task.task c.begin.new.self c.requires.can c.requires.few c.in-Some-find_task.ensures
-    (record { puts = w.puts; spare = w.spare; room = w.room; ready = w.ready; same_fit = w.fit; turns = w.turns }) c.offer.ensures refl
+-- the list of the others after the search, as it stands in the place
+module _ (g : given.Over) (c : After-work g) where
+  abbrev others : Vec Victim
+  others = with_items c.args.self.now.others c.find_task.new.others
 
-pub returns-then-not-is_empty-clause-few : goal.returns-then-not-is_empty-clause-few
-returns-then-not-is_empty-clause-few g c =
-    let p = c.args.self.now in
-    let w = c.work.ensures in
-    let ss = c.find_task.new.others in
-    let at = take_front p.others.len ss (drop (length ss) p.others.items) (c.find_task.auto.others ∙ c.as_mut_slice-others.ensures.len) in
-    did_few g.J.Job.meaning c.args.shared.now p c.in-Some.job c.work.new.job c.in-Some.is c.as_mut_slice-others.result.now ss c.as_mut_slice-others.ensures.value
-    c.find_task.new.queue c.work.new.self c.offer.new.queue c.find_task.new.lane c.offer.new.lane (with_items p.others ss) at c.in-Some-find_task.task c.begin.new.self c.requires.can c.requires.few c.in-Some-find_task.ensures
-    (record { puts = w.puts; spare = w.spare; room = w.room; ready = w.ready; same_fit = w.fit; turns = w.turns }) c.offer.ensures
+  others_are : others.items ≡ c.find_task.new.others
+  others_are = items_are c.args.self.now.others c.find_task.new.others (c.find_task.auto.others ∙ c.as_mut_slice-others.ensures.len)
 
-pub returns-then-not-is_empty-clause-fewer : goal.returns-then-not-is_empty-clause-fewer
-returns-then-not-is_empty-clause-fewer g c =
-    let p = c.args.self.now in
-    let w = c.work.ensures in
-    let ss = c.find_task.new.others in
-    let at = take_front p.others.len ss (drop (length ss) p.others.items) (c.find_task.auto.others ∙ c.as_mut_slice-others.ensures.len) in
-    did_fewer g.J.Job.meaning c.args.shared.now p c.in-Some.job c.work.new.job c.in-Some.is c.as_mut_slice-others.result.now ss c.as_mut_slice-others.ensures.value
-    c.find_task.new.queue c.work.new.self c.offer.new.queue c.find_task.new.lane c.offer.new.lane (with_items p.others ss) at c.in-Some-find_task.task c.begin.new.self c.requires.can c.requires.few c.in-Some-find_task.ensures
-    (record { puts = w.puts; spare = w.spare; room = w.room; ready = w.ready; same_fit = w.fit; turns = w.turns }) c.offer.ensures
+  -- a turn that did the task, where the tasks were offered with this queue and this lane
+  abbrev left : Waiting → Lane → Place g.row.J.Denot
+  left queue lane = record c.args.self.now { job = Some c.work.new.job; queue = queue; lane = lane; others = others; count = c.begin.new.self }
 
-pub returns-else-not-is_empty-clause-went : goal.returns-else-not-is_empty-clause-went
-returns-else-not-is_empty-clause-went g c =
-    let p = c.args.self.now in
-    let w = c.work.ensures in
-    let ss = c.find_task.new.others in
-    let at = take_front p.others.len ss (drop (length ss) p.others.items) (c.find_task.auto.others ∙ c.as_mut_slice-others.ensures.len) in
-    did_ends g.J.Job.meaning c.args.shared.now p c.in-Some.job c.work.new.job c.in-Some.is c.as_mut_slice-others.result.now ss c.as_mut_slice-others.ensures.value
-    c.find_task.new.queue c.work.new.self c.work.new.self c.find_task.new.lane c.find_task.new.lane (with_items p.others ss) at c.in-Some-find_task.task c.begin.new.self c.requires.can c.requires.few c.in-Some-find_task.ensures
-    (record { puts = w.puts; spare = w.spare; room = w.room; ready = w.ready; same_fit = w.fit; turns = w.turns }) (offers_none _) refl
+pub returns-then-not-is_empty : goal.returns-then-not-is_empty
+returns-then-not-is_empty g c =
+    let at = goal.at.returns-then-not-is_empty g c in
+    let turn = found g at.In-Some-find_task in
+    let done = did g at.After-work in
+    let offered : HasOffered _ _ turn done (left g at.After-work c.offer.new.queue c.offer.new.lane) =
+    record { is = refl; offers = with_others (others_are g at.After-work) c.offer.ensures; spare = refl; space = refl } in
+    record { went = did_ends _ _ turn done offered; few = did_few _ _ turn done offered; fewer = did_fewer _ _ turn done offered; none = search rules }
 
-pub returns-else-not-is_empty-clause-fewer : goal.returns-else-not-is_empty-clause-fewer
-returns-else-not-is_empty-clause-fewer g c =
-    let p = c.args.self.now in
-    let w = c.work.ensures in
-    let ss = c.find_task.new.others in
-    let at = take_front p.others.len ss (drop (length ss) p.others.items) (c.find_task.auto.others ∙ c.as_mut_slice-others.ensures.len) in
-    did_fewer g.J.Job.meaning c.args.shared.now p c.in-Some.job c.work.new.job c.in-Some.is c.as_mut_slice-others.result.now ss c.as_mut_slice-others.ensures.value
-    c.find_task.new.queue c.work.new.self c.work.new.self c.find_task.new.lane c.find_task.new.lane (with_items p.others ss) at c.in-Some-find_task.task c.begin.new.self c.requires.can c.requires.few c.in-Some-find_task.ensures
-    (record { puts = w.puts; spare = w.spare; room = w.room; ready = w.ready; same_fit = w.fit; turns = w.turns }) (offers_none _)
+pub returns-else-not-is_empty : goal.returns-else-not-is_empty
+returns-else-not-is_empty g c =
+    let at = goal.at.returns-else-not-is_empty g c in
+    let turn = found g at.In-Some-find_task in
+    let done = did g at.After-work in
+    let offered : HasOffered _ _ turn done (left g at.After-work c.work.new.self c.find_task.new.lane) =
+    record { is = refl; offers = with_others (others_are g at.After-work) (offers_none _); spare = refl; space = refl } in
+    record { went = did_ends _ _ turn done offered; few = did_few _ _ turn done offered; fewer = did_fewer _ _ turn done offered; none = search rules }
