@@ -108,36 +108,6 @@ pub const DIAMOND: SampleHeap<'static> = SampleHeap {
     ..EMPTY
 };
 
-/// Both middle objects hold the end by weak slots; one that is a step farther off holds it by a strong one.
-pub const WEAK_DIAMOND: SampleHeap<'static> = SampleHeap {
-    objects: &[
-        (1, "Top", 2),
-        (2, "Mid", 2),
-        (3, "Mid", 2),
-        (4, "End", 0),
-        (5, "Far", 1),
-    ],
-    stores: &[
-        (1, 0, 3),
-        (1, 1, 2),
-        (3, 0, 4),
-        (2, 1, 4),
-        (3, 1, 5),
-        (5, 0, 4),
-    ],
-    weak: &[(3, 0), (2, 1)],
-    roots: &[("r", 1)],
-    ..EMPTY
-};
-
-/// Three roots name the same object.
-pub const NAMES: SampleHeap<'static> = SampleHeap {
-    objects: &[(3, "Order", 1), (4, "Item", 0)],
-    stores: &[(3, 0, 4)],
-    roots: &[("z", 3), ("m", 3), ("n", 3)],
-    ..EMPTY
-};
-
 /// An owner holds another owner, which holds the first one's ownee and its own.
 pub const NESTED_OWNERS: SampleHeap<'static> = SampleHeap {
     objects: &[

@@ -2,10 +2,6 @@
 #![tactic(auto)]
 
 #[cfg(test)]
-mod levels;
-#[cfg(test)]
 mod paths;
-#[cfg(test)]
-mod plain;
 #[cfg(test)]
 mod references;

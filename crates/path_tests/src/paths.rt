@@ -1,63 +1,279 @@
-//! Paths by their parts, and what a path is asked for.
+//! Paths: a worked example of each call that gives one.
+ghost use Rattle.std.specs.Prelude.{◌<◌, length, IfSome, IsSome};
+ghost use Rattle.graph_meaning.specs.Heap.{edge_of};
+ghost use Rattle.graph_meaning.specs.Roles.{RoleTable, AreRolesOf};
+ghost use Rattle.object_paths.specs.PlainPaths.{ArePlainLevels};
+ghost use Rattle.object_table.specs.Placed.{slots_in, slot_in};
+ghost use Rattle.path_cert.specs.Levels.{AreLevelsIn};
 
-use graph_meaning::{PathFrom, PathView};
+use graph_meaning::{PathFrom, PathView, Roles, is_path};
+use heap_base::OutOfMemory;
+use object_paths::PlainLevels;
+use object_table::ObjectTable;
+use path_cert::{Levels, Start, levels, owner_step, root_path};
+use path_heaps::{BOOK, DIAMOND, TWICE};
+use reference_search::CellReference;
+use std::alloc::Global;
+use std::test::Fail;
+use test_support::{SampleHeap, cell, flags, roles_in, table_of};
 
-/// What a path is asked for: to the object with an id, by the root with a number, or by a slot of the object with an id.
-#[derive(Clone, Copy, Debug)]
-pub(crate) enum Asked {
-    To(u32),
+// ---- paths as texts
+
+fn start_text(alloc: Global, from: &PathFrom) -> Result<String, Fail> {
+    match from {
+        PathFrom::Root { name, id, kind } => Ok(format!(in alloc;
+            "root {} -> {id} {}",
+            name.as_str(),
+            kind.as_str()
+        )?),
+        PathFrom::Owner { id, kind } => Ok(format!(in alloc; "owner {id} {}", kind.as_str())?),
+    }
+}
+
+// The start and the steps of a path as a report writes them, or `none`.
+fn path_text(alloc: Global, path: Option<PathView>) -> Result<String, Fail> {
+    let Some(path) = path else {
+        return Ok(String::from_str(alloc, "none")?);
+    };
+    let mut text = start_text(alloc, &path.from)?;
+    for place in 0..path.steps.len() {
+        let step = path.steps.at(place);
+        let (slot, id, kind) = (step.slot, step.id, step.kind.as_str());
+        text.push_str(&format!(in alloc; " [{slot}] -> {id} {kind}")?)?;
+    }
+    Ok(text)
+}
+
+// ---- calls for paths
+
+// Where a path ends: at the object with an id, at what the root with a number names, or at what a slot of the object with an id holds.
+#[derive(Clone, Copy)]
+enum Target {
+    Object(u32),
     Root(u32),
     Slot(u32, u32),
 }
 
-/// A path by its parts: the name of its root, which is empty where it starts at an owner; the id and the type of the object that it
-/// starts at; and its steps, each by slot, id and type.
+// What a path is found by: levels from a start, where the objects with these ids are shut; a reference alone; or plain levels.
 #[derive(Clone, Copy)]
-pub(crate) struct Shown {
-    pub(crate) root: &'static str,
-    pub(crate) start: (u32, &'static str),
-    pub(crate) steps: &'static [(u32, u32, &'static str)],
+enum Search {
+    Levels(Start, &'static [u32]),
+    Reference,
+    Plain,
 }
 
-fn has_start(from: &PathFrom, shown: Shown) -> bool {
-    match from {
-        PathFrom::Root { name, id, kind } => {
-            name.as_str() == shown.root && *id == shown.start.0 && kind.as_str() == shown.start.1
+// The cell of the object with this id, where this slot of it is an edge.
+fn holder_cell(table: &ObjectTable, object: u32, slot: u32) -> Option<u32>
+    ensures a_slot { IfSome result (λ cell. slot < length (slots_in table.now cell)) }
+    ensures an_edge { IfSome result (λ cell. IsSome (edge_of (slot_in table.now cell slot))) }
+{
+    let cell = cell(table, object)?;
+    if slot >= table.slots_at(cell) || table.slot_at(cell, slot).is_none() {
+        return None;
+    }
+    Some(cell)
+}
+
+fn by_levels(
+    found: &Levels,
+    table: &ObjectTable,
+    target: Target,
+) -> Result<Option<PathView>, OutOfMemory>
+    requires { AreLevelsIn table.now found.now }
+{
+    match target {
+        Target::Object(object) => match cell(table, object) {
+            Some(cell) => found.path(table, cell),
+            None => Ok(None),
+        },
+        Target::Slot(object, slot) => match holder_cell(table, object, slot) {
+            Some(cell) => found.path_then(table, cell, slot),
+            None => Ok(None),
+        },
+        Target::Root(_) => Ok(None),
+    }
+}
+
+fn by_reference(
+    alloc: Global,
+    table: &ObjectTable,
+    target: Target,
+) -> Result<Option<PathView>, OutOfMemory> {
+    match target {
+        Target::Root(root) if root < table.roots() => Ok(Some(root_path(alloc, table, root)?)),
+        Target::Slot(object, slot) => match holder_cell(table, object, slot) {
+            Some(cell) => Ok(Some(owner_step(alloc, table, cell, slot)?)),
+            None => Ok(None),
+        },
+        _ => Ok(None),
+    }
+}
+
+fn by_plain_levels(
+    levels: &PlainLevels,
+    table: &ObjectTable,
+    target: Target,
+) -> Result<Option<PathView>, OutOfMemory>
+    requires { (r : RoleTable) × ArePlainLevels table.now r levels.now }
+{
+    match target {
+        Target::Object(object) => match cell(table, object) {
+            Some(cell) => levels.path(table, cell),
+            None => Ok(None),
+        },
+        Target::Root(root) if root < table.roots() => {
+            let path = levels.reference_path(table, CellReference::Root { root })?;
+            Ok(Some(path))
         }
-        PathFrom::Owner { id, kind } => {
-            shown.root.is_empty() && *id == shown.start.0 && kind.as_str() == shown.start.1
+        Target::Root(_) => Ok(None),
+        Target::Slot(object, slot) => match holder_cell(table, object, slot) {
+            Some(holder) => {
+                let path = levels.reference_path(table, CellReference::Slot { holder, slot })?;
+                Ok(Some(path))
+            }
+            None => Ok(None),
+        },
+    }
+}
+
+fn path_of(
+    alloc: Global,
+    table: &ObjectTable,
+    roles: &Roles,
+    query: (Search, Target),
+) -> Result<Option<PathView>, OutOfMemory>
+    requires { AreRolesOf table.now.cells (length table.now.table.kinds) roles.now }
+{
+    let (search, target) = query;
+    match search {
+        Search::Levels(start, shut) => {
+            let shut = flags(alloc, table, shut, true)?;
+            let found = levels(alloc, table, roles, start, shut.as_slice())?;
+            by_levels(&found, table, target)
+        }
+        Search::Reference => by_reference(alloc, table, target),
+        Search::Plain => {
+            let plain = PlainLevels::make(alloc, table, roles)?;
+            by_plain_levels(&plain, table, target)
         }
     }
 }
 
-fn has_step(path: &PathView, place: u32, step: (u32, u32, &str)) -> bool {
-    if place >= path.steps.len() {
-        return false;
-    }
-    let seen = path.steps.at(place);
-    seen.slot == step.0 && seen.id == step.1 && seen.kind.as_str() == step.2
+fn text_in_heap(
+    alloc: Global,
+    heap: SampleHeap<'_>,
+    search: Search,
+    target: Target,
+) -> Result<String, Fail> {
+    let table = table_of(alloc, heap)?;
+    let roles = roles_in(alloc, &table, heap)?;
+    path_text(alloc, path_of(alloc, &table, &roles, (search, target))?)
 }
 
-fn has_steps(path: &PathView, steps: &[(u32, u32, &'static str)]) -> bool {
-    let mut place = 0;
-    for step in steps {
-        if place >= 64 || !has_step(path, place, *step) {
-            return false;
+// What some paths of a heap are found by, and what they are.
+struct Case {
+    heap: SampleHeap<'static>,
+    search: Search,
+    paths: &'static [(Target, &'static str)],
+}
+
+const CASES: [Case; 6] = [
+    Case {
+        heap: DIAMOND,
+        search: Search::Levels(Start::Roots, &[]),
+        paths: &[
+            (
+                Target::Object(4),
+                "root r -> 1 Top [1] -> 2 Mid [1] -> 4 End",
+            ),
+            (
+                Target::Slot(3, 0),
+                "root r -> 1 Top [0] -> 3 Mid [0] -> 4 End",
+            ),
+        ],
+    },
+    Case {
+        heap: DIAMOND,
+        search: Search::Levels(Start::Roots, &[2]),
+        paths: &[(
+            Target::Object(4),
+            "root r -> 1 Top [0] -> 3 Mid [0] -> 4 End",
+        )],
+    },
+    Case {
+        heap: BOOK,
+        search: Search::Levels(Start::Owners, &[]),
+        paths: &[
+            (
+                Target::Object(5),
+                "owner 3 Book [0] -> 4 Page [0] -> 5 Order",
+            ),
+            (Target::Object(3), "none"),
+        ],
+    },
+    Case {
+        heap: DIAMOND,
+        search: Search::Reference,
+        paths: &[
+            (Target::Root(0), "root r -> 1 Top"),
+            (Target::Slot(2, 1), "owner 2 Mid [1] -> 4 End"),
+        ],
+    },
+    Case {
+        heap: DIAMOND,
+        search: Search::Plain,
+        paths: &[
+            (
+                Target::Object(4),
+                "root r -> 1 Top [1] -> 2 Mid [1] -> 4 End",
+            ),
+            (Target::Root(0), "root r -> 1 Top"),
+        ],
+    },
+    Case {
+        heap: TWICE,
+        search: Search::Plain,
+        paths: &[
+            (Target::Object(5), "owner 3 Book [0] -> 5 Order"),
+            (Target::Slot(3, 1), "owner 3 Book [1] -> 5 Order"),
+            (Target::Object(6), "none"),
+        ],
+    },
+];
+
+#[test]
+fn each_call_gives_its_path(rt: HostRuntime) -> Result<(), Fail> {
+    for case in &CASES {
+        for (target, path) in case.paths {
+            let text = text_in_heap(rt.alloc(), case.heap, case.search, *target)?;
+            assert_eq!(rt; text.as_str(), *path);
         }
-        place += 1;
     }
-    path.steps.len() == place && path.left_out == 0
+    Ok(())
 }
 
-pub(crate) fn is_shown(path: &PathView, shown: Shown) -> bool {
-    has_start(&path.from, shown) && has_steps(path, shown.steps)
+// ---- levels, and the view of a heap
+
+// The level of object 4, and whether its path leads through what is shown of the heap.
+fn level_and_path(
+    alloc: Global,
+    table: &ObjectTable,
+    roles: &Roles,
+) -> Result<(Option<u32>, bool), Fail>
+    requires { AreRolesOf table.now.cells (length table.now.table.kinds) roles.now }
+{
+    let shut = flags(alloc, table, &[], true)?;
+    let found = levels(alloc, table, roles, Start::Roots, shut.as_slice())?;
+    let last = cell(table, 4).ok_or("object 4 isn't live")?;
+    let path = found.path(table, last)?.ok_or("no path leads there")?;
+    Ok((found.level(last), is_path(&table.view()?, &path)))
 }
 
-/// Whether the path is as shown, or there is none in both.
-pub(crate) fn is(path: &Option<PathView>, shown: Option<Shown>) -> bool {
-    match (path, shown) {
-        (Some(path), Some(shown)) => is_shown(path, shown),
-        (None, None) => true,
-        _ => false,
-    }
+#[test]
+fn a_level_counts_the_references_of_a_path(rt: HostRuntime) -> Result<(), Fail> {
+    let table = table_of(rt.alloc(), DIAMOND)?;
+    let roles = roles_in(rt.alloc(), &table, DIAMOND)?;
+    let answer = level_and_path(rt.alloc(), &table, &roles)?;
+    assert_eq!(rt; answer, (Some(3), true));
+    Ok(())
 }

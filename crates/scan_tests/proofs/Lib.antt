@@ -1,2 +1,1 @@
-pub mod OnlyJob
 pub mod PhaseRuns

@@ -1,9 +1,8 @@
 -- The tests' jobs may go through phases one after another, and their passes stay those of the headers.
-use Rattle.std.proofs.Common.{◌≡◌, ℕ, zero, suc, ◌+◌, ◌*◌, ◌/◌, ◌^◌, ◌<◌, ◌≤◌, List, [], ◌∷◌, length, get_or, map, replicate, sym, refl, ap, ◌∙◌, subst, arith}
+use Rattle.std.proofs.Common.{◌≡◌, ℕ, suc, ◌+◌, ◌*◌, ◌^◌, ◌<◌, ◌≤◌, List, [], ◌∷◌, length, replicate, sym, ap, ◌∙◌, subst, arith}
 use Rattle.std.specs.List.{All}
 use Rattle.std.proofs.lemmas.List.{length-replicate}
 use Rattle.graph_meaning.specs.Roles.{AreRolesOf}
-use Rattle.header_rule.specs.declared.headers.Headers.{Headers}
 use Rattle.header_rule.specs.Passes.{IsPassOf, ArePassesOf, numbers}
 use Rattle.object_table.specs.Placed.{IsPlaced, IsSound}
 use Rattle.steal_pool.specs.declared.crew.Crew.{Crew}
@@ -28,7 +27,9 @@ pub record HasRoom (s : ScanShared) (workers : ℕ) (crew : Crew ScanState) (fir
   pub lists : length first.lists ≡ workers
   pub list_room : cells_in (lent s) ≤ first.room
 
-module _ (s : ScanShared) (workers : ℕ) (js : List ScanState) (crew : Crew ScanState) (first : FirstLists) (all : AreAllJobs workers s.table.now s.headers.now js) (room : HasRoom s workers crew first) (roles : AreRolesOf s.table.now.cells (length s.table.now.table.kinds) s.roles.now) (placed : IsPlaced s.table.now) (sound : IsSound s.table.now.table) where
+module _ (s : ScanShared) (workers : ℕ) (js : List ScanState) (crew : Crew ScanState) (first : FirstLists)
+    (all : AreAllJobs workers s.table.now s.headers.now js) (room : HasRoom s workers crew first)
+    (roles : AreRolesOf s.table.now.cells (length s.table.now.table.kinds) s.roles.now) (placed : IsPlaced s.table.now) (sound : IsSound s.table.now.table) where
   new-ready : AreReady scan_meaning s js
   new-ready k d within =
       let n = all.each k d within in
@@ -54,7 +55,20 @@ module _ (s : ScanShared) (workers : ℕ) (js : List ScanState) (crew : Crew Sca
     room = room.room;
   }
 
-last-turns : (n : ℕ) (js ks : List ScanState) → All (λ j. 2 * n < turns_of j) js → TurnsLast scan_meaning n js ks → All (λ k. n < turns_of k) ks
+-- with a crew and lists that were just made for the cells new jobs may go through a phase
+pub begin-scan : (s : ScanShared) (workers cells : ℕ) (js : List ScanState) (crew : Crew ScanState) (first : FirstLists) →
+    AreAllJobs workers s.table.now s.headers.now js → AreRolesOf s.table.now.cells (length s.table.now.table.kinds) s.roles.now →
+    IsPlaced s.table.now → IsSound s.table.now.table → cells ≡ cells_in (lent s) → workers_of crew ≡ workers →
+    Runs.room_of crew ≡ 2 * cells + 1 → first.lists ≡ replicate workers [] → first.room ≡ cells → CanScan s js crew first
+begin-scan s workers cells js crew first all roles placed sound count crew_count room lists list_room = new-can_scan s workers js crew first all (record {
+  count = crew_count;
+  room = (omega arith);
+  lists = ap length lists ∙ length-replicate workers [];
+  list_room = (omega arith);
+}) roles placed sound
+
+last-turns : (n : ℕ) (js ks : List ScanState) → All (λ j. 2 * n < turns_of j) js → TurnsLast scan_meaning n js ks →
+    All (λ k. n < turns_of k) ks
 last-turns n [] ks turns last = subst (All (λ k. n < turns_of k)) (sym last) (λ k d within. absurd (omega arith))
 last-turns n (j ∷ js) [] turns last = absurd last
 last-turns n (j ∷ js) (k ∷ ks) turns last =
@@ -66,7 +80,9 @@ last-length n (j ∷ js) [] last = absurd last
 last-length n (j ∷ js) (k ∷ ks) last = ap suc (last-length n js ks last.1)
 
 -- after a first phase they may go through another
-pub scan-again : (s : ScanShared) (workers : ℕ) (js ks : List ScanState) (crew : Crew ScanState) (first : FirstLists) → AreAllJobs workers s.table.now s.headers.now js → HasRoom s workers crew first → AreReady scan_meaning s ks → TurnsLast scan_meaning (2 ^ 25 + 1) js ks → CanScan s ks crew first
+pub scan-again : (s : ScanShared) (workers : ℕ) (js ks : List ScanState) (crew : Crew ScanState) (first : FirstLists) →
+    AreAllJobs workers s.table.now s.headers.now js → HasRoom s workers crew first → AreReady scan_meaning s ks →
+    TurnsLast scan_meaning (2 ^ 25 + 1) js ks → CanScan s ks crew first
 scan-again s workers js ks crew first all room ready last = record {
   ready = ready;
   turns = λ k d within. (let t = last-turns (2 ^ 25 + 1) js ks (λ i e l. (let left = (all.each i e l).fresh.left in omega arith)) last k d within in omega arith);
@@ -76,14 +92,17 @@ scan-again s workers js ks crew first all room ready last = record {
   room = room.room;
 }
 
-same-numbers : (g : StoppedGraph) (js : List ScanState) (gains : List Gain) (ks : List ScanState) → Each (Grows g) js gains ks → numbers (passes_of ks) ≡ numbers (passes_of js)
+same-numbers : (g : StoppedGraph) (js : List ScanState) (gains : List Gain) (ks : List ScanState) → Each (Grows g) js gains ks →
+    numbers (passes_of ks) ≡ numbers (passes_of js)
 same-numbers g [] gains ks e = ap (λ is. numbers (passes_of is)) e.1
 same-numbers g (j ∷ js) [] ks e = absurd e
 same-numbers g (j ∷ js) (a ∷ gains) [] e = absurd e
 same-numbers g (j ∷ js) (a ∷ gains) (k ∷ ks) e = λ i. e.0.number i ∷ same-numbers g js gains ks e.1 i
 
 -- jobs that grew have the passes of the headers, in order
-pub passes-after : (s : ScanShared) (g : StoppedGraph) (js : List ScanState) (gains : List Gain) (ks : List ScanState) → Each (Grows g) js gains ks → AreReady scan_meaning s ks → ArePassesOf s.headers.now (passes_of js) → ArePassesOf s.headers.now (passes_of ks)
+pub passes-after : (s : ScanShared) (g : StoppedGraph) (js : List ScanState) (gains : List Gain) (ks : List ScanState) →
+    Each (Grows g) js gains ks → AreReady scan_meaning s ks → ArePassesOf s.headers.now (passes_of js) →
+    ArePassesOf s.headers.now (passes_of ks)
 passes-after s g js gains ks grown ready are = (
   all-map (λ (j : ScanState). j.pass) (λ j. IsReady j s) (IsPassOf s.headers.now) (λ j r. r.pass) ks ready,
   same-numbers g js gains ks grown ∙ are.1,

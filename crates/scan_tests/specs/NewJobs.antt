@@ -1,19 +1,11 @@
 -- What the tests know of the jobs that they make.
-use Rattle.std.specs.Prelude.{◌≡◌, ℕ, List, [], ◌∷◌, length, map}
+use Rattle.std.specs.Prelude.{◌≡◌, ℕ, List, length, map}
 use Rattle.std.specs.List.{All}
 use Rattle.header_rule.specs.declared.headers.Headers.{Headers}
 use Rattle.header_rule.specs.declared.pass.Pass.{Pass}
 use Rattle.header_rule.specs.Passes.{IsFresh, IsPassOf, ArePassesOf}
 use Rattle.object_table.specs.Placed.{Placed}
 use Rattle.scan_job.specs.States.{ScanState, new_state}
-
--- The job has met nothing, it was made for the table's cells and types, and its pass is the only one of the headers, which were
--- made for the table's cells too.
-pub record IsOnlyJob (p : Placed) (h : Headers) (j : ScanState) : Type 0 where
-  pub is_new : j ≡ new_state j.pass (length p.cells) (length p.table.kinds)
-  pub fresh : IsFresh j.pass
-  pub passes : ArePassesOf h (j.pass ∷ [])
-  pub headers : h.cells ≡ length p.cells
 
 -- The job has met nothing, it was made for the table's cells and types, and its pass is of the headers.
 pub record IsNewJob (p : Placed) (h : Headers) (j : ScanState) : Type 0 where

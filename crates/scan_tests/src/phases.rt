@@ -1,4 +1,4 @@
-//! The phases of a trace, each by itself: what they leave of a sample heap.
+//! The phases of a trace, each by itself: what it leaves of a heap.
 ghost use Rattle.std.specs.Prelude.{◌≡◌, ◌<◌, ◌≤◌, length, IfOk, OnOk};
 ghost use Rattle.heap_base.specs.declared.limits.TheConstants.{MOST_WORKERS};
 ghost use Rattle.graph_meaning.specs.Roles.{AreRolesOf};
@@ -16,7 +16,9 @@ use std::alloc::Global;
 use std::test::Fail;
 use std::thread::Threads;
 use steal_pool::{Crew, FirstTasks};
-use test_support::{SampleHeap, cell, id_or_zero, roles_in, table_of};
+use test_support::{SampleHeap, cell, roles_in, table_of};
+
+// ---- a run
 
 // Headers of the table's cells, and a job for each worker.
 fn start(
@@ -35,51 +37,41 @@ fn start(
     Ok((headers, jobs))
 }
 
-// The owner phase, and take-up where it is asked for.
-fn run_owners<R: Threads + Sync>(
-    rt: &R,
-    alloc: Global,
-    shared: &ScanShared<'_>,
-    jobs: &mut Vec<ScanJob>,
-    workers: u32,
-    taken: bool,
-) -> Result<(), OutOfMemory>
-    requires workers { (0 < workers) × (workers ≤ MOST_WORKERS) }
-    requires roles { AreRolesOf shared.now.table.now.cells (length shared.now.table.now.table.kinds) shared.now.roles.now }
-    requires jobs { AreAllJobs workers shared.now.table.now shared.now.headers.now jobs.old.items }
-    ensures { OnOk result (ArePassesOf shared.now.headers.now (passes_of jobs.new.items)) }
-{
-    let cells = shared.table.cells();
-    let mut crew: Crew<ScanJob> = Crew::make(alloc, workers, 2 * cells as u64 + 1)?;
-    let mut first = FirstTasks::make(alloc, workers, cells)?;
-    owner_phase(rt, &mut crew, shared, jobs, &mut first, &OpenGate);
-    if !taken {
-        return Ok(());
-    }
-    take_up(rt, &mut crew, shared, jobs, &mut first, &OpenGate);
-    Ok(())
+// What runs: the owner phase alone, take-up behind it, or the root phase alone.
+#[derive(Clone, Copy, Debug)]
+enum Phases {
+    Owners,
+    OwnersAndTakeUp,
+    Roots,
 }
 
-// The root phase. It gives the lists of its first tasks.
-fn run_roots<R: Threads + Sync>(
+fn run<R: Threads + Sync>(
     rt: &R,
     alloc: Global,
     shared: &ScanShared<'_>,
     jobs: &mut Vec<ScanJob>,
     workers: u32,
-) -> Result<FirstTasks, OutOfMemory>
+    phases: Phases,
+) -> Result<(), OutOfMemory>
     requires workers { (0 < workers) × (workers ≤ MOST_WORKERS) }
     requires roles { AreRolesOf shared.now.table.now.cells (length shared.now.table.now.table.kinds) shared.now.roles.now }
     requires jobs { AreAllJobs workers shared.now.table.now shared.now.headers.now jobs.old.items }
     ensures passes { OnOk result (ArePassesOf shared.now.headers.now (passes_of jobs.new.items)) }
     ensures kinds { OnOk result (CountKinds shared.now.table.now jobs.new.items) }
-    ensures lists { IfOk result (λ first. length first.lists ≡ workers) }
 {
     let cells = shared.table.cells();
     let mut crew: Crew<ScanJob> = Crew::make(alloc, workers, 2 * cells as u64 + 1)?;
     let mut first = FirstTasks::make(alloc, workers, cells)?;
-    root_phase(rt, &mut crew, shared, jobs, &mut first, &OpenGate);
-    Ok(first)
+    if let Phases::Roots = phases {
+        root_phase(rt, &mut crew, shared, jobs, &mut first, &OpenGate);
+        return Ok(());
+    }
+    owner_phase(rt, &mut crew, shared, jobs, &mut first, &OpenGate);
+    if let Phases::Owners = phases {
+        return Ok(());
+    }
+    take_up(rt, &mut crew, shared, jobs, &mut first, &OpenGate);
+    Ok(())
 }
 
 // The words that the jobs' passes leave.
@@ -94,23 +86,7 @@ fn close(alloc: Global, headers: Headers, mut jobs: Vec<ScanJob>) -> Result<Word
     Ok(headers.close(passes))
 }
 
-/// What is known of an object after the phases: how often it was met, and whether it is marked found, disputed and met by
-/// roots.
-pub type Met = (u64, bool, bool, bool);
-
-fn met(table: &ObjectTable, words: &Words, object: u32) -> Met
-    requires { words.now.cells ≡ length table.now.cells }
-{
-    match cell(table, object) {
-        Some(cell) => (
-            words.count(cell),
-            words.found(cell),
-            words.disputed(cell),
-            words.met_by_roots(cell),
-        ),
-        None => (0, false, false, false),
-    }
-}
+// ---- what a run leaves
 
 // How many cells all jobs hold.
 fn all_held(jobs: &[ScanJob]) -> usize {
@@ -119,18 +95,6 @@ fn all_held(jobs: &[ScanJob]) -> usize {
         sum = sum.saturating_add(job.held().len());
     }
     sum
-}
-
-// The object of first task number k, which stands in the list of worker k modulo the number of workers; 0 where there
-// are fewer.
-fn first_object(table: &ObjectTable, first: &FirstTasks, workers: u32, k: u32) -> u32
-    requires some { 0 < workers }
-    requires lists { length first.now.lists ≡ workers }
-{
-    match first.of(k % workers).get((k / workers) as usize) {
-        Some(task) => id_or_zero(table, task.cell),
-        None => 0,
-    }
 }
 
 // How many objects the jobs won together.
@@ -147,75 +111,52 @@ fn all_won(table: &ObjectTable, jobs: &[ScanJob]) -> u64
     sum
 }
 
-// What is known of the objects 1 to 5.
-fn met_of_five(table: &ObjectTable, words: &Words) -> [Met; 5]
+// The header of an object: how often it was met, and whether it is marked found, disputed and met by roots.
+type Header = (u64, bool, bool, bool);
+
+fn header(table: &ObjectTable, words: &Words, object: u32) -> Header
+    requires { words.now.cells ≡ length table.now.cells }
+{
+    match cell(table, object) {
+        Some(cell) => (
+            words.count(cell),
+            words.found(cell),
+            words.disputed(cell),
+            words.met_by_roots(cell),
+        ),
+        None => (0, false, false, false),
+    }
+}
+
+// The headers of the objects 1 to 5.
+fn first_headers(table: &ObjectTable, words: &Words) -> [Header; 5]
     requires { words.now.cells ≡ length table.now.cells }
 {
     [
-        met(table, words, 1),
-        met(table, words, 2),
-        met(table, words, 3),
-        met(table, words, 4),
-        met(table, words, 5),
+        header(table, words, 1),
+        header(table, words, 2),
+        header(table, words, 3),
+        header(table, words, 4),
+        header(table, words, 5),
     ]
 }
 
-// What the owner phase leaves of a table, and take-up where it is asked for.
-fn owners_leave<R: Threads + Sync>(
-    rt: &R,
-    alloc: Global,
-    table: &ObjectTable,
-    roles: &Roles,
-    workers: u32,
-    taken: bool,
-) -> Result<(usize, [Met; 5]), OutOfMemory>
-    requires workers { (0 < workers) × (workers ≤ MOST_WORKERS) }
-    requires roles { AreRolesOf table.now.cells (length table.now.table.kinds) roles.now }
-{
-    let (headers, mut jobs) = start(alloc, table, workers)?;
-    let shared = ScanShared {
-        headers: &headers,
-        table,
-        roles,
-    };
-    run_owners(rt, alloc, &shared, &mut jobs, workers, taken)?;
-    let held = all_held(jobs.as_slice());
-    let words = close(alloc, headers, jobs)?;
-    Ok((held, met_of_five(table, &words)))
-}
-
-/// What the owner phase leaves, and take-up where it is asked for: how many cells are held, and what is known of the objects 1 to 5.
-pub fn after_owners<R: Threads + Sync>(
-    rt: &R,
-    alloc: Global,
-    heap: SampleHeap<'_>,
-    workers: u32,
-    taken: bool,
-) -> Result<(usize, [Met; 5]), Fail>
-    requires { (0 < workers) × (workers ≤ MOST_WORKERS) }
-{
-    let table = table_of(alloc, heap)?;
-    let roles = roles_in(alloc, &table, heap)?;
-    Ok(owners_leave(rt, alloc, &table, &roles, workers, taken)?)
-}
-
-/// What the root phase alone leaves: how many objects were won, the objects of the first tasks, by their numbers, and what is known
-/// of the objects 1 to 5.
+// What phases leave: how many cells the jobs hold, how many objects they won, and the headers of the objects 1 to 5.
 #[derive(Clone, Copy, Debug, PartialEq, Eq)]
-pub struct AfterRoots {
-    pub won: u64,
-    pub first: [u32; 3],
-    pub met: [Met; 5],
+struct Outcome {
+    held: usize,
+    won: u64,
+    headers: [Header; 5],
 }
 
-// What the root phase alone leaves of a table.
-fn roots_leave<R: Threads + Sync>(
+fn outcome_of_table<R: Threads + Sync>(
     rt: &R,
     alloc: Global,
     table: &ObjectTable,
     roles: &Roles,
     workers: u32,
-) -> Result<AfterRoots, OutOfMemory>
+    phases: Phases,
+) -> Result<Outcome, OutOfMemory>
     requires workers { (0 < workers) × (workers ≤ MOST_WORKERS) }
     requires roles { AreRolesOf table.now.cells (length table.now.table.kinds) roles.now }
 {
@@ -225,30 +166,103 @@ fn roots_leave<R: Threads + Sync>(
         table,
         roles,
     };
-    let first = run_roots(rt, alloc, &shared, &mut jobs, workers)?;
+    run(rt, alloc, &shared, &mut jobs, workers, phases)?;
+    let held = all_held(jobs.as_slice());
     let won = all_won(table, jobs.as_slice());
     let words = close(alloc, headers, jobs)?;
-    Ok(AfterRoots {
+    Ok(Outcome {
+        held,
         won,
-        first: [
-            first_object(table, &first, workers, 0),
-            first_object(table, &first, workers, 1),
-            first_object(table, &first, workers, 2),
-        ],
-        met: met_of_five(table, &words),
+        headers: first_headers(table, &words),
     })
 }
 
-/// What the root phase alone leaves.
-pub fn after_roots<R: Threads + Sync>(
+// The Node 1 owns 2; the owner 9 of 4 is gone. Two roots name 5, whose slots hold 1 and 2.
+const HEAP: SampleHeap<'static> = SampleHeap {
+    objects: &[
+        (1, "Node", 3),
+        (2, "Node", 1),
+        (3, "Node", 0),
+        (4, "Node", 0),
+        (5, "Node", 2),
+    ],
+    stores: &[
+        (1, 0, 2),
+        (1, 1, 4),
+        (1, 2, 5),
+        (2, 0, 3),
+        (5, 0, 1),
+        (5, 1, 2),
+    ],
+    roots: &[("a", 5), ("b", 5)],
+    owned: &[(1, 2), (9, 4)],
+    ..SampleHeap::EMPTY
+};
+
+fn outcome_of_heap<R: Threads + Sync>(
     rt: &R,
     alloc: Global,
-    heap: SampleHeap<'_>,
     workers: u32,
-) -> Result<AfterRoots, Fail>
+    phases: Phases,
+) -> Result<Outcome, Fail>
     requires { (0 < workers) × (workers ≤ MOST_WORKERS) }
 {
-    let table = table_of(alloc, heap)?;
-    let roles = roles_in(alloc, &table, heap)?;
-    Ok(roots_leave(rt, alloc, &table, &roles, workers)?)
+    let table = table_of(alloc, HEAP)?;
+    let roles = roles_in(alloc, &table, HEAP)?;
+    Ok(outcome_of_table(rt, alloc, &table, &roles, workers, phases)?)
+}
+
+// An object that was not met, and one that was met once or twice and has no mark.
+const UNMET: Header = (0, false, false, false);
+
+const ONCE: Header = (1, false, false, false);
+
+const TWICE: Header = (2, false, false, false);
+
+// An ownee that its owner met twice, one whose owner is gone, and one that roots lead to.
+const FOUND: Header = (2, true, false, false);
+
+const DISPUTED: Header = (1, false, true, false);
+
+const MET_BY_ROOTS: Header = (1, false, false, true);
+
+const CASES: [(Phases, Outcome); 3] = [
+    // the scans stop at the ownees, which are held
+    (
+        Phases::Owners,
+        Outcome {
+            held: 2,
+            won: 4,
+            headers: [ONCE, FOUND, UNMET, DISPUTED, ONCE],
+        },
+    ),
+    // and go on from what is held
+    (
+        Phases::OwnersAndTakeUp,
+        Outcome {
+            held: 0,
+            won: 5,
+            headers: [ONCE, FOUND, ONCE, DISPUTED, ONCE],
+        },
+    ),
+    // the owner is met, and not scanned
+    (
+        Phases::Roots,
+        Outcome {
+            held: 0,
+            won: 4,
+            headers: [ONCE, MET_BY_ROOTS, ONCE, UNMET, TWICE],
+        },
+    ),
+];
+
+#[test]
+fn each_phase_leaves_the_same_by_each_number_of_workers(rt: HostRuntime) -> Result<(), Fail> {
+    for (phases, outcome) in CASES {
+        for workers in 1..4 {
+            let found = outcome_of_heap(&rt, rt.alloc(), workers, phases)?;
+            assert_eq!(rt; found, outcome, "{phases:?} by {workers} workers");
+        }
+    }
+    Ok(())
 }

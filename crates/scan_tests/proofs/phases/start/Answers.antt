@@ -1,7 +1,7 @@
-use Rattle.std.proofs.Common.{◌≡◌, ◌++◌, ◌∷◌, [], length, sym, ap, ◌∙◌, subst, arith, append_assoc, append-nil, Some}
+use Rattle.std.proofs.Common.{◌++◌, ◌∷◌, [], length, sym, ap, ◌∙◌, subst, arith, append_assoc, Some}
 use Rattle.std.specs.List.{All}
 use Rattle.std.proofs.lemmas.List.Elements.{All-pop}
-use Rattle.header_rule.specs.Passes.{IsFresh, IsPassOf, ArePassesOf}
+use Rattle.header_rule.specs.Passes.{IsFresh, IsPassOf}
 use Rattle.scan_job.specs.States.{ScanState, new_state}
 use Rattle.scan_tests.specs.NewJobs.{IsNewJob, passes_of}
 use Rattle.scan_job.proofs.Starting.{all-cons}
@@ -29,7 +29,8 @@ loop-pass-preserved c =
     let inserted = c.in_ok-insert.ensures.len in
     let count = i.count in
     record {
-      all = ap (λ js. rest ++ passes_of js) c.in_ok-insert.ensures.items ∙ ap (λ p. rest ++ p ∷ passes_of jobs) same ∙ sym (append_assoc rest (pass ∷ []) (passes_of jobs)) ∙ ap (λ ps. ps ++ passes_of jobs) (sym c.in-Some.ensures.items) ∙ i.all;
+      all = ap (λ js. rest ++ passes_of js) c.in_ok-insert.ensures.items ∙ ap (λ p. rest ++ p ∷ passes_of jobs) same ∙
+          sym (append_assoc rest (pass ∷ []) (passes_of jobs)) ∙ ap (λ ps. ps ++ passes_of jobs) (sym c.in-Some.ensures.items) ∙ i.all;
       fresh = fresh.0;
       passes = passes.0;
       count = (omega arith);

@@ -1,27 +1,23 @@
-use Rattle.std.proofs.Common.{◌≡◌, ◌+◌, ◌*◌, ◌<◌, ◌≤◌, [], length, sym, ap, ◌∙◌, arith}
-use Rattle.std.proofs.lemmas.List.{length-replicate}
+use Rattle.std.proofs.Common.{length, ap, ◌∙◌, arith}
 use Rattle.steal_pool.specs.Runs.{workers_of}
 use Rattle.scan_job.specs.Jobs.{shared_graph}
 use Rattle.scan_job.specs.Phases.{owner_firsts}
 use Rattle.scan_job.proofs.Dealing.{length-dealt}
 use Rattle.scan_job.proofs.Gaining.{held-under}
-use Rattle.scan_tests.proofs.PhaseRuns.{HasRoom, new-can_scan, scan-again, passes-after}
-use Rattle.scan_tests.proofs.phases.run_owners.Goals as goal
+use Rattle.scan_tests.proofs.PhaseRuns.{HasRoom, begin-scan, scan-again, passes-after}
+use Rattle.scan_tests.proofs.phases.run.Goals as goal
+
+pub root_phase-requires-after_bounds : goal.root_phase-requires-after_bounds
+root_phase-requires-after_bounds g c κs within =
+    let cells = c.cells-cells in
+    begin-scan _ _ cells.result _ _ _ c.requires.jobs c.requires.roles cells.ensures.placed cells.ensures.sound cells.ensures.count
+    c.in_ok-crew.ensures.workers c.in_ok-crew.ensures.room c.in_ok-first.ensures.lists c.in_ok-first.ensures.room
 
 pub owner_phase-requires-after_bounds : goal.owner_phase-requires-after_bounds
 owner_phase-requires-after_bounds g c κs within =
-    let s = c.args.shared.now in
-    let n = c.args.workers in
-    let crew = c.in_ok-crew.crew in
-    let first = c.in_ok-first.first in
-    let cells = c.cells-cells.ensures in
-    let room : HasRoom s n crew first = record {
-      count = c.in_ok-crew.ensures.workers;
-      room = (let a = cells.count in let b = c.in_ok-crew.ensures.room in omega arith);
-      lists = ap length c.in_ok-first.ensures.lists ∙ length-replicate n [];
-      list_room = (let a = cells.count in let b = c.in_ok-first.ensures.room in omega arith);
-    } in
-    new-can_scan s n c.args.jobs.now.items crew first c.requires.jobs room c.requires.roles cells.placed cells.sound
+    let cells = c.cells-cells in
+    begin-scan _ _ cells.result _ _ _ c.requires.jobs c.requires.roles cells.ensures.placed cells.ensures.sound cells.ensures.count
+    c.in_ok-crew.ensures.workers c.in_ok-crew.ensures.room c.in_ok-first.ensures.lists c.in_ok-first.ensures.room
 
 pub take_up-requires-clause-scan : goal.take_up-requires-clause-scan
 take_up-requires-clause-scan g c κs within =
@@ -45,11 +41,20 @@ pub take_up-requires-clause-held : goal.take_up-requires-clause-held
 take_up-requires-clause-held g c κs within =
     held-under (shared_graph c.args.shared.now) c.args.jobs.now.items c.owner_phase.new.jobs.items c.owner_phase.ensures.gains
 
-pub returns-then-not-taken : goal.returns-then-not-taken
-returns-then-not-taken g c =
+pub returns-in-Roots-clause-passes : goal.returns-in-Roots-clause-passes
+returns-in-Roots-clause-passes g c =
+    let s = c.args.shared.now in
+    let left = c.root_phase.ensures in
+    passes-after s (shared_graph s) c.args.jobs.now.items left.gains.gains c.root_phase.new.jobs.items left.gains.each left.ready c.requires.jobs.passes
+
+pub returns-in-Owners : goal.returns-in-Owners
+returns-in-Owners g c =
     let s = c.args.shared.now in
     let left = c.owner_phase.ensures in
-    passes-after s (shared_graph s) c.args.jobs.now.items left.gains.gains c.owner_phase.new.jobs.items left.gains.each left.ready c.requires.jobs.passes
+    record {
+      passes = passes-after s (shared_graph s) c.args.jobs.now.items left.gains.gains c.owner_phase.new.jobs.items left.gains.each left.ready c.requires.jobs.passes;
+      kinds = λ k d at. (left.ready k d at).kinds;
+    }
 
 pub returns : goal.returns
 returns g c =
@@ -57,5 +62,8 @@ returns g c =
     let ks = c.owner_phase.new.jobs.items in
     let left = c.owner_phase.ensures in
     let then = c.take_up.ensures in
-    passes-after s (shared_graph s) ks then.gains.gains c.take_up.new.jobs.items then.gains.each then.ready
-    (passes-after s (shared_graph s) c.args.jobs.now.items left.gains.gains ks left.gains.each left.ready c.requires.jobs.passes)
+    record {
+      passes = passes-after s (shared_graph s) ks then.gains.gains c.take_up.new.jobs.items then.gains.each then.ready
+          (passes-after s (shared_graph s) c.args.jobs.now.items left.gains.gains ks left.gains.each left.ready c.requires.jobs.passes);
+      kinds = λ k d at. (then.ready k d at).kinds;
+    }
