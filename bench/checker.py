@@ -9,7 +9,7 @@ import sys
 import tempfile
 
 from run import PROGRAM, TOP, chain, need_programs, service, timed
-from workers import hub, mesh, owned_service
+from heaps import hub, mesh, owned_service
 
 CHECKER = os.path.join(TOP, "crates", "gccheck", "out", "gccheck")
 TURNS = 5

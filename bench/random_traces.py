@@ -1,9 +1,10 @@
 #!/usr/bin/env python3
 """Compares the built program with a plain reading of the definitions, on random traces of all operations.
 
-Usage: bench/random_traces.py [gcminor|gccheck] [COUNT] [FIRST_SEED]     (1,000 traces from seed 1 where nothing is said)
+Usage: bench/random_traces.py [gcminor|gccheck|plain_rust] [COUNT] [FIRST_SEED]     (1,000 traces from seed 1 where nothing is said)
 With the word gcminor it compares that program in place of gcaudit, on traces of what it takes. With gccheck it has the reports of gcaudit checked, with one
-number of workers each, and once more with a byte changed, whose place must be named.
+number of workers each, and once more with a byte changed, whose place must be named. With plain_rust it compares the program of bench/plain_rust, on
+traces of which no line is refused.
 Each trace is made from its seed alone, so a seed that is printed can be run again. It has some hundred operations of
 all kinds and several collections. `report_of` below follows docs/DEFINITIONS.md and the specs it names, by sets and
 by ids, with no care for speed. Of three traces one is audited with each reaction, and of five one with few paths. The program
@@ -17,7 +18,7 @@ import subprocess
 import sys
 import tempfile
 
-from run import need_programs
+from run import need_plain_rust, need_programs
 
 TOP = os.path.dirname(os.path.dirname(os.path.abspath(__file__)))
 PROGRAM = os.path.join(TOP, "crates", "gcaudit", "out", "gcaudit")
@@ -364,6 +365,10 @@ def random_trace(seed):
     return events
 
 
+def as_lines(events):
+    return "".join(json.dumps(e, separators=(",", ":")) + "\n" for e in events).encode()
+
+
 # ---- minor collections
 
 
@@ -468,8 +473,7 @@ def minor_main(count, first):
         events = random_minor_trace(seed)
         lines, status = minor_report_of(events)
         collections += sum(1 for line in lines if " live " in line)
-        trace = "".join(json.dumps(e, separators=(",", ":")) + "\n" for e in events).encode()
-        run = subprocess.run([MINOR_PROGRAM], input=trace, capture_output=True, timeout=120)
+        run = subprocess.run([MINOR_PROGRAM], input=as_lines(events), capture_output=True, timeout=120)
         if (run.stdout, run.returncode) != (("\n".join(lines) + "\n").encode(), status):
             wrong += 1
             print(f"seed {seed}: status {run.returncode}, not {status}\n  got  {run.stdout.decode().splitlines()}\n  want {lines}")
@@ -499,8 +503,8 @@ def check_main(count, first):
     with tempfile.TemporaryDirectory() as folder:
         trace, report = (os.path.join(folder, name) for name in ("trace", "report"))
         for seed in range(first, first + count):
-            with open(trace, "w") as file:
-                file.writelines(json.dumps(e, separators=(",", ":")) + "\n" for e in random_trace(seed))
+            with open(trace, "wb") as file:
+                file.write(as_lines(random_trace(seed)))
             paths = str(PATHS if seed % 5 else seed % 7)
             with open(trace, "rb") as given:
                 said = subprocess.run([PROGRAM, "--workers", str(WORKERS[seed % len(WORKERS)]), "--paths", paths], stdin=given, stdout=subprocess.PIPE).stdout
@@ -516,11 +520,35 @@ def check_main(count, first):
     sys.exit(1 if wrong else 0)
 
 
+def plain_main(count, first):
+    """Compares the plain Rust program, which says less of a refused line, on the other traces: read by derive and by `Value`, and by three workers."""
+    program, wrong, compared, seed = need_plain_rust(), 0, 0, first
+    while compared < count:
+        events, paths = random_trace(seed), PATHS if seed % 5 else seed % 7
+        lines, status = report_of(events, paths)
+        if status != 2:
+            compared += 1
+            trace = as_lines(events)
+            for words in ((), ("--value",), ("--workers", "3")):
+                run = subprocess.run([program, "--paths", str(paths), *words], input=trace, capture_output=True, timeout=120)
+                if (run.stdout, run.returncode) != (("\n".join(lines) + "\n").encode(), status):
+                    wrong += 1
+                    print(f"seed {seed} {' '.join(words)}: status {run.returncode}, not {status}\n  got  {run.stdout.decode().splitlines()}\n  want {lines}")
+        seed += 1
+    print(f"{count} traces of plain_rust, in three ways each, from seed {first}: {wrong} wrong")
+    sys.exit(1 if wrong else 0)
+
+
+# The words that name another program, each with what is compared and the programs that it needs.
+OTHERS = {"gcminor": (minor_main, [MINOR_PROGRAM]), "gccheck": (check_main, [PROGRAM, CHECKER]), "plain_rust": (plain_main, [])}
+
+
 def main():
-    if sys.argv[1:2] in (["gcminor"], ["gccheck"]):
-        need_programs(*([MINOR_PROGRAM] if sys.argv[1] == "gcminor" else [PROGRAM, CHECKER]))
+    if sys.argv[1:] and sys.argv[1] in OTHERS:
+        compare, programs = OTHERS[sys.argv[1]]
+        need_programs(*programs)
         numbers = [int(word) for word in sys.argv[2:4]]
-        (minor_main if sys.argv[1] == "gcminor" else check_main)(*(numbers + [1000, 1][len(numbers):]))
+        compare(*(numbers + [1000, 1][len(numbers):]))
     need_programs(PROGRAM)
     count = int(sys.argv[1]) if len(sys.argv) > 1 else 1000
     first = int(sys.argv[2]) if len(sys.argv) > 2 else 1
@@ -530,8 +558,7 @@ def main():
         react, paths = REACTIONS[seed % 3], PATHS if seed % 5 else seed % 7
         expected = report_of(events, paths, react)
         verdicts += sum(1 for l in expected[0] if l.startswith("gc ") and " live " not in l)
-        trace = "".join(json.dumps(e, separators=(",", ":")) + "\n" for e in events).encode()
-        if difference := differs(["--react", react, "--paths", str(paths)], trace, expected):
+        if difference := differs(["--react", react, "--paths", str(paths)], as_lines(events), expected):
             wrong += 1
             print(f"seed {seed}, {react}, {paths} paths, {difference}")
     for number in range(first, first + 40):

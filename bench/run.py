@@ -1,16 +1,24 @@
 #!/usr/bin/env python3
-"""Runs the built program over large traces, and prints lines and megabytes a second and peak memory.
+"""Times gcaudit over large traces, beside plain Rust and beside `wc -l`; and the reading of lines alone.
 
-Usage: bench/run.py [--small] [--before PROGRAM] [--plot FILE] [--plot-growth FILE] [--plot-memory FILE]     (--small: a tenth of the sizes)
-Where another program is named, as one built before, it runs over the same traces in turn: the last columns say how many times as long
-it took, and its peak of memory. Pictures go to the FILEs, as SVG: of the times beside plain Rust, of the time of each trace beside that of
-half of it, and of the peaks of memory.
-The program must be built: ./gcaudit examples/first.jsonl builds it. Nothing here is part of the gate.
-Each trace is run at one size and at twice that size, so that the ratio of the two times can be read;
-`wc -l` over the same file, in the same run, is the yardstick for the machine. Where cargo can build it, the plain
-Rust program in bench/plain_rust runs over the same file as well, and must write the same report; once more it only
-reads the lines, which no program can beat that makes a `Value` of each.
+Usage: bench/run.py [--small] [--turns N] [--before PROGRAM] [--plot FILE] [--plot-growth FILE] [--plot-memory FILE]
+       bench/run.py --reading [--small] [--turns N] [--plot FILE]
+
+The first prints lines and megabytes a second and peaks of memory. Each trace is run at one size and at twice that size, so that the ratio
+of the two times can be read. `wc -l` over the same file, in the same run, is the yardstick for the machine. Where cargo can build it, the
+plain Rust program in bench/plain_rust runs over the same file as well, and must write the same report; once more it only reads the lines by
+serde's derive into a struct that borrows, and once by making serde_json's `Value` of each.
+--reading             lines of some kinds that change next to nothing: gcaudit with one worker, beside plain Rust that only reads them
+--small               a tenth of the sizes
+--turns N             so many turns, of which the least time stands (5)
+--before PROGRAM      another program, as one built before, over the same traces in turn: the last columns say how many times as long it
+                      took, and its peak of memory
+--plot FILE           a picture of the times beside plain Rust, as SVG; of --reading, beside both ways of plain Rust
+--plot-growth FILE    a picture of the time of each trace beside that of half of it
+--plot-memory FILE    a picture of the peaks of memory
+gcaudit must be built: ./gcaudit examples/first.jsonl builds it. Nothing here is part of the gate.
 """
+import argparse
 import os
 import shutil
 import subprocess
@@ -18,13 +26,14 @@ import sys
 import tempfile
 import threading
 import time
+from typing import NamedTuple
 
 from plot import bars
 
 TOP = os.path.dirname(os.path.dirname(os.path.abspath(__file__)))
 PROGRAM = os.path.join(TOP, "crates", "gcaudit", "out", "gcaudit")
 PLAIN_RUST = os.path.join(TOP, "bench", "plain_rust")
-# Where Debian's packages librust-serde-json-dev and librust-hashbrown-dev put the sources of crates.
+# Where Debian's packages put the sources of crates; bench/README.md names those that are wanted.
 DEBIAN_SOURCES = "/usr/share/cargo/registry"
 TRIES = 5
 
@@ -128,6 +137,48 @@ def service(n):
             yield '{"op":"collect"}\n'
 
 
+# ---- lines that change next to nothing
+
+# The objects that these lines name.
+FIRST, OBJECTS = 100_001, 1_000
+
+
+def repeated(line):
+    """Lines that name one of the objects in turn, so many."""
+    def lines(n):
+        yield from (alloc(FIRST + i, "Node", 16) for i in range(OBJECTS))
+        yield from (line(FIRST + i % OBJECTS) + "\n" for i in range(n))
+
+    return lines
+
+
+LINES = {
+    "of 48 bytes": repeated(lambda i: f'{{"op":"store","at":{i},"slot":10,"to":{i}}}'),
+    "of 300 bytes": repeated(lambda i: f'{{"op":"assert-instances","type":"{"n" * 249}{i}","limit":1}}'),
+    "with blanks": repeated(lambda i: f'{{"op": "store", "at": {i}, "slot": 10, "to": {i}}}'),
+    "keys in another order": repeated(lambda i: f'{{"to":{i},"slot":10,"at":{i},"op":"store"}}'),
+    "escapes": repeated(lambda i: f'{{"op":"root","n\\u0061me":"gr\\u00fc\\u00dfe/\\"{i}\\"","to":{i}}}'),
+    "floats": repeated(lambda i: f'{{"op":"store","at":{i},"slot":10,"to":{i},"seconds":{i}.25e-3,"share":0.5}}'),
+    "nested values": repeated(lambda i: f'{{"op":"store","at":{i},"slot":10,"to":{i},"in":{{"file":["a.c",{{"line":[1,2,null,true]}}]}}}}'),
+    "keys twice": repeated(lambda i: f'{{"op":"store","at":1,"at":{i},"slot":0,"slot":10,"to":{i}}}'),
+    "long names": repeated(lambda i: f'{{"op":"root","name":"{"ü" * 125}{i}","to":null}}'),
+    "unknown keys": repeated(lambda i: f'{{"op":"store","at":{i},"slot":10,"to":{i},"file":"main.c","line":{i}}}'),
+    "twelve keys": repeated(lambda i: f'{{"op":"store","a":1,"b":2,"c":3,"d":4,"e":5,"f":6,"g":7,"h":8,"at":{i},"slot":10,"to":{i}}}'),
+}
+
+
+# ---- running
+
+
+class Run(NamedTuple):
+    """One run of a program. The peak of its memory is in KiB; `processors` is the time of all processors together."""
+    seconds: float
+    peak: int
+    status: int
+    output: bytes
+    processors: float
+
+
 def watch_memory(child, peaks):
     """Appends the process's peak of resident memory, in KiB, every 2 ms until it ends.
 
@@ -150,28 +201,45 @@ def timed(command, path):
         watcher = threading.Thread(target=watch_memory, args=(child, peaks))
         watcher.start()
         output = child.stdout.read()
-        status = child.wait()
+        child.stdout.close()
+        _, status, used = os.wait4(child.pid, 0)
         seconds = time.perf_counter() - start
+        child.returncode = os.waitstatus_to_exitcode(status)
         watcher.join()
-        return seconds, peaks[-1], status, output
+        return Run(seconds, peaks[-1], child.returncode, output, used.ru_utime + used.ru_stime)
+
+
+def build_plain_rust():
+    """The plain Rust program, and nothing; or nothing, and why it can't be built."""
+    if shutil.which("cargo") is None:
+        return None, "there is no cargo"
+    command = ["cargo", "build", "--release", "--quiet"]
+    if os.path.isdir(DEBIAN_SOURCES):
+        command += ["--offline", "--config", 'source.crates-io.replace-with="debian"']
+        command += ["--config", f'source.debian.directory="{DEBIAN_SOURCES}"']
+    built = subprocess.run(command, cwd=PLAIN_RUST, stdout=subprocess.DEVNULL, stderr=subprocess.PIPE, text=True)
+    if built.returncode != 0:
+        return None, f"cargo can't build it ({(built.stderr.strip().splitlines() or ['it says nothing'])[0]})"
+    return os.path.join(PLAIN_RUST, "target", "release", "plain_rust"), None
 
 
 def plain_rust():
     """The plain Rust program, built, or nothing where it can't be built."""
-    command = ["cargo", "build", "--release", "--quiet"]
-    if os.path.isdir(DEBIAN_SOURCES):
-        command += ["--offline", "--config", 'source.crates-io.replace-with="debian"', "--config", f'source.debian.directory="{DEBIAN_SOURCES}"']
-    try:
-        built = subprocess.run(command, cwd=PLAIN_RUST, stdout=subprocess.DEVNULL, stderr=subprocess.DEVNULL).returncode == 0
-    except FileNotFoundError:
-        built = False
-    return os.path.join(PLAIN_RUST, "target", "release", "plain_rust") if built else None
+    return build_plain_rust()[0]
 
 
-def best(commands, path):
+def need_plain_rust():
+    """The same, and it ends the script with a sentence where it can't be built."""
+    built, why = build_plain_rust()
+    if built is None:
+        sys.exit(f"bench/plain_rust is not there: {why}")
+    return built
+
+
+def best(commands, path, turns=TRIES):
     """Of each command the run of the least time; they take turns, since a shared machine is faster at one moment than at another."""
-    runs = [[timed(command, path) for command in commands] for _ in range(TRIES)]
-    return [min(tries, key=lambda run: run[0]) for tries in zip(*runs)]
+    runs = [[timed(command, path) for command in commands] for _ in range(turns)]
+    return [min(tries, key=lambda run: run.seconds) for tries in zip(*runs)]
 
 
 def need_programs(*programs):
@@ -188,53 +256,163 @@ def need_commands(*names):
             sys.exit(f"the command {name} is not there")
 
 
-def picture(word, title, columns, rows, mark=None):
-    """Makes a picture where this word of the command line names a file for it."""
-    if word in sys.argv:
-        bars(sys.argv[sys.argv.index(word) + 1], title, columns, rows, mark)
+# ---- the tables
+
+
+SHAPES = [
+    (chain, 200_000),
+    (tree, 250_000),
+    (sparse, 250_000),
+    (collections, 150_000),
+    (roots, 250_000),
+    (names, 250_000),
+    (long_names, 130_000),
+    (lone_roots, 130_000),
+    (service, 100_000),
+]
+# The columns of the first table, with their widths; negative where the words are on the left.
+COLUMNS = {
+    "trace": -12,
+    "lines": 9,
+    "MB": 6,
+    "lines/s": 10,
+    "MB/s": 6,
+    "peak MB": 8,
+    "x wc -l": 8,
+    "x plain Rust": 12,
+    "x only read": 11,
+    "x by Value": 10,
+    "twice": 6,
+    "earlier": 8,
+    "its MB": 7,
+    "end": -1,
+}
+
+
+def show(*cells):
+    print(" ".join(f"{cell:<{-width}}" if width < 0 else f"{cell:>{width}}" for cell, width in zip(cells, COLUMNS.values())), flush=True)
+
+
+def beside(ours, its):
+    """How many times as long we took, where both wrote the same."""
+    return f"{ours.seconds / its.seconds:.2f}" if ours.output == its.output else "DIFFERS"
+
+
+class Timed(NamedTuple):
+    """One trace, and the least run of each program over it: `plains` are of plain Rust, of it with only reading, and that by `Value`."""
+    name: str
+    lines: int
+    megabytes: float
+    counted: Run
+    ours: Run
+    plains: list
+    earlier: Run
+
+
+def time_trace(shape, n, path, plain, options):
+    with open(path, "w") as trace:
+        trace.writelines(shape(n))
+    commands = [["wc", "-l"], [PROGRAM]]
+    commands += [[plain], [plain, "--only-read"], [plain, "--only-read", "--value"]] if plain else []
+    commands += [[options.before]] if options.before else []
+    counted, ours, *others = best(commands, path, options.turns)
+    earlier = others.pop() if options.before else None
+    name, lines = shape.__name__.replace("_", " "), int(counted.output.split()[0])
+    return Timed(name, lines, os.path.getsize(path) / 1e6, counted, ours, others, earlier)
+
+
+def show_row(found, half):
+    """The row of a trace; of the first size there is no half."""
+    ours = found.ours
+    speeds = (f"{found.lines / ours.seconds:.0f}", f"{found.megabytes / ours.seconds:.1f}")
+    plains = ("", "", "")
+    if found.plains:
+        plain, *reading = found.plains
+        plains = (beside(ours, plain), *(f"{ours.seconds / other.seconds:.2f}" for other in reading))
+    twice = f"{ours.seconds / half.ours.seconds:.2f}" if half else ""
+    earlier = (beside(found.earlier, ours), f"{found.earlier.peak / 1024:.1f}") if found.earlier else ("", "")
+    end = ours.output.decode().splitlines()[-1] if ours.output else f"status {ours.status}"
+    of_machine = (f"{ours.peak / 1024:.1f}", f"{ours.seconds / found.counted.seconds:.1f}")
+    show(found.name, found.lines, f"{found.megabytes:.1f}", *speeds, *of_machine, *plains, twice, *earlier, end)
+
+
+def peaks_in_megabytes(*runs):
+    return [run.peak / 1024 for run in runs]
+
+
+def draw(whole, options):
+    """The pictures, of pairs of the times of a trace and of half of it."""
+    if options.plot:
+        rows = [(found.name, [found.ours.seconds / plain.seconds for plain in found.plains[:2]]) for found, _ in whole if found.plains]
+        bars(options.plot, "Time of gcaudit with one worker", ("as a part of plain Rust's", "as a part of only reading's"), rows, mark=1)
+    if options.plot_growth:
+        rows = [(found.name, [found.ours.seconds / half.ours.seconds]) for found, half in whole]
+        bars(options.plot_growth, "Time of a trace as a part of that of half of it", ("times as long",), rows, mark=2)
+    if options.plot_memory:
+        rows = [(f"{found.name}, {found.megabytes:.0f} MB", peaks_in_megabytes(found.ours, *found.plains[:1])) for found, _ in whole]
+        bars(options.plot_memory, "Peak of memory in MB, and the size of the trace", ("gcaudit", "plain Rust"), rows)
+
+
+def time_traces(plain, options):
+    """The first table."""
+    show(*COLUMNS)
+    whole = []
+    with tempfile.TemporaryDirectory() as folder:
+        path = os.path.join(folder, "trace.jsonl")
+        for shape, size in SHAPES:
+            half = time_trace(shape, size // options.scale, path, plain, options)
+            show_row(half, None)
+            whole.append((time_trace(shape, 2 * size // options.scale, path, plain, options), half))
+            show_row(*whole[-1])
+    draw(whole, options)
+
+
+def time_reading(plain, options):
+    """The table of reading, in Markdown."""
+    columns = ["Lines", "MB", "gcaudit, s", "MB/s", "/ plain Rust by `Value`", "/ by derive", "/ `wc -l`"]
+    print(f"| {' | '.join(columns)} |\n| --- |{' ---: |' * (len(columns) - 1)}", flush=True)
+    count, plotted = 1_000_000 // options.scale, []
+    commands = [[PROGRAM], [plain, "--only-read", "--value"], [plain, "--only-read"], ["wc", "-l"]]
+    with tempfile.TemporaryDirectory() as folder:
+        path = os.path.join(folder, "trace.jsonl")
+        for name, lines in LINES.items():
+            with open(path, "w", encoding="utf-8") as trace:
+                trace.writelines(lines(count))
+            size = os.path.getsize(path)
+            ours, *others = best(commands, path, options.turns)
+            if any(run.status != 0 for run in (ours, *others)):
+                sys.exit(f"lines {name}: one was refused: {ours.output.decode()}")
+            ratios = [ours.seconds / other.seconds for other in others]
+            speed = f"{ours.seconds:.2f} | {size / 1e6 / ours.seconds:.0f}"
+            print(f"| {name} | {size / 1e6:.0f} | {speed} | {' | '.join(f'{ratio:.2f}' for ratio in ratios)} |", flush=True)
+            plotted.append((name, ratios[:2]))
+    if options.plot:
+        bars(options.plot, "Time of reading lines, as a part of that of plain Rust", ("by Value", "by derive"), plotted, mark=1)
+
+
+def read_words():
+    if "--help" in sys.argv[1:]:
+        print(__doc__)
+        sys.exit()
+    parser = argparse.ArgumentParser(usage="bench/run.py [options], as bench/run.py --help says", add_help=False)
+    parser.add_argument("--reading", action="store_true")
+    parser.add_argument("--small", dest="scale", action="store_const", const=10, default=1)
+    parser.add_argument("--turns", type=int, default=TRIES)
+    for word in ("--before", "--plot", "--plot-growth", "--plot-memory"):
+        parser.add_argument(word)
+    return parser.parse_args()
 
 
 def main():
+    options = read_words()
     need_programs(PROGRAM)
-    earlier = sys.argv[sys.argv.index("--before") + 1] if "--before" in sys.argv else None
-    plain = plain_rust()
+    if options.reading:
+        time_reading(need_plain_rust(), options)
+        return
+    plain, why = build_plain_rust()
     if plain is None:
-        print("bench/plain_rust can't be built here: its column stays empty")
-    scale, plotted, growth, memory = 10 if "--small" in sys.argv else 1, [], [], []
-    shapes = [(chain, 200_000), (tree, 250_000), (sparse, 250_000), (collections, 150_000), (roots, 250_000), (names, 250_000), (long_names, 130_000), (lone_roots, 130_000), (service, 100_000)]
-    print(f'{"trace":<12} {"lines":>9} {"MB":>6} {"lines/s":>10} {"MB/s":>6} {"peak MB":>8} {"x wc -l":>8} {"x plain Rust":>12} {"x only read":>11} {"twice":>6} {"earlier":>8} {"its MB":>7}  end')
-    with tempfile.TemporaryDirectory() as folder:
-        for shape, size in shapes:
-            before = None
-            for n in (size // scale, 2 * size // scale):
-                path = os.path.join(folder, "trace.jsonl")
-                with open(path, "w") as trace:
-                    trace.writelines(shape(n))
-                megabytes = os.path.getsize(path) / 1e6
-                commands = [["wc", "-l"], [PROGRAM]] + ([[plain], [plain, "--only-read"]] if plain else []) + ([[earlier]] if earlier else [])
-                counted, run, *others = best(commands, path)
-                lines = int(counted[3].split()[0])
-                seconds, peak, status, output = run
-                twice = f"{seconds / before:6.2f}" if before else ""
-                if before:
-                    growth.append((shape.__name__.replace("_", " "), [seconds / before]))
-                    memory.append((f"{shape.__name__.replace('_', ' ')}, {megabytes:.0f} MB", [peak / 1024] + [other[1] / 1024 for other in others[:1] if plain]))
-                before = seconds
-                ratio = only_read = ""
-                then = ""
-                if earlier:
-                    old = others.pop()
-                    then = f"{old[0] / seconds:8.2f} {old[1] / 1024:7.1f}" + ("" if old[3] == output else " DIFFERS")
-                if others:
-                    ratio = f"{seconds / others[0][0]:.2f}" if others[0][3] == output else "DIFFERS"
-                    only_read = f"{seconds / others[1][0]:.2f}"
-                    if twice:
-                        plotted.append((shape.__name__.replace("_", " "), [seconds / others[0][0] if ratio != "DIFFERS" else None, seconds / others[1][0]]))
-                end = output.decode().splitlines()[-1] if output else f"status {status}"
-                print(f"{shape.__name__:<12} {lines:>9} {megabytes:>6.1f} {lines / seconds:>10.0f} {megabytes / seconds:>6.1f} {peak / 1024:>8.1f} {seconds / counted[0]:>8.1f} {ratio:>12} {only_read:>11} {twice:>6} {then:>16}  {end}", flush=True)
-    picture("--plot", "Time of gcaudit with one worker", ("as a part of plain Rust's", "as a part of only reading's"), plotted, mark=1)
-    picture("--plot-growth", "Time of a trace as a part of that of half of it", ("times as long",), growth, mark=2)
-    picture("--plot-memory", "Peak of memory in MB, and the size of the trace", ("gcaudit", "plain Rust"), memory)
+        print(f"bench/plain_rust is not there, and its columns stay empty: {why}")
+    time_traces(plain, options)
 
 
 if __name__ == "__main__":

@@ -10,7 +10,7 @@ import os
 import sys
 import tempfile
 
-from run import PLAIN_RUST, TOP, plain_rust, timed
+from run import PLAIN_RUST, TOP, need_programs, plain_rust, timed
 
 PROGRAM = os.path.join(TOP, "crates", "gcsnap", "out", "gcsnap")
 PLAIN = os.path.join(PLAIN_RUST, "target", "release", "plain_snapshot")
@@ -64,6 +64,7 @@ def least(runs):
 
 
 def main():
+    need_programs(PROGRAM)
     scale = 100 if "--small" in sys.argv else 1
     plain = plain_rust() and PLAIN
     if not plain:
@@ -93,7 +94,7 @@ def main():
 
 def summed(run):
     """The same with a sum of what was written in its place."""
-    return *run[:3], hashlib.sha256(run[3]).digest()
+    return *run[:3], hashlib.sha256(run.output).digest()
 
 
 if __name__ == "__main__":
