@@ -74,10 +74,12 @@ void free(void *place) {
 int pthread_create(pthread_t *thread, const pthread_attr_t *how, void *(*run)(void *), void *with) {
     int (*next)(pthread_t *, const pthread_attr_t *, void *(*)(void *), void *) = dlsym(RTLD_NEXT, "pthread_create");
     int failed;
+    /* Before the call, since the new thread may ask for memory before it returns. */
+    ADD(started, 1);
     starts = 1;
     failed = next(thread, how, run, with);
     starts = 0;
-    if (!failed) ADD(started, 1);
+    if (failed) ADD(started, -1);
     return failed;
 }
 
