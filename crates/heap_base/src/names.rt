@@ -5,24 +5,26 @@ ghost use Rattle.heap_base.specs.Names.{is_name, is_name_byte};
 use crate::{LONGEST_NAME, OutOfMemory};
 use std::alloc::Global;
 use std::marker::Model;
+use std::sync::ArcStr;
 
 /// The name of a type or of a root: 1 to 256 bytes of UTF-8, none of them a control character of ASCII
 /// (below 0x20, or 0x7F). Contracts see it as its bytes.
 #[derive(Debug, Drop)]
 pub struct Name {
-    text: String,
+    // shared by all copies, of which a collection's verdicts have many
+    text: ArcStr,
 }
 
 impl Model for Name {
     ghost use Rattle.std.specs.Prelude.{List, ℕ, IsTrue};
-    ghost use Rattle.std.specs.String.{string_bytes};
+    ghost use Rattle.std.specs.Arc.{arc_str_bytes};
     ghost use Rattle.heap_base.specs.Names.{is_name};
 
     ghost Value = { List ℕ };
 
-    ghost view = { λ n. string_bytes n.text };
+    ghost view = { λ n. arc_str_bytes n.text };
 
-    ghost invariant = { λ n. IsTrue (is_name (string_bytes n.text)) };
+    ghost invariant = { λ n. IsTrue (is_name (arc_str_bytes n.text)) };
 }
 
 impl Name {
@@ -33,7 +35,7 @@ impl Name {
         if !is_legal(text) {
             return Ok(None);
         }
-        let text = String::from_str(alloc, text)?;
+        let text = ArcStr::from_str(alloc, text)?;
         Ok(Some(Name { text }))
     }
 
@@ -45,7 +47,7 @@ impl Name {
         self.text.as_str()
     }
 
-    /// An equal name.
+    /// An equal name, which shares its text.
     pub fn copy(&self) -> Result<Name, OutOfMemory>
         ensures { IfOk result (λ name. name ≡ self.now) }
     {
