@@ -62,8 +62,13 @@ fn is_legal(text: &str) -> bool
     1 <= text.len() && text.len() <= LONGEST_NAME && has_no_control(text.as_bytes())
 }
 
+// It goes to the end in any case, so that many bytes are looked at at once.
 fn has_no_control(bytes: &[u8]) -> bool
     ensures { result ≡ list_all is_name_byte bytes.now }
 {
-    bytes.iter().all(|b| 32 <= *b && *b != 127)
+    let mut legal = true;
+    for b in bytes {
+        legal = legal & (32 <= *b) & (*b != 127);
+    }
+    legal
 }
