@@ -1,5 +1,6 @@
 -- Each step keeps the rule of a round.
-use Rattle.std.proofs.Common.{◌≡◌, ◌≢◌, ℕ, zero, suc, ◌<◌, Option, Some, None, Bool, true, false, List, [], ◌∷◌, ◌++◌, length, get_or, set, sym, refl, ap, ◌∙◌, subst, ⊎_elim, ◌⊎◌, inl, inr, arith, length-set}
+use Rattle.std.proofs.Common.{◌≡◌, ◌≢◌, ℕ, zero, suc, ◌<◌, Option, Some, None, Bool, true, false, List, [], ◌∷◌, ◌++◌, length, get_or, set, sym}
+use Rattle.std.proofs.Common.{refl, ap, ◌∙◌, subst, ⊎_elim, ◌⊎◌, inl, inr, arith, length-set}
 use mathlib.Core.Option.{some, none, some-injective, some-ne-none}
 use mathlib.Core.Option as maybe
 use lib.ListN.{get_elem?}
@@ -9,7 +10,9 @@ use Rattle.parked_crew.specs.Errands.{Errand}
 use Rattle.parked_crew.specs.declared.rule.View.{View}
 use Rattle.parked_crew.specs.declared.rule.Role.{Role}
 use Rattle.parked_crew.specs.declared.rule.Role.TheVariants.{Nobody, Unsent, Sent, Served, Fresh, AtWork, Ended}
-use Rattle.parked_crew.specs.Rounds.{Stage, shut, opened, laid, seated, begun, finished, fetched, opening_word, phase, MayBe, Knows, hired, caller_role, worker_role, seen, IsHome, Slot, At, Turned, Sat, Opens, Sends, Takes, Finishes, Looks, without_right, the_worker}
+use Rattle.parked_crew.specs.Rounds.{Stage, shut, opened, laid, seated, begun, finished, fetched, opening_word, phase, MayBe, Knows, hired}
+use Rattle.parked_crew.specs.Rounds.{caller_role, worker_role, seen, IsHome, Slot, At, Turned, Sat, Opens, Sends, Takes, Finishes, Looks}
+use Rattle.parked_crew.specs.Rounds.{without_right, the_worker}
 
 -- Which stage a role shows
 is_opened : (st : Stage) → MayBe Unsent st → st ≡ opened
@@ -70,7 +73,8 @@ none_yet AtWork m = absurd m
 none_yet Ended m = absurd m
 
 -- A step of the caller: no other seat is the caller's
-caller_steps : (st st' : Stage) (c w w' id j : ℕ) (role : Role) → id ≡ c → (Knows st c w j Fresh → Knows st' c w' j Fresh) → (Knows st c w j AtWork → Knows st' c w' j AtWork) → (Knows st c w j Ended → Knows st' c w' j Ended)
+caller_steps : (st st' : Stage) (c w w' id j : ℕ) (role : Role) → id ≡ c → (Knows st c w j Fresh → Knows st' c w' j Fresh) →
+    (Knows st c w j AtWork → Knows st' c w' j AtWork) → (Knows st c w j Ended → Knows st' c w' j Ended)
     → j ≢ id → Knows st c w j role → Knows st' c w' j role
 caller_steps st st' c w w' id j Nobody mine f a e apart k = (tt, tt)
 caller_steps st st' c w w' id j Unsent mine f a e apart k = absurd (apart (k.1 ∙ sym mine))
@@ -81,7 +85,8 @@ caller_steps st st' c w w' id j AtWork mine f a e apart k = a k
 caller_steps st st' c w w' id j Ended mine f a e apart k = e k
 
 -- A step of the worker: no other seat is the worker's
-worker_steps : (st st' : Stage) (c w id j : ℕ) (role : Role) → id ≡ w → (MayBe Unsent st → MayBe Unsent st') → ((b : Bool) → MayBe (Sent b) st → MayBe (Sent b) st') → (MayBe Served st → MayBe Served st')
+worker_steps : (st st' : Stage) (c w id j : ℕ) (role : Role) → id ≡ w → (MayBe Unsent st → MayBe Unsent st') →
+    ((b : Bool) → MayBe (Sent b) st → MayBe (Sent b) st') → (MayBe Served st → MayBe Served st')
     → j ≢ id → Knows st c w j role → Knows st' c w j role
 worker_steps st st' c w id j Nobody mine u s v apart k = (tt, tt)
 worker_steps st st' c w id j Unsent mine u s v apart k = (u k.0, k.1)
@@ -134,7 +139,10 @@ module _ {C : Type 0} (n : C) where
 
   -- what a step owes, over the parts of the table
   abbrev Goes : List ℕ → Homes → List (View C) → ℕ → Sat C → ℕ → (ℕ → ℕ) → (ℕ → Sat C → Type 0) → Type 0
-  Goes ws hs vs id me i f then = (u : View C) × (a : Act It) × Valid hs me.1 a × Turned n (stepped (record { words = ws; homes = hs; views = vs }) i (f (get_or ws i 0)) id me.1 u a) × then (get_or ws i 0) (u, carried_after me.1 a)
+  Goes ws hs vs id me i f then =
+      (u : View C) × (a : Act It) × Valid hs me.1 a
+      × Turned n (stepped (record { words = ws; homes = hs; views = vs }) i (f (get_or ws i 0)) id me.1 u a)
+      × then (get_or ws i 0) (u, carried_after me.1 a)
 
   at_words : (st : Stage) (c w : ℕ) (s : St) → At n st c w s → (id : ℕ) (me : Sat C) (i : ℕ) (f : ℕ → ℕ) (then : ℕ → Sat C → Type 0)
       → Goes (opening_word st ∷ phase st ∷ []) s.homes s.views id me i f then → Goes s.words s.homes s.views id me i f then
@@ -177,7 +185,16 @@ module _ {C : Type 0} (n : C) where
       → ((j : ℕ) (role : Role) → j ≢ id → Knows st c w j role → Knows st' c' w' j role)
       → (opening_word st' ≡ 1 → get_elem? (set s.views id u) c' ≡ some (seen (caller_role st') n)) → (hired st' ≡ 1 → get_elem? (set s.views id u) w' ≡ some (seen (worker_role st') n))
       → Turned n record { words = opening_word st' ∷ phase st' ∷ []; homes = homes'; views = set s.views id u }
-  moved st st' c w c' w' s k id u homes' deep slot mine noted others ct wt = record { stage = st'; caller = c'; worker = w'; at = moved_at st st' c w c' w' s k id u homes' deep slot mine noted others ct wt }
+  moved st st' c w c' w' s k id u homes' deep slot mine noted others ct wt =
+      record { stage = st'; caller = c'; worker = w'; at = moved_at st st' c w c' w' s k id u homes' deep slot mine noted others ct wt }
+
+  -- nothing moves
+  stays : (st : Stage) (c w : ℕ) (s : St) → At n st c w s → (id : ℕ) (v : View C) → get_elem? s.views id ≡ some v →
+      Turned n record { words = opening_word st ∷ phase st ∷ []; homes = s.homes; views = set s.views id v }
+  stays st c w s k id v at =
+      moved st st c w c w s k id v s.homes k.deep k.slot (k.each_seat id v at) (k.noted id v at) (λ j role _ h. h)
+      (λ e. same_there s.views id c v (seen (caller_role st) n) at (k.caller_there e))
+      (λ e. same_there s.views id w v (seen (worker_role st) n) at (k.worker_there e))
 
   -- the table when it is made
   pub makes : Turned n (opening (0 ∷ 0 ∷ []) (None ∷ []) (seen Nobody n))
@@ -202,23 +219,26 @@ module _ {C : Type 0} (n : C) where
     seen Unsent m,
     takes 0 None,
     k.slot,
-    moved shut opened c w id w s k id (seen Unsent m) (set s.homes 0 none) (length-set s.homes 0 none ∙ k.deep) (set_here s.homes 0 none (let d = k.deep in omega arith)) (tt, refl) (k.noted id (seen Nobody m) at)
+    moved shut opened c w id w s k id (seen Unsent m) (set s.homes 0 none) (length-set s.homes 0 none ∙ k.deep)
+        (set_here s.homes 0 none (let d = k.deep in omega arith)) (tt, refl) (k.noted id (seen Nobody m) at)
         (λ j role apart h. subst (λ (r : Role). Knows opened id w j r) (sym (none_yet role h.0)) (tt, tt))
         (λ _. new_there s.views id id (seen Nobody m) Unsent m at refl (k.noted id (seen Nobody m) at)) (λ e. absurd (omega arith)),
     refl,
   )
-  opens_at opened c w slots id s m k at = (seen Nobody m, keeps, tt, moved opened opened c w c w s k id (seen Nobody m) s.homes k.deep k.slot (tt, tt) (k.noted id (seen Nobody m) at) (λ j role _ h. h) (λ e. same_there s.views id c (seen Nobody m) (seen (caller_role opened) n) at (k.caller_there e)) (λ e. same_there s.views id w (seen Nobody m) (seen (worker_role opened) n) at (k.worker_there e)), refl)
-  opens_at laid c w slots id s m k at = (seen Nobody m, keeps, tt, moved laid laid c w c w s k id (seen Nobody m) s.homes k.deep k.slot (tt, tt) (k.noted id (seen Nobody m) at) (λ j role _ h. h) (λ e. same_there s.views id c (seen Nobody m) (seen (caller_role laid) n) at (k.caller_there e)) (λ e. same_there s.views id w (seen Nobody m) (seen (worker_role laid) n) at (k.worker_there e)), refl)
-  opens_at seated c w slots id s m k at = (seen Nobody m, keeps, tt, moved seated seated c w c w s k id (seen Nobody m) s.homes k.deep k.slot (tt, tt) (k.noted id (seen Nobody m) at) (λ j role _ h. h) (λ e. same_there s.views id c (seen Nobody m) (seen (caller_role seated) n) at (k.caller_there e)) (λ e. same_there s.views id w (seen Nobody m) (seen (worker_role seated) n) at (k.worker_there e)), refl)
-  opens_at begun c w slots id s m k at = (seen Nobody m, keeps, tt, moved begun begun c w c w s k id (seen Nobody m) s.homes k.deep k.slot (tt, tt) (k.noted id (seen Nobody m) at) (λ j role _ h. h) (λ e. same_there s.views id c (seen Nobody m) (seen (caller_role begun) n) at (k.caller_there e)) (λ e. same_there s.views id w (seen Nobody m) (seen (worker_role begun) n) at (k.worker_there e)), refl)
-  opens_at finished c w slots id s m k at = (seen Nobody m, keeps, tt, moved finished finished c w c w s k id (seen Nobody m) s.homes k.deep k.slot (tt, tt) (k.noted id (seen Nobody m) at) (λ j role _ h. h) (λ e. same_there s.views id c (seen Nobody m) (seen (caller_role finished) n) at (k.caller_there e)) (λ e. same_there s.views id w (seen Nobody m) (seen (worker_role finished) n) at (k.worker_there e)), refl)
-  opens_at fetched c w slots id s m k at = (seen Nobody m, keeps, tt, moved fetched fetched c w c w s k id (seen Nobody m) s.homes k.deep k.slot (tt, tt) (k.noted id (seen Nobody m) at) (λ j role _ h. h) (λ e. same_there s.views id c (seen Nobody m) (seen (caller_role fetched) n) at (k.caller_there e)) (λ e. same_there s.views id w (seen Nobody m) (seen (worker_role fetched) n) at (k.worker_there e)), refl)
+  opens_at opened c w slots id s m k at = (seen Nobody m, keeps, tt, stays opened c w s k id (seen Nobody m) at, refl)
+  opens_at laid c w slots id s m k at = (seen Nobody m, keeps, tt, stays laid c w s k id (seen Nobody m) at, refl)
+  opens_at seated c w slots id s m k at = (seen Nobody m, keeps, tt, stays seated c w s k id (seen Nobody m) at, refl)
+  opens_at begun c w slots id s m k at = (seen Nobody m, keeps, tt, stays begun c w s k id (seen Nobody m) at, refl)
+  opens_at finished c w slots id s m k at = (seen Nobody m, keeps, tt, stays finished c w s k id (seen Nobody m) at, refl)
+  opens_at fetched c w slots id s m k at = (seen Nobody m, keeps, tt, stays fetched c w s k id (seen Nobody m) at, refl)
 
   pub opens : (slots id : ℕ) (m : C) → Allows (Turned n) slots id (seen Nobody m, []) 0 (λ _. 1) (Opens (step slots 0 1 0 none) (seen Nobody m, []))
-  opens slots id m s r _ at _ = at_words r.stage r.caller r.worker s r.at id (seen Nobody m, []) 0 (λ _. 1) (Opens (step slots 0 1 0 none) (seen Nobody m, [])) (opens_at r.stage r.caller r.worker slots id s m r.at at)
+  opens slots id m s r _ at _ =
+      at_words r.stage r.caller r.worker s r.at id (seen Nobody m, []) 0 (λ _. 1) (Opens (step slots 0 1 0 none) (seen Nobody m, [])) (opens_at r.stage r.caller r.worker slots id s m r.at at)
 
   -- the caller's seat lays down an errand that is not done
-  pub sends : (slots id : ℕ) (m : C) (e : Errand C) → e.is_done ≡ false → e.start ≡ m → Allows (Turned n) slots id (seen Unsent m, (0, Some e) ∷ []) 1 (λ _. 1) (Sends (step slots 1 1 0 none) (seen Unsent m, (0, Some e) ∷ []))
+  pub sends : (slots id : ℕ) (m : C) (e : Errand C) → e.is_done ≡ false → e.start ≡ m →
+      Allows (Turned n) slots id (seen Unsent m, (0, Some e) ∷ []) 1 (λ _. 1) (Sends (step slots 1 1 0 none) (seen Unsent m, (0, Some e) ∷ []))
   sends slots id m e fresh about s r _ at _ =
       let known : Knows r.stage r.caller r.worker id Unsent = r.at.each_seat id (seen Unsent m) at in
       let k : At n opened r.caller r.worker s = subst (λ (z : Stage). At n z r.caller r.worker s) (is_opened r.stage known.0) r.at in
@@ -281,12 +301,14 @@ module _ {C : Type 0} (n : C) where
         moved seated begun r.caller r.worker r.caller r.worker s k id (seen AtWork m) (set s.homes 0 none) (length-set s.homes 0 none ∙ k.deep)
             (set_here s.homes 0 none (let d = k.deep in omega arith)) (tt, known.1) same
             (λ j role. worker_steps seated begun r.caller r.worker id j role known.1 (λ h. h) (stays_sent seated begun (λ h. h) (λ h. h)) (λ h. h))
-            (λ _. other_there s.views id r.caller (seen Fresh m) (seen (Sent false) n) (seen AtWork m) at (k.caller_there refl) (λ e. omega arith)) (λ _. new_there s.views id r.worker (seen Fresh m) AtWork m at known.1 same),
+            (λ _. other_there s.views id r.caller (seen Fresh m) (seen (Sent false) n) (seen AtWork m) at (k.caller_there refl) (λ e. omega arith))
+            (λ _. new_there s.views id r.worker (seen Fresh m) AtWork m at known.1 same),
         (lies.0, refl, lies.2, subst (λ (z : C). let e : Errand C = lies.0 in e.start ≡ z) (sym same) lies.3),
       )
 
   -- the worker lays down the errand that is done
-  pub ends : (slots id : ℕ) (m : C) (e : Errand C) → e.is_done ≡ true → e.start ≡ m → Allows (Turned n) slots id (seen AtWork m, (0, Some e) ∷ []) 1 (λ _. 3) (Finishes (step slots 1 3 0 none) (seen AtWork m, (0, Some e) ∷ []))
+  pub ends : (slots id : ℕ) (m : C) (e : Errand C) → e.is_done ≡ true → e.start ≡ m →
+      Allows (Turned n) slots id (seen AtWork m, (0, Some e) ∷ []) 1 (λ _. 3) (Finishes (step slots 1 3 0 none) (seen AtWork m, (0, Some e) ∷ []))
   ends slots id m e done about s r _ at _ =
       let known : Knows r.stage r.caller r.worker id AtWork = r.at.each_seat id (seen AtWork m) at in
       let k : At n begun r.caller r.worker s = subst (λ (z : Stage). At n z r.caller r.worker s) (is_begun r.stage known.0) r.at in
@@ -298,7 +320,8 @@ module _ {C : Type 0} (n : C) where
         moved begun finished r.caller r.worker r.caller r.worker s k id (seen Ended m) (set s.homes 0 (some (Some e))) (length-set s.homes 0 (some (Some e)) ∙ k.deep)
             (e, set_here s.homes 0 (some (Some e)) (let d = k.deep in omega arith), done, subst (λ (z : C). e.start ≡ z) same about) (tt, known.1) same
             (λ j role. worker_steps begun finished r.caller r.worker id j role known.1 (λ h. h) (stays_sent begun finished (λ h. h) (λ h. h)) (λ h. absurd h))
-            (λ _. other_there s.views id r.caller (seen AtWork m) (seen (Sent false) n) (seen Ended m) at (k.caller_there refl) (λ e. omega arith)) (λ _. new_there s.views id r.worker (seen AtWork m) Ended m at known.1 same),
+            (λ _. other_there s.views id r.caller (seen AtWork m) (seen (Sent false) n) (seen Ended m) at (k.caller_there refl) (λ e. omega arith))
+            (λ _. new_there s.views id r.worker (seen AtWork m) Ended m at known.1 same),
         refl,
       )
 
@@ -314,21 +337,16 @@ module _ {C : Type 0} (n : C) where
         moved finished fetched c w c w s k id (seen Served m) (set s.homes 0 none) (length-set s.homes 0 none ∙ k.deep)
             (set_here s.homes 0 none (let d = k.deep in omega arith)) (tt, mine) same
             (λ j role. caller_steps finished fetched c w w id j role mine (λ h. absurd h.0) (λ h. absurd h.0) (λ h. h))
-            (λ _. new_there s.views id c (seen (Sent false) m) Served m at mine same) (λ _. other_there s.views id w (seen (Sent false) m) (seen Ended n) (seen Served m) at (k.worker_there refl) (λ e. omega arith)),
+            (λ _. new_there s.views id c (seen (Sent false) m) Served m at mine same)
+            (λ _. other_there s.views id w (seen (Sent false) m) (seen Ended n) (seen Served m) at (k.worker_there refl) (λ e. omega arith)),
         ((λ _. (lies.0, refl, lies.2, subst (λ (z : C). let e : Errand C = lies.0 in e.start ≡ z) (sym same) lies.3)), (λ other. absurd (other refl))),
       )
 
   -- it finds that the errand is not done
   waits : (st : Stage) (c w slots id : ℕ) (m : C) (s : St) → At n st c w s → get_elem? s.views id ≡ some (seen (Sent false) m) → phase st ≢ 3
       → Goes (opening_word st ∷ phase st ∷ []) s.homes s.views id (seen (Sent false) m, []) 1 (λ x. x) (Looks (step slots 1 0 0 none) (seen (Sent false) m, []))
-  waits st c w slots id m s k at early = (
-    seen (Sent false) m,
-    keeps,
-    tt,
-    moved st st c w c w s k id (seen (Sent false) m) s.homes k.deep k.slot (k.each_seat id (seen (Sent false) m) at) (k.noted id (seen (Sent false) m) at) (λ j role _ h. h)
-        (λ e. same_there s.views id c (seen (Sent false) m) (seen (caller_role st) n) at (k.caller_there e)) (λ e. same_there s.views id w (seen (Sent false) m) (seen (worker_role st) n) at (k.worker_there e)),
-    ((λ e. absurd (early e)), (λ _. refl)),
-  )
+  waits st c w slots id m s k at early =
+      (seen (Sent false) m, keeps, tt, stays st c w s k id (seen (Sent false) m) at, ((λ e. absurd (early e)), (λ _. refl)))
 
   pub looks : (slots id : ℕ) (m : C) → Allows (Turned n) slots id (seen (Sent false) m, []) 1 (λ x. x) (Looks (step slots 1 0 0 none) (seen (Sent false) m, []))
   looks slots id m s r _ at _ =
@@ -336,11 +354,13 @@ module _ {C : Type 0} (n : C) where
       ⊎_elim
       (λ (e : r.stage ≡ finished). let k : At n finished r.caller r.worker s = subst (λ (z : Stage). At n z r.caller r.worker s) e r.at in
       at_words finished r.caller r.worker s k id (seen (Sent false) m, []) 1 (λ x. x) (Looks (step slots 1 0 0 none) (seen (Sent false) m, [])) (fetches r.caller r.worker slots id m s k at known.1))
-      (λ (e : phase r.stage ≢ 3). at_words r.stage r.caller r.worker s r.at id (seen (Sent false) m, []) 1 (λ x. x) (Looks (step slots 1 0 0 none) (seen (Sent false) m, [])) (waits r.stage r.caller r.worker slots id m s r.at at e))
+      (λ (e : phase r.stage ≢ 3). at_words r.stage r.caller r.worker s r.at id (seen (Sent false) m, []) 1 (λ x. x)
+      (Looks (step slots 1 0 0 none) (seen (Sent false) m, [])) (waits r.stage r.caller r.worker slots id m s r.at at e))
       (is_finished r.stage known.0)
 
   -- The same of a seat whose view and slots are known by an equation
-  pub can_send : (slots id : ℕ) (me : Sat C) (e : Errand C) → me ≡ (seen Unsent me.0.start, (0, Some e) ∷ []) → e.is_done ≡ false → e.start ≡ me.0.start → Allows (Turned n) slots id me 1 (λ _. 1) (Sends (step slots 1 1 0 none) me)
+  pub can_send : (slots id : ℕ) (me : Sat C) (e : Errand C) → me ≡ (seen Unsent me.0.start, (0, Some e) ∷ []) → e.is_done ≡ false →
+      e.start ≡ me.0.start → Allows (Turned n) slots id me 1 (λ _. 1) (Sends (step slots 1 1 0 none) me)
   can_send slots id me e is fresh about = subst (λ (z : Sat C). Allows (Turned n) slots id z 1 (λ _. 1) (Sends (step slots 1 1 0 none) z)) (sym is) (sends slots id me.0.start e fresh about)
 
   pub can_split : (id : ℕ) (v : View C) → v ≡ seen (Sent true) v.start → Splits (Turned n) id v (without_right v) (the_worker v)
@@ -349,7 +369,8 @@ module _ {C : Type 0} (n : C) where
   pub can_begin : (slots id : ℕ) (me : Sat C) → me ≡ (seen Fresh me.0.start, []) → Allows (Turned n) slots id me 1 (λ _. 2) (Takes (step slots 1 2 0 none) me)
   can_begin slots id me is = subst (λ (z : Sat C). Allows (Turned n) slots id z 1 (λ _. 2) (Takes (step slots 1 2 0 none) z)) (sym is) (begins slots id me.0.start)
 
-  pub can_end : (slots id : ℕ) (me : Sat C) (e : Errand C) → me ≡ (seen AtWork me.0.start, (0, Some e) ∷ []) → e.is_done ≡ true → e.start ≡ me.0.start → Allows (Turned n) slots id me 1 (λ _. 3) (Finishes (step slots 1 3 0 none) me)
+  pub can_end : (slots id : ℕ) (me : Sat C) (e : Errand C) → me ≡ (seen AtWork me.0.start, (0, Some e) ∷ []) → e.is_done ≡ true →
+      e.start ≡ me.0.start → Allows (Turned n) slots id me 1 (λ _. 3) (Finishes (step slots 1 3 0 none) me)
   can_end slots id me e is done about = subst (λ (z : Sat C). Allows (Turned n) slots id z 1 (λ _. 3) (Finishes (step slots 1 3 0 none) z)) (sym is) (ends slots id me.0.start e done about)
 
   pub can_look : (slots id : ℕ) (me : Sat C) → me ≡ (seen (Sent false) me.0.start, []) → Allows (Turned n) slots id me 1 (λ x. x) (Looks (step slots 1 0 0 none) me)
