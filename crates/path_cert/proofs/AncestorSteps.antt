@@ -25,7 +25,8 @@ ancestor-here arrivals cell ancestor at here p s start id g levels held is =
     }
 
 -- an object beyond it has the ancestor of the object before it on its path
-pub ancestor-next : (arrivals : List Arrival) (cell : ℕ) (ancestor : Option ℕ) → ANCESTOR_LEVEL < (arrival_in arrivals cell).level → AncestorOf arrivals (arrival_in arrivals cell).from ancestor → AncestorOf arrivals cell ancestor
+pub ancestor-next : (arrivals : List Arrival) (cell : ℕ) (ancestor : Option ℕ) → ANCESTOR_LEVEL < (arrival_in arrivals cell).level →
+    AncestorOf arrivals (arrival_in arrivals cell).from ancestor → AncestorOf arrivals cell ancestor
 ancestor-next arrivals cell ancestor beyond before p s start id g levels held is =
     let a = arrival_in arrivals cell in
     let two : (arrival_in arrivals cell).level ≡ suc (suc ((arrival_in arrivals cell).level - 2)) = omega arith in
@@ -40,7 +41,8 @@ ancestor-next arrivals cell ancestor beyond before p s start id g levels held is
     }
 
 -- one ancestor more
-pub ancestors-set : (arrivals : List Arrival) (ancestors : List (Option ℕ)) (cell : ℕ) (ancestor : Option ℕ) → cell < length ancestors → AreAncestors arrivals ancestors → AncestorOf arrivals cell ancestor → AreAncestors arrivals (set ancestors cell ancestor)
+pub ancestors-set : (arrivals : List Arrival) (ancestors : List (Option ℕ)) (cell : ℕ) (ancestor : Option ℕ) → cell < length ancestors →
+    AreAncestors arrivals ancestors → AncestorOf arrivals cell ancestor → AreAncestors arrivals (set ancestors cell ancestor)
 ancestors-set arrivals ancestors cell ancestor within are one x = ⊎_elim
     (λ (same : x ≡ cell). subst (AncestorOf arrivals x) (sym (get_or-set_at ancestors cell x ancestor None same within)) (subst (λ y. AncestorOf arrivals y ancestor) (sym same) one))
     (λ other. subst (AncestorOf arrivals x) (sym (get_or-set_other ancestors cell x ancestor None other)) (are x))

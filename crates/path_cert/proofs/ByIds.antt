@@ -43,4 +43,8 @@ by_id-true p test id is = go (cell_of p id) refl is
 
 -- the cells of owners hold objects
 pub owners-held : (cells : List (Option ℕ)) (kinds : ℕ) (r : RoleTable) (owners : List ℕ) → owners ≡ r.owners → AreRolesOf cells kinds r → All (λ owner. IsSome (get_or cells owner None)) owners
-owners-held cells kinds r owners same roles = subst (All (λ owner. IsSome (get_or cells owner None))) (sym same) (λ k d within. (let named = (roles.are_owners (get_or r.owners k d)).0 (All-has_id r.owners k d within) in (roles.by_others named.0 (get_or r.owners k d) named.1).1))
+owners-held cells kinds r owners same roles =
+    subst (All (λ owner. IsSome (get_or cells owner None))) (sym same)
+    (λ k d within.
+    (let named = (roles.are_owners (get_or r.owners k d)).0 (All-has_id r.owners k d within) in
+    (roles.by_others named.0 (get_or r.owners k d) named.1).1))

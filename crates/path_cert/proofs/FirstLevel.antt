@@ -1,5 +1,6 @@
 -- Source references, one after another.
-use Rattle.std.proofs.Common.{◌≡◌, ◌≢◌, ℕ, zero, suc, ◌+◌, ◌<◌, ◌≤◌, Bool, true, false, cond, List, [], ◌∷◌, ◌++◌, length, map, take, get_or, replicate, sym, refl, ap, subst, ◌∙◌, arith, eqb-true, eq-eqb, ◌==◌, Option, None, Some, append-nil, append_assoc}
+use Rattle.std.proofs.Common.{◌≡◌, ◌≢◌, ℕ, zero, suc, ◌+◌, ◌<◌, ◌≤◌, Bool, true, false, cond, List, [], ◌∷◌, ◌++◌, length, map, take, get_or}
+use Rattle.std.proofs.Common.{replicate, sym, refl, ap, subst, ◌∙◌, arith, eqb-true, eq-eqb, ◌==◌, Option, None, Some, append-nil, append_assoc}
 use Rattle.std.specs.Prelude.{find, IsSome}
 use Rattle.std.specs.List.{slice_get}
 use Rattle.std.specs.Option.{IfSome, option_or}
@@ -49,7 +50,8 @@ nowhere-each (suc n) zero = refl
 nowhere-each (suc n) (suc c) = nowhere-each n c
 
 -- an arrival by a source reference is kept unless there was one
-pub grows-first : (p : Placed) (f : Front) (cell : ℕ) (a : Arrival) → cell < length f.arrivals → IsSome (id_in p cell) → a.level ≡ 1 → Grows p f (with_arrival f cell (cond (is_new (arrival_in f.arrivals cell)) a (arrival_in f.arrivals cell)))
+pub grows-first : (p : Placed) (f : Front) (cell : ℕ) (a : Arrival) → cell < length f.arrivals → IsSome (id_in p cell) → a.level ≡ 1 →
+    Grows p f (with_arrival f cell (cond (is_new (arrival_in f.arrivals cell)) a (arrival_in f.arrivals cell)))
 grows-first p f cell a within held first =
     Grows-arrival p f cell (cond (is_new (arrival_in f.arrivals cell)) a (arrival_in f.arrivals cell)) within held (go (is_new (arrival_in f.arrivals cell)) refl)
   where
@@ -74,7 +76,8 @@ one_from_low zero low new = absurd (false≢true (sym new))
 one_from_low (suc zero) low new = refl
 one_from_low (suc (suc k)) low new = absurd (omega arith)
 
-module _ (p : Placed) (placed : IsPlaced p) (start : Start) (ways : List Way) (f : Front) (taken : HasTaken p start ways f) (cell : ℕ) (w : Way) (a : Arrival) (held : id_in p cell ≡ Some w.to) (first : a.level ≡ 1) (by : source_way p start a w.to ≡ Some w) (leads : IsWay p.table w) where
+module _ (p : Placed) (placed : IsPlaced p) (start : Start) (ways : List Way) (f : Front) (taken : HasTaken p start ways f) (cell : ℕ) (w : Way)
+    (a : Arrival) (held : id_in p cell ≡ Some w.to) (first : a.level ≡ 1) (by : source_way p start a w.to ≡ Some w) (leads : IsWay p.table w) where
   abbrev known : Arrival
   known = arrival_in f.arrivals cell
 
@@ -149,7 +152,8 @@ pub ways_by-all : (t : Table) (o : ℕ) (ways : List Way) → ways ++ ways_by t 
 ways_by-all t o ways = ap (λ ws. ways ++ ws) (sym (append-nil (ways_by t o (edges t o))))
 
 -- one owner more
-pub ways_from-more : (t : Table) (cells : List (Option ℕ)) (owners : List ℕ) (i : ℕ) → i < length owners → ways_from t (map (id_at cells) (take (i + 1) owners)) ≡ ways_from t (map (id_at cells) (take i owners)) ++ ways_from t (id_at cells (get_or owners i 0) ∷ [])
+pub ways_from-more : (t : Table) (cells : List (Option ℕ)) (owners : List ℕ) (i : ℕ) → i < length owners →
+    ways_from t (map (id_at cells) (take (i + 1) owners)) ≡ ways_from t (map (id_at cells) (take i owners)) ++ ways_from t (id_at cells (get_or owners i 0) ∷ [])
 ways_from-more t cells owners i within =
     ap (ways_from t) (map_more (id_at cells) owners i 0 within)
     ∙ flat_map-append (λ o. map (way_by_edge t (owner_way t o)) (edges t o)) (map (id_at cells) (take i owners)) (id_at cells (get_or owners i 0) ∷ [])

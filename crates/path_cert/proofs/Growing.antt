@@ -1,5 +1,6 @@
 -- What a search by levels keeps at each arrival.
-use Rattle.std.proofs.Common.{◌≡◌, ℕ, ◌<◌, ◌≢◌, Bool, true, false, ◌&&◌, ◌||◌, not, cond, ⊎_elim, List, [], ◌∷◌, ◌++◌, length, slice_set, sym, refl, ap, subst, ◌∙◌, append-nil, append_assoc, eqb-true, eq-eqb, ◌==◌, IsTrue}
+use Rattle.std.proofs.Common.{◌≡◌, ℕ, ◌<◌, ◌≢◌, Bool, true, false, ◌&&◌, ◌||◌, not, cond, ⊎_elim, List, [], ◌∷◌, ◌++◌, length, slice_set, sym, refl}
+use Rattle.std.proofs.Common.{ap, subst, ◌∙◌, append-nil, append_assoc, eqb-true, eq-eqb, ◌==◌, IsTrue}
 use Rattle.std.specs.Prelude.{IsSome}
 use Rattle.std.proofs.lemmas.Bool.{cases_eq, false≢true, or_cases, false_from_ne_true}
 use Rattle.std.proofs.lemmas.List.{length-set, get_or-set_same, get_or-set_other}
@@ -25,7 +26,8 @@ pub arrival-other : (f : Front) (cell c : ℕ) (a : Arrival) → c ≢ cell → 
 arrival-other f cell c a other = get_or-set_other f.arrivals cell c a NOWHERE other
 
 -- what holds of the arrivals at all cells
-pub at-each : (P : ℕ → Arrival → Type 0) (f : Front) (cell : ℕ) (a : Arrival) → cell < length f.arrivals → P cell a → ((c : ℕ) → c ≢ cell → P c (arrival_in f.arrivals c)) → (c : ℕ) → P c (arrival_in (with_arrival f cell a).arrivals c)
+pub at-each : (P : ℕ → Arrival → Type 0) (f : Front) (cell : ℕ) (a : Arrival) → cell < length f.arrivals → P cell a →
+    ((c : ℕ) → c ≢ cell → P c (arrival_in f.arrivals c)) → (c : ℕ) → P c (arrival_in (with_arrival f cell a).arrivals c)
 at-each P f cell a within here others c =
     ⊎_elim
     (λ same. subst (P c) (sym (ap (arrival_in (with_arrival f cell a).arrivals) same ∙ arrival-same f cell a within)) (subst (λ k. P k a) (sym same) here))
@@ -111,6 +113,7 @@ Grows-arrival p f cell a within held some =
     }
 
 -- the order has the cells that it had, and those that got a level
-pub order-grown : (p : Placed) (f g : Front) → Grows p f g → (P : ℕ → Type 0) → ((cell : ℕ) → IsTrue (has_id f.order cell) → P cell) → ((cell : ℕ) → IsSome (id_in p cell) → P cell) → (cell : ℕ) → IsTrue (has_id g.order cell) → P cell
+pub order-grown : (p : Placed) (f g : Front) → Grows p f g → (P : ℕ → Type 0) → ((cell : ℕ) → IsTrue (has_id f.order cell) → P cell) →
+    ((cell : ℕ) → IsSome (id_in p cell) → P cell) → (cell : ℕ) → IsTrue (has_id g.order cell) → P cell
 order-grown p f g grows P old new cell at =
     ⊎_elim (old cell) (λ is. new cell (grows.held cell is)) (or_cases _ _ (sym (ap (λ xs. has_id xs cell) grows.order ∙ has_id-append f.order grows.fresh cell) ∙ at))

@@ -1,5 +1,6 @@
 -- Which object of a level the path comes by, after the edges of some of its objects.
-use Rattle.std.proofs.Common.{◌≡◌, ℕ, ◌<◌, ◌≤◌, Bool, true, false, ◌&&◌, ◌||◌, cond, ⊎_elim, ◌⊎◌, inl, inr, List, [], ◌∷◌, ◌++◌, get_or, sym, refl, ap, subst, ◌∙◌, arith, eqb-true, eq-eqb, ◌==◌, IsTrue, Option, None, Some, ltb, append_assoc, append-nil}
+use Rattle.std.proofs.Common.{◌≡◌, ℕ, ◌<◌, ◌≤◌, Bool, true, false, ◌&&◌, ◌||◌, cond, ⊎_elim, ◌⊎◌, inl, inr, List, [], ◌∷◌, ◌++◌, get_or, sym, refl}
+use Rattle.std.proofs.Common.{ap, subst, ◌∙◌, arith, eqb-true, eq-eqb, ◌==◌, IsTrue, Option, None, Some, ltb, append_assoc, append-nil}
 use Rattle.std.specs.Prelude.{find}
 use Rattle.std.specs.Option.{is_some, option_map_or}
 use Rattle.std.proofs.lemmas.Bool.{cases_lt, or_cases, or_left, or_right, false≢true, false_from_ne_true, lt-ltb, le-ltb}
@@ -57,7 +58,9 @@ module _ (r : Round) (positive : 0 < r.level) (id : ℕ) where
     among = still xs x a.from h.among;
     opens = h.opens;
     edge = h.edge;
-    least = among-more xs x (λ y. is_open r y → IsTrue (is_some (edge_to r y id)) → id_at r.placed.cells a.from ≤ id_at r.placed.cells y) h.least (λ opened some. absurd (false≢true (sym (ap is_some (none opened)) ∙ some)));
+    least =
+        among-more xs x (λ y. is_open r y → IsTrue (is_some (edge_to r y id)) → id_at r.placed.cells a.from ≤ id_at r.placed.cells y) h.least
+        (λ opened some. absurd (false≢true (sym (ap is_some (none opened)) ∙ some)));
   })
 
   module _ (xs : List ℕ) (x : ℕ) (e : ℕ × ℕ) (opened : is_open r x) (edge : edge_to r x id ≡ Some e) (to : e.1 ≡ id) where
@@ -74,7 +77,9 @@ module _ (r : Round) (positive : 0 < r.level) (id : ℕ) where
       among = last xs x;
       opens = opened;
       edge = edge_is;
-      least = among-more xs x (λ y. is_open r y → IsTrue (is_some (edge_to r y id)) → id_at r.placed.cells x ≤ id_at r.placed.cells y) (λ y at y_open some. absurd (false≢true (sym (ap is_some (h.none y at y_open)) ∙ some))) (λ y_open some. omega arith);
+      least =
+          among-more xs x (λ y. is_open r y → IsTrue (is_some (edge_to r y id)) → id_at r.placed.cells x ≤ id_at r.placed.cells y)
+          (λ y at y_open some. absurd (false≢true (sym (ap is_some (h.none y at y_open)) ∙ some))) (λ y_open some. omega arith);
     }))
       where
         taken : better r.placed a by ≡ by
@@ -95,7 +100,9 @@ module _ (r : Round) (positive : 0 < r.level) (id : ℕ) where
           among = last xs x;
           opens = opened;
           edge = edge_is;
-          least = among-more xs x (λ y. is_open r y → IsTrue (is_some (edge_to r y id)) → id_at r.placed.cells x ≤ id_at r.placed.cells y) (λ y at y_open some. let low = h.least y at y_open some in omega arith) (λ y_open some. omega arith);
+          least =
+              among-more xs x (λ y. is_open r y → IsTrue (is_some (edge_to r y id)) → id_at r.placed.cells x ≤ id_at r.placed.cells y)
+              (λ y at y_open some. let low = h.least y at y_open some in omega arith) (λ y_open some. omega arith);
         }))
 
         higher : id_at r.placed.cells a.from ≤ id_at r.placed.cells x → Held (xs ++ x ∷ []) (better r.placed a by)

@@ -1,5 +1,6 @@
 -- One level after another is settled.
-use Rattle.std.proofs.Common.{◌≡◌, ◌≢◌, ℕ, zero, suc, ◌<◌, ◌≤◌, Bool, true, false, ◌&&◌, not, ⊎_elim, List, [], ◌++◌, length, take, drop, sym, refl, ap, subst, ◌∙◌, arith, eqb-true, eq-eqb, ◌==◌, IsTrue, Some}
+use Rattle.std.proofs.Common.{◌≡◌, ◌≢◌, ℕ, zero, suc, ◌<◌, ◌≤◌, Bool, true, false, ◌&&◌, not, ⊎_elim, List, [], ◌++◌, length, take, drop, sym, refl}
+use Rattle.std.proofs.Common.{ap, subst, ◌∙◌, arith, eqb-true, eq-eqb, ◌==◌, IsTrue, Some}
 use Rattle.std.specs.Prelude.{find, AllPairs}
 use Rattle.std.specs.Option.{is_some, option_map}
 use Rattle.std.proofs.Math.Seq.{drop-append_seam}
@@ -107,7 +108,8 @@ module _ (p : Placed) (placed : IsPlaced p) (rising : AllPairs (λ a b. a < b) (
     positive = omega arith
 
     -- an open object of the level that holds another stands among those of the round
-    among : (x id : ℕ) → IsTrue (has_id (level g ends n) x) → IsTrue (g.passable x) → IsTrue (has_id (targets p.table x) id) → (cell : ℕ) × (id_in p cell ≡ Some x) × IsTrue (has_id xs cell) × is_open r cell × IsTrue (is_some (edge_to r cell id))
+    among : (x id : ℕ) → IsTrue (has_id (level g ends n) x) → IsTrue (g.passable x) → IsTrue (has_id (targets p.table x) id) →
+        (cell : ℕ) × (id_in p cell ≡ Some x) × IsTrue (has_id xs cell) × is_open r cell × IsTrue (is_some (edge_to r cell id))
     among x id at passes target =
         let cell = level-cell n x at in (
           cell.0,
@@ -178,7 +180,8 @@ module _ (p : Placed) (placed : IsPlaced p) (rising : AllPairs (λ a b. a < b) (
           go (suc m) is =
               let old : 0 < level_at f cell = omega arith in
               let low : level_at f cell < most = let l = up_to.low cell in omega arith in
-              subst (λ b. IsSettled p s (suc n) b id) (sym (by_objects-stays r positive id xs (arrival_in f.arrivals cell) old low)) (settled-old (arrival_in f.arrivals cell) id old (now.settled cell id held))
+              subst (λ b. IsSettled p s (suc n) b id) (sym (by_objects-stays r positive id xs (arrival_in f.arrivals cell) old low))
+              (settled-old (arrival_in f.arrivals cell) id old (now.settled cell id held))
 
       -- what got this level is what is new in the order
       new-next : (cell id : ℕ) → id_in p cell ≡ Some id → (is_new (arrival_in f.arrivals cell) && not (is_new (arrival_in h.arrivals cell))) ≡ (level_at h cell == suc (suc n))
@@ -187,17 +190,20 @@ module _ (p : Placed) (placed : IsPlaced p) (rising : AllPairs (λ a b. a < b) (
           after : Arrival
           after = by_objects r xs (arrival_in f.arrivals cell) id
 
-          go : (k : ℕ) → level_at f cell ≡ k → (is_new (arrival_in f.arrivals cell) && not (is_new (by_objects r xs (arrival_in f.arrivals cell) id))) ≡ ((by_objects r xs (arrival_in f.arrivals cell) id).level == suc (suc n))
+          go : (k : ℕ) → level_at f cell ≡ k →
+              (is_new (arrival_in f.arrivals cell) && not (is_new (by_objects r xs (arrival_in f.arrivals cell) id))) ≡ ((by_objects r xs (arrival_in f.arrivals cell) id).level == suc (suc n))
           go zero is =
               let a = by_objects r xs (arrival_in f.arrivals cell) id in
               let was_new = eq-eqb (level_at f cell) 0 is in
               ⊎_elim
               (λ (none : NoneHolds r xs (by_objects r xs (arrival_in f.arrivals cell) id) id).
               let no_level = none.level in
-              (λ x. was_new x && not (eq-eqb (by_objects r xs (arrival_in f.arrivals cell) id).level 0 no_level x)) ∙ sym (not_equal (by_objects r xs (arrival_in f.arrivals cell) id).level (suc (suc n)) (λ same. omega arith)))
+              (λ x. was_new x && not (eq-eqb (by_objects r xs (arrival_in f.arrivals cell) id).level 0 no_level x))
+              ∙ sym (not_equal (by_objects r xs (arrival_in f.arrivals cell) id).level (suc (suc n)) (λ same. omega arith)))
               (λ (least : LeastHolds r xs (by_objects r xs (arrival_in f.arrivals cell) id) id).
               let this_level : (by_objects r xs (arrival_in f.arrivals cell) id).level ≡ suc (suc n) = least.level ∙ two in
-              (λ x. was_new x && not (not_equal (by_objects r xs (arrival_in f.arrivals cell) id).level 0 (λ same. omega arith) x)) ∙ sym (eq-eqb (by_objects r xs (arrival_in f.arrivals cell) id).level (suc (suc n)) this_level))
+              (λ x. was_new x && not (not_equal (by_objects r xs (arrival_in f.arrivals cell) id).level 0 (λ same. omega arith) x))
+              ∙ sym (eq-eqb (by_objects r xs (arrival_in f.arrivals cell) id).level (suc (suc n)) this_level))
               (by_objects-least r positive id xs (arrival_in f.arrivals cell) is)
           go (suc m) is =
               let old : 0 < level_at f cell = omega arith in
@@ -215,7 +221,8 @@ module _ (p : Placed) (placed : IsPlaced p) (rising : AllPairs (λ a b. a < b) (
 
   -- ---- the first level
 
-  module _ (f begin : Front) (taken : HasTaken p s.start s.sources f) (grows : Grows p begin f) (nothing : begin.order ≡ []) (all_new : (cell : ℕ) → is_new (arrival_in begin.arrivals cell) ≡ true) where
+  module _ (f begin : Front) (taken : HasTaken p s.start s.sources f) (grows : Grows p begin f) (nothing : begin.order ≡ [])
+      (all_new : (cell : ℕ) → is_new (arrival_in begin.arrivals cell) ≡ true) where
     within-first : (id : ℕ) → IsTrue (has_id g.nodes id) → has_id (within g ends zero) id ≡ is_some (find (λ w. w.to == id) s.sources)
     unfolding within
     within-first id node =
@@ -245,9 +252,12 @@ module _ (p : Placed) (placed : IsPlaced p) (rising : AllPairs (λ a b. a < b) (
           arrives = go a.level refl;
         }
       where
-        go : (k : ℕ) → (arrival_in f.arrivals cell).level ≡ k → AtLevel (arrival_in f.arrivals cell).level (ArrivesFirst p s (arrival_in f.arrivals cell) id) (ArrivesNext p s (arrival_in f.arrivals cell) id)
+        go : (k : ℕ) → (arrival_in f.arrivals cell).level ≡ k →
+            AtLevel (arrival_in f.arrivals cell).level (ArrivesFirst p s (arrival_in f.arrivals cell) id) (ArrivesNext p s (arrival_in f.arrivals cell) id)
         go zero is = subst (λ k. AtLevel k (ArrivesFirst p s (arrival_in f.arrivals cell) id) (ArrivesNext p s (arrival_in f.arrivals cell) id)) (sym is) tt
-        go (suc zero) is = subst (λ k. AtLevel k (ArrivesFirst p s (arrival_in f.arrivals cell) id) (ArrivesNext p s (arrival_in f.arrivals cell) id)) (sym is) (let by = (taken.arrivals cell id held).some is in record { way = by.0; first = by.1; by = by.2; leads = by.3 })
+        go (suc zero) is =
+            subst (λ k. AtLevel k (ArrivesFirst p s (arrival_in f.arrivals cell) id) (ArrivesNext p s (arrival_in f.arrivals cell) id)) (sym is)
+            (let by = (taken.arrivals cell id held).some is in record { way = by.0; first = by.1; by = by.2; leads = by.3 })
         go (suc (suc k)) is = absurd (let few = (taken.arrivals cell id held).level in omega arith)
 
     pub at-first : IsAtLevel p s 0 f 0

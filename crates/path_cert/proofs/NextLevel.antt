@@ -1,5 +1,7 @@
 -- Arrivals by the edges of one object after another.
-use Rattle.std.proofs.Common.{◌≡◌, ℕ, ◌+◌, ◌-◌, ◌<◌, ◌≤◌, ◌≢◌, Bool, true, false, ◌&&◌, ◌||◌, cond, ⊎_elim, ◌⊎◌, inl, inr, List, [], ◌∷◌, ◌++◌, length, take, drop, get_or, sym, refl, ap, subst, ◌∙◌, arith, eqb-true, eq-eqb, ◌==◌, IsTrue, Option, None, Some, ltb, length-append}
+use Rattle.std.proofs.Common.{◌≡◌, ℕ, ◌+◌, ◌-◌, ◌<◌, ◌≤◌, ◌≢◌, Bool, true, false, ◌&&◌, ◌||◌, cond, ⊎_elim, ◌⊎◌, inl, inr, List, [], ◌∷◌, ◌++◌}
+use Rattle.std.proofs.Common.{length, take, drop, get_or, sym, refl, ap, subst, ◌∙◌, arith, eqb-true, eq-eqb, ◌==◌, IsTrue, Option, None, Some, ltb}
+use Rattle.std.proofs.Common.{length-append}
 use Rattle.std.specs.Prelude.{IsSome}
 use Rattle.std.specs.List.{find}
 use Rattle.std.specs.Option.{option_map_or, option_or}
@@ -54,18 +56,22 @@ module _ (r : Round) (x : ℕ) (positive : 0 < r.level) where
       a : Arrival
       a = record { level = r.level; from = x; slot = e.0 }
 
-      go : (b : Bool) → takes r.placed known (record { level = r.level; from = x; slot = e.0 }) ≡ b → by_edge r x (cond b (record { level = r.level; from = x; slot = e.0 }) known) d ≡ cond b (record { level = r.level; from = x; slot = e.0 }) known
+      go : (b : Bool) → takes r.placed known (record { level = r.level; from = x; slot = e.0 }) ≡ b →
+          by_edge r x (cond b (record { level = r.level; from = x; slot = e.0 }) known) d ≡ cond b (record { level = r.level; from = x; slot = e.0 }) known
       go true taken =
           let old : (r.level == 0) ≡ false = not_new (record { level = r.level; from = x; slot = e.0 }) positive in
           let low : ltb (id_at r.placed.cells x) (id_at r.placed.cells x) ≡ false = le-ltb (id_at r.placed.cells x) (id_at r.placed.cells x) (omega arith) in
-          ap (λ b. cond b (record { level = r.level; from = x; slot = d.0 }) (record { level = r.level; from = x; slot = e.0 })) ((λ i. old i || ((r.level == r.level) && low i)) ∙ and_false (r.level == r.level))
+          ap (λ b. cond b (record { level = r.level; from = x; slot = d.0 }) (record { level = r.level; from = x; slot = e.0 }))
+          ((λ i. old i || ((r.level == r.level) && low i)) ∙ and_false (r.level == r.level))
       go false left = ap (λ b. cond b (record { level = r.level; from = x; slot = d.0 }) known) left
 
   -- one edge more, to another object
   by_edges-other : (es : List (ℕ × ℕ)) (e : ℕ × ℕ) (known : Arrival) (id : ℕ) → e.1 ≢ id → by_edges r x (es ++ e ∷ []) known id ≡ by_edges r x es known id
   by_edges-other es e known id other =
       let last : (e.1 == id) ≡ false = false_from_ne_true (e.1 == id) (λ same. other (eqb-true e.1 id same)) in
-      ap (λ o. option_map_or (by_edge r x known) o known) (find-append (λ d. d.1 == id) es (e ∷ []) ∙ ap (λ b. option_or (find (λ d. d.1 == id) es) (cond b (Some e) None)) last ∙ or_none (find (λ d. d.1 == id) es))
+      ap (λ o. option_map_or (by_edge r x known) o known)
+      (find-append (λ d. d.1 == id) es (e ∷ []) ∙ ap (λ b. option_or (find (λ d. d.1 == id) es) (cond b (Some e) None)) last
+      ∙ or_none (find (λ d. d.1 == id) es))
     where
       or_none : (o : Option (ℕ × ℕ)) → option_or o None ≡ o
       or_none None = refl
@@ -74,7 +80,8 @@ module _ (r : Round) (x : ℕ) (positive : 0 < r.level) where
   -- one edge more, to this object
   by_edges-here : (es : List (ℕ × ℕ)) (e : ℕ × ℕ) (known : Arrival) → by_edges r x (es ++ e ∷ []) known e.1 ≡ by_edge r x (by_edges r x es known e.1) e
   by_edges-here es e known =
-      ap (λ o. option_map_or (by_edge r x known) o known) (find-append (λ d. d.1 == e.1) es (e ∷ []) ∙ ap (λ b. option_or (find (λ d. d.1 == e.1) es) (cond b (Some e) None)) (eq-eqb e.1 e.1 refl)) ∙ go (find (λ d. d.1 == e.1) es)
+      ap (λ o. option_map_or (by_edge r x known) o known) (find-append (λ d. d.1 == e.1) es (e ∷ []) ∙ ap (λ b. option_or (find (λ d. d.1 == e.1) es) (cond b (Some e) None)) (eq-eqb e.1 e.1 refl))
+      ∙ go (find (λ d. d.1 == e.1) es)
     where
       go : (o : Option (ℕ × ℕ)) → option_map_or (by_edge r x known) (option_or o (Some e)) known ≡ by_edge r x (option_map_or (by_edge r x known) o known) e
       go None = refl
@@ -86,7 +93,8 @@ module _ (r : Round) (x : ℕ) (positive : 0 < r.level) where
 abbrev pub AreBy : Round → ℕ → List (ℕ × ℕ) → List Arrival → List Arrival → Type 0
 AreBy r x es before after = (to id : ℕ) → id_in r.placed to ≡ Some id → arrival_in after to ≡ by_edges r x es (arrival_in before to) id
 
-module _ (r : Round) (placed : IsPlaced r.placed) (x : ℕ) (positive : 0 < r.level) (held : IsSome (id_in r.placed x)) (f : Front) (target y slot : ℕ) (at_target : id_in r.placed target ≡ Some y) (under_way : IsUnderWay r.placed r.level f) where
+module _ (r : Round) (placed : IsPlaced r.placed) (x : ℕ) (positive : 0 < r.level) (held : IsSome (id_in r.placed x)) (f : Front)
+    (target y slot : ℕ) (at_target : id_in r.placed target ≡ Some y) (under_way : IsUnderWay r.placed r.level f) where
   abbrev by : Arrival
   by = record { level = r.level; from = x; slot = slot }
 
@@ -107,11 +115,15 @@ module _ (r : Round) (placed : IsPlaced r.placed) (x : ℕ) (positive : 0 < r.le
         each = next-grows.each ∙ under_way.up_to.each;
         held = order-grown r.placed f next next-grows (λ c. IsSome (id_in r.placed c)) under_way.up_to.held (λ c is. is);
         low = at-each (λ c a. a.level ≤ r.level) f target kept within
-            (⊎_elim (λ e. subst (λ (a : Arrival). a.level ≤ r.level) (sym e) (omega arith)) (λ e. subst (λ (a : Arrival). a.level ≤ r.level) (sym e) (under_way.up_to.low target)) (better-either r.placed (arrival_in f.arrivals target) by))
+            (⊎_elim (λ e. subst (λ (a : Arrival). a.level ≤ r.level) (sym e) (omega arith))
+            (λ e. subst (λ (a : Arrival). a.level ≤ r.level) (sym e) (under_way.up_to.low target))
+            (better-either r.placed (arrival_in f.arrivals target) by))
             (λ c other. under_way.up_to.low c);
       };
       from = at-each (λ c a. a.level ≡ r.level → IsSome (id_in r.placed a.from)) f target kept within
-          (⊎_elim (λ e. subst (λ (a : Arrival). a.level ≡ r.level → IsSome (id_in r.placed a.from)) (sym e) (λ same. held)) (λ e. subst (λ (a : Arrival). a.level ≡ r.level → IsSome (id_in r.placed a.from)) (sym e) (under_way.from target)) (better-either r.placed (arrival_in f.arrivals target) by))
+          (⊎_elim (λ e. subst (λ (a : Arrival). a.level ≡ r.level → IsSome (id_in r.placed a.from)) (sym e) (λ same. held))
+          (λ e. subst (λ (a : Arrival). a.level ≡ r.level → IsSome (id_in r.placed a.from)) (sym e) (under_way.from target))
+          (better-either r.placed (arrival_in f.arrivals target) by))
           (λ c other. under_way.from c);
     }
 
@@ -140,7 +152,8 @@ take-drop-more xs from place after within =
     ∙ ap (λ x. take (place - from) (drop from xs) ++ x ∷ []) (get_or-drop from xs (place - from) 0 ∙ ap (λ k. get_or xs k 0) here)
 
 -- one object more
-by_objects-snoc : (r : Round) (xs : List ℕ) (x : ℕ) (known : Arrival) (id : ℕ) → by_objects r (xs ++ x ∷ []) known id ≡ cond (get_or r.shut x false) (by_objects r xs known id) (by_object r x (by_objects r xs known id) id)
+by_objects-snoc : (r : Round) (xs : List ℕ) (x : ℕ) (known : Arrival) (id : ℕ) →
+    by_objects r (xs ++ x ∷ []) known id ≡ cond (get_or r.shut x false) (by_objects r xs known id) (by_object r x (by_objects r xs known id) id)
 by_objects-snoc r [] x known id = refl
 by_objects-snoc r (z ∷ xs) x known id = by_objects-snoc r xs x (cond (get_or r.shut z false) known (by_object r z known id)) id
 
@@ -150,13 +163,18 @@ AreByObjects r xs before after = (cell id : ℕ) → id_in r.placed cell ≡ Som
 module _ (r : Round) (xs : List ℕ) (x : ℕ) (before now : List Arrival) (are : AreByObjects r xs before now) where
   pub by_objects-shut : get_or r.shut x false ≡ true → AreByObjects r (xs ++ x ∷ []) before now
   by_objects-shut shut cell id at =
-      are cell id at ∙ sym (by_objects-snoc r xs x (arrival_in before cell) id ∙ ap (λ b. cond b (by_objects r xs (arrival_in before cell) id) (by_object r x (by_objects r xs (arrival_in before cell) id) id)) shut)
+      are cell id at
+      ∙ sym (by_objects-snoc r xs x (arrival_in before cell) id ∙ ap (λ b. cond b (by_objects r xs (arrival_in before cell) id) (by_object r x (by_objects r xs (arrival_in before cell) id) id)) shut)
 
-  pub by_objects-open : (later : List Arrival) → get_or r.shut x false ≡ false → ((cell id : ℕ) → id_in r.placed cell ≡ Some id → arrival_in later cell ≡ by_object r x (arrival_in now cell) id) → AreByObjects r (xs ++ x ∷ []) before later
+  pub by_objects-open : (later : List Arrival) → get_or r.shut x false ≡ false →
+      ((cell id : ℕ) → id_in r.placed cell ≡ Some id → arrival_in later cell ≡ by_object r x (arrival_in now cell) id) →
+      AreByObjects r (xs ++ x ∷ []) before later
   by_objects-open later open_now step cell id at =
       step cell id at
       ∙ ap (λ a. by_object r x a id) (are cell id at)
-      ∙ sym (by_objects-snoc r xs x (arrival_in before cell) id ∙ ap (λ b. cond b (by_objects r xs (arrival_in before cell) id) (by_object r x (by_objects r xs (arrival_in before cell) id) id)) open_now)
+      ∙ sym
+      (by_objects-snoc r xs x (arrival_in before cell) id
+      ∙ ap (λ b. cond b (by_objects r xs (arrival_in before cell) id) (by_object r x (by_objects r xs (arrival_in before cell) id) id)) open_now)
 
 -- a place of the order keeps its cell
 pub order-at : (p : Placed) (f g : Front) → Grows p f g → (place cell : ℕ) → place < length f.order → cell ≡ get_or g.order place cell → cell ≡ get_or f.order place 0

@@ -79,12 +79,15 @@ Reaches-none p r s = record {
   meets = MeetsAll-none r s;
 }
 
-pub Reaches-more : (p : Placed) → IsPlaced p → (r : RoleTable) (ids : List ℕ) (cell id : ℕ) (a b c : Sought) → Reaches p r ids a b → id_in p cell ≡ Some id → MeetsAll r (cell ∷ []) b c → Reaches p r (ids ++ id ∷ []) a c
+pub Reaches-more : (p : Placed) → IsPlaced p → (r : RoleTable) (ids : List ℕ) (cell id : ℕ) (a b c : Sought) → Reaches p r ids a b →
+    id_in p cell ≡ Some id → MeetsAll r (cell ∷ []) b c → Reaches p r (ids ++ id ∷ []) a c
 Reaches-more p placed r ids cell id a b c first held next = record {
   cells = first.cells ++ cell ∷ [];
   are = λ x y at.
       has_id-append first.cells (cell ∷ []) x
-      ∙ (λ i. first.are x y at i || (same_bools (cell == x) (id == y) (λ e. eq-eqb id y (same_Some (sym held ∙ ap (id_in p) (eqb-true cell x e) ∙ at))) (λ e. eq-eqb cell x (placed.once cell x y (held ∙ ap Some (eqb-true id y e)) at)) i || false))
+      ∙ (λ i. first.are x y at i ||
+      (same_bools (cell == x) (id == y) (λ e. eq-eqb id y (same_Some (sym held ∙ ap (id_in p) (eqb-true cell x e) ∙ at)))
+      (λ e. eq-eqb cell x (placed.once cell x y (held ∙ ap Some (eqb-true id y e)) at)) i || false))
       ∙ sym (has_id-append ids (id ∷ []) y);
   held = λ x at.
       ⊎_elim (first.held x)
@@ -108,7 +111,8 @@ pub record IsSearchingBut (q : Quest) (cell : ℕ) (s : Sought) : Type 0 where
 -- the edges of the object in a cell lead to what the owner finds
 abbrev LeadsToFound : Quest → ℕ → Type 0
 LeadsToFound q cell =
-    (id : ℕ) → IsTrue (has_id (targets q.placed.table (id_at q.placed.cells cell)) id) → IsTrue (has_id (border_graph q.placed q.roles).nodes id) → IsTrue (has_id (found_ids q.placed q.roles q.owner) id)
+    (id : ℕ) → IsTrue (has_id (targets q.placed.table (id_at q.placed.cells cell)) id) → IsTrue (has_id (border_graph q.placed q.roles).nodes id) →
+    IsTrue (has_id (found_ids q.placed q.roles q.owner) id)
 
 some-id : (P : ℕ → Type 0) (o : Option ℕ) → IsSomeAnd o P → (id : ℕ) × (o ≡ Some id) × P id
 some-id P None none = absurd none
@@ -250,7 +254,8 @@ searching-held q s now x at =
     (let is = some-id (IsFound q) (id_in q.placed x) (now.sound x (now.waiting x at).0) in subst IsSome (sym is.1) refl)
 
 -- what is on the worklist holds an object
-pub work-held : (p : Placed) (r : RoleTable) (ids : List ℕ) (s t : Sought) (cell : ℕ) (work : List ℕ) → Reaches p r ids s t → work ≡ s.work ++ cell ∷ [] → ((x : ℕ) → IsTrue (has_id work x) → IsSome (id_in p x)) → (x : ℕ) → IsTrue (has_id t.work x) → IsSome (id_in p x)
+pub work-held : (p : Placed) (r : RoleTable) (ids : List ℕ) (s t : Sought) (cell : ℕ) (work : List ℕ) → Reaches p r ids s t →
+    work ≡ s.work ++ cell ∷ [] → ((x : ℕ) → IsTrue (has_id work x) → IsSome (id_in p x)) → (x : ℕ) → IsTrue (has_id t.work x) → IsSome (id_in p x)
 work-held p r ids s t cell work reaches taken held x at =
     let fresh = (t.met x && not (s.met x)) && not (is_border_cell r x) in
     ⊎_elim

@@ -1,5 +1,6 @@
 -- Rounds, levels and distances in a graph.
-use Rattle.std.proofs.Common.{◌≡◌, ℕ, zero, suc, ◌+◌, ◌-◌, ◌<◌, ◌≤◌, Bool, true, false, ◌&&◌, ◌||◌, not, cond, ⊎_elim, List, [], ◌∷◌, length, get_or, sym, refl, ap, subst, ◌∙◌, arith, eqb-true, eq-eqb, IsTrue, Option, None, Some}
+use Rattle.std.proofs.Common.{◌≡◌, ℕ, zero, suc, ◌+◌, ◌-◌, ◌<◌, ◌≤◌, Bool, true, false, ◌&&◌, ◌||◌, not, cond, ⊎_elim, List, [], ◌∷◌, length}
+use Rattle.std.proofs.Common.{get_or, sym, refl, ap, subst, ◌∙◌, arith, eqb-true, eq-eqb, IsTrue, Option, None, Some}
 use Rattle.std.specs.Prelude.{find, AllPairs}
 use Rattle.std.specs.List.{list_any}
 use Rattle.std.specs.Option.{is_some}
@@ -110,7 +111,8 @@ module _ (g : Graph) (sources : List ℕ) where
       level-from n x at (false_from_ne_true _ (λ early. false≢true (sym new ∙ within-along g sources n x y early passes edge)))
 
   -- an edge leads to what is new in a round from a node of the level before
-  pub level-last : (n y : ℕ) → IsTrue (has_id (within g sources (suc n)) y) → has_id (within g sources n) y ≡ false → (x : ℕ) × IsTrue (has_id (level g sources n) x) × IsTrue (g.passable x) × IsTrue (has_id (g.targets x) y)
+  pub level-last : (n y : ℕ) → IsTrue (has_id (within g sources (suc n)) y) → has_id (within g sources n) y ≡ false →
+      (x : ℕ) × IsTrue (has_id (level g sources n) x) × IsTrue (g.passable x) × IsTrue (has_id (g.targets x) y)
   unfolding within
   level-last n y at new =
       let before = within g sources n in
@@ -157,7 +159,9 @@ module _ (g : Graph) (sources : List ℕ) where
   pub no-distance : (n y : ℕ) → ((x : ℕ) → has_id (level g sources n) x ≡ false) → has_id (within g sources n) y ≡ false → distance g sources y ≡ None
   unfolding within
   no-distance n y empty new =
-      none-of (distance g sources y) (is_some-distance g sources y ∙ false_from_ne_true _ (λ reached. false≢true (sym new ∙ IsClosed-reachable g sources (has_id (within g sources n)) closed y ((reached_is_reachable g sources y).0 reached))))
+      none-of (distance g sources y)
+      (is_some-distance g sources y
+      ∙ false_from_ne_true _ (λ reached. false≢true (sym new ∙ IsClosed-reachable g sources (has_id (within g sources n)) closed y ((reached_is_reachable g sources y).0 reached))))
     where
       first : (x : ℕ) → IsTrue (has_id sources x) → IsTrue (has_id g.nodes x) → IsTrue (has_id (within g sources zero) x)
       first x source node = has_id-filter (has_id sources) g.nodes x ∙ and_from _ _ source node

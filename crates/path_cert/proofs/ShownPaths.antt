@@ -99,19 +99,26 @@ same_Some : {X : Type 0} {a b : X} → Some a ≡ Some b → a ≡ b
 same_Some e = cc
 
 -- the path by a root alone
-pub root-is_path : (p : Placed) (k : ℕ) (r : List ℕ × ℕ) (v : PathView) → IsSound p.table → slice_get p.table.roots k ≡ Some r → IsTrue (is_live p.table r.1) → IfSome (slice_get p.table.roots k) (λ n. v ≡ view_of (root_way p.table n)) → IsTrue (is_path (heap_view p.table) v)
+pub root-is_path : (p : Placed) (k : ℕ) (r : List ℕ × ℕ) (v : PathView) → IsSound p.table → slice_get p.table.roots k ≡ Some r →
+    IsTrue (is_live p.table r.1) → IfSome (slice_get p.table.roots k) (λ n. v ≡ view_of (root_way p.table n)) →
+    IsTrue (is_path (heap_view p.table) v)
 root-is_path p k r v sound is live shown =
     let same = subst (λ o. IfSome o (λ n. v ≡ view_of (root_way p.table n))) is shown in
     subst (λ u. IsTrue (is_path (heap_view p.table) u)) (sym same) (whole-shown p (root_way p.table r) sound (whole-root p k r is live))
 
 -- the path to an object that levels give
-pub path-is_path : (p : Placed) (placed : IsPlaced p) (s : Search) (l : LevelTable) (levels : AreLevelsOf p s l) (cell steps : ℕ) (v : PathView) → IsSound p.table → IsSome (id_in p cell) → path_steps l.start (arrival_in l.arrivals cell).level ≡ Some steps → Some v ≡ option_map view_of (way_in p s cell) → IsTrue (is_path (heap_view p.table) v)
+pub path-is_path : (p : Placed) (placed : IsPlaced p) (s : Search) (l : LevelTable) (levels : AreLevelsOf p s l) (cell steps : ℕ) (v : PathView) →
+    IsSound p.table → IsSome (id_in p cell) → path_steps l.start (arrival_in l.arrivals cell).level ≡ Some steps →
+    Some v ≡ option_map view_of (way_in p s cell) → IsTrue (is_path (heap_view p.table) v)
 path-is_path p placed s l levels cell steps v sound held many is =
     let there = way-there p s l levels cell steps held many in
     shown-whole p v (way_in p s cell) sound (λ w at. subst (IsWhole p) (same_Some (sym there.1 ∙ at)) (whole-way p placed s l levels steps cell there.0 there.2)) is
 
 -- and one step more
-pub path_then-is_path : (p : Placed) (placed : IsPlaced p) (s : Search) (l : LevelTable) (levels : AreLevelsOf p s l) (cell slot steps id : ℕ) (v : PathView) → IsSound p.table → IsSome (id_in p cell) → path_steps l.start (arrival_in l.arrivals cell).level ≡ Some steps → edge_of (slot_in p cell slot) ≡ Some id → Some v ≡ option_map view_of (option_and_then (λ u. way_by_slot p u cell slot) (way_in p s cell)) → IsTrue (is_path (heap_view p.table) v)
+pub path_then-is_path : (p : Placed) (placed : IsPlaced p) (s : Search) (l : LevelTable) (levels : AreLevelsOf p s l) (cell slot steps id : ℕ) (v : PathView) →
+    IsSound p.table → IsSome (id_in p cell) → path_steps l.start (arrival_in l.arrivals cell).level ≡ Some steps →
+    edge_of (slot_in p cell slot) ≡ Some id → Some v ≡ option_map view_of (option_and_then (λ u. way_by_slot p u cell slot) (way_in p s cell)) →
+    IsTrue (is_path (heap_view p.table) v)
 path_then-is_path p placed s l levels cell slot steps id v sound held many edge is =
     let there = way-there p s l levels cell steps held many in
     let before = whole-way p placed s l levels steps cell there.0 there.2 in
@@ -120,7 +127,9 @@ path_then-is_path p placed s l levels cell slot steps id v sound held many edge 
     shown-whole p v (option_and_then (λ u. way_by_slot p u cell slot) (way_in p s cell)) sound (λ w at. subst (IsWhole p) (same_Some (sym way ∙ at)) whole) is
 
 -- the path of one step from an object
-pub step-is_path : (p : Placed) (placed : IsPlaced p) (cell slot id : ℕ) (v : PathView) → IsSound p.table → IsSome (id_in p cell) → edge_of (slot_in p cell slot) ≡ Some id → Some v ≡ option_map view_of (way_by_slot p (owner_way p.table (id_at p.cells cell)) cell slot) → IsTrue (is_path (heap_view p.table) v)
+pub step-is_path : (p : Placed) (placed : IsPlaced p) (cell slot id : ℕ) (v : PathView) → IsSound p.table → IsSome (id_in p cell) →
+    edge_of (slot_in p cell slot) ≡ Some id → Some v ≡ option_map view_of (way_by_slot p (owner_way p.table (id_at p.cells cell)) cell slot) →
+    IsTrue (is_path (heap_view p.table) v)
 step-is_path p placed cell slot id v sound held edge is =
     let o = id_at p.cells cell in
     let at = held-id p cell held in

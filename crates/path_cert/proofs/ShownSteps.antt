@@ -1,5 +1,6 @@
 -- Which steps of a path are shown.
-use Rattle.std.proofs.Common.{◌≡◌, ℕ, suc, ◌+◌, ◌-◌, ◌*◌, ◌<◌, ◌≤◌, max, Bool, true, false, ◌||◌, cond, ⊎_elim, List, [], ◌∷◌, ◌++◌, length, take, drop, Option, None, Some, sym, refl, ap, ◌∙◌, arith, reverse, length-append, length-take, length-drop}
+use Rattle.std.proofs.Common.{◌≡◌, ℕ, suc, ◌+◌, ◌-◌, ◌*◌, ◌<◌, ◌≤◌, max, Bool, true, false, ◌||◌, cond, ⊎_elim, List, [], ◌∷◌, ◌++◌, length, take}
+use Rattle.std.proofs.Common.{drop, Option, None, Some, sym, refl, ap, ◌∙◌, arith, reverse, length-append, length-take, length-drop}
 use Rattle.std.proofs.Math.Nat.{le-max_left, le-max_right, max-le}
 use Rattle.std.proofs.Math.Seq.{take-nil, drop-nil}
 use Rattle.std.proofs.lemmas.Bool.{cases_lt, lt-ltb, le-ltb, lt-leb, le-leb, or_left, or_right}
@@ -92,7 +93,8 @@ view_of-one w s one =
     ∙ ap (λ (xs : List PathStep). record { from = w.from; steps = xs; left_out = 0 }) (shown_from-cons 1 0 s [] ∙ ap (λ xs. s ∷ xs) (shown_from-nil 1 (0 + 1)))
 
 -- the path of a root alone
-pub root_shown : (t : Table) (root : Option (List ℕ × ℕ)) (from : PathFrom) → IfSome root (λ r. from ≡ (root_way t r).from) → IfSome root (λ r. record { from = from; steps = []; left_out = 0 } ≡ view_of (root_way t r))
+pub root_shown : (t : Table) (root : Option (List ℕ × ℕ)) (from : PathFrom) → IfSome root (λ r. from ≡ (root_way t r).from) →
+    IfSome root (λ r. record { from = from; steps = []; left_out = 0 } ≡ view_of (root_way t r))
 root_shown t None from is = is
 root_shown t (Some r) from is =
     ap (λ (f : PathFrom). record { from = f; steps = []; left_out = 0 }) is ∙ sym (view_of-none (root_way t r) refl)
@@ -107,7 +109,9 @@ HasShown-none t none = record {
 }
 
 -- one step more
-pub HasShown-more : (t u : Trail) (number : ℕ) (s : PathStep) (after : List PathStep) → u.total ≡ t.total → u.shown.items ≡ cond (is_shown t.total number) (t.shown.items ++ s ∷ []) t.shown.items → HasShown t (number + 1) after → HasShown u number (s ∷ after)
+pub HasShown-more : (t u : Trail) (number : ℕ) (s : PathStep) (after : List PathStep) → u.total ≡ t.total →
+    u.shown.items ≡ cond (is_shown t.total number) (t.shown.items ++ s ∷ []) t.shown.items → HasShown t (number + 1) after →
+    HasShown u number (s ∷ after)
 HasShown-more t u number s after same kept has = record {
   total = (let all = has.total in omega arith);
   shown =
@@ -118,7 +122,8 @@ HasShown-more t u number s after same kept has = record {
       ∙ ap (λ n. reverse (shown_from n number (s ∷ after))) (sym same);
 }
   where
-    go : (b : Bool) → cond b (reverse (shown_from t.total (number + 1) after) ++ s ∷ []) (reverse (shown_from t.total (number + 1) after)) ≡ reverse (with_first b s (shown_from t.total (number + 1) after))
+    go : (b : Bool) →
+        cond b (reverse (shown_from t.total (number + 1) after) ++ s ∷ []) (reverse (shown_from t.total (number + 1) after)) ≡ reverse (with_first b s (shown_from t.total (number + 1) after))
     go true = sym (reverse-append (s ∷ []) (shown_from t.total (number + 1) after))
     go false = refl
 
@@ -132,7 +137,9 @@ HasShown-few t number after has =
     omega arith
 
 -- turned round it is what is shown of the path
-pub HasShown-view : (t : Trail) (w : Way) (from : PathFrom) (steps : List PathStep) (left_out : ℕ) → w.from ≡ from → steps ≡ reverse t.shown.items → left_out ≡ t.total - 2 * END_STEPS → HasShown t 0 w.steps → record { from = from; steps = steps; left_out = left_out } ≡ view_of w
+pub HasShown-view : (t : Trail) (w : Way) (from : PathFrom) (steps : List PathStep) (left_out : ℕ) → w.from ≡ from →
+    steps ≡ reverse t.shown.items → left_out ≡ t.total - 2 * END_STEPS → HasShown t 0 w.steps →
+    record { from = from; steps = steps; left_out = left_out } ≡ view_of w
 HasShown-view t w from steps left_out start turned left has =
     let all : t.total ≡ length w.steps = let total = has.total in omega arith in
     let shown = turned ∙ ap reverse has.shown ∙ reverse-reverse (shown_from t.total 0 w.steps) ∙ ap (λ n. shown_from n 0 w.steps) all in

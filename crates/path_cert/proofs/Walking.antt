@@ -1,5 +1,6 @@
 -- A walk back over the canonical path, from its end to its start.
-use Rattle.std.proofs.Common.{◌≡◌, ℕ, zero, suc, ◌+◌, ◌<◌, Bool, true, false, ◌&&◌, cond, List, [], ◌∷◌, ◌++◌, length, sym, refl, ap, subst, ◌∙◌, arith, eqb-true, eq-eqb, ◌==◌, Option, None, Some, append-nil, append_assoc}
+use Rattle.std.proofs.Common.{◌≡◌, ℕ, zero, suc, ◌+◌, ◌<◌, Bool, true, false, ◌&&◌, cond, List, [], ◌∷◌, ◌++◌, length, sym, refl, ap, subst, ◌∙◌}
+use Rattle.std.proofs.Common.{arith, eqb-true, eq-eqb, ◌==◌, Option, None, Some, append-nil, append_assoc}
 use Rattle.std.specs.Prelude.{find, IsSome}
 use Rattle.std.specs.List.{slice_get}
 use Rattle.std.specs.Option.{IfSome, is_some, option_map, option_and_then}
@@ -111,7 +112,10 @@ module _ (p : Placed) (s : Search) (l : LevelTable) (levels : AreLevelsOf p s l)
     a = arrival_in l.arrivals cell
 
     -- beyond the first step
-    next-back : (n : ℕ) (w : Way) → w.to ≡ id → a.level ≡ suc (suc n) → way_at p.table g s.sources (suc n) id ≡ Some w → (before : Way) × (id_in p a.from ≡ Some before.to) × ((arrival_in l.arrivals a.from).level ≡ suc n) × (way_at p.table g s.sources n before.to ≡ Some before) × (w ≡ way_by_edge p.table before (a.slot, id)) × (edge_at p.table before.to a.slot ≡ Some id)
+    next-back : (n : ℕ) (w : Way) → w.to ≡ id → a.level ≡ suc (suc n) → way_at p.table g s.sources (suc n) id ≡ Some w →
+        (before : Way) × (id_in p a.from ≡ Some before.to) × ((arrival_in l.arrivals a.from).level ≡ suc n)
+        × (way_at p.table g s.sources n before.to ≡ Some before) × (w ≡ way_by_edge p.table before (a.slot, id))
+        × (edge_at p.table before.to a.slot ≡ Some id)
     unfolding way_at
     next-back n w to this_level found =
         let arrives = subst (λ k. AtLevel k (ArrivesFirst p s a id) (ArrivesNext p s a id)) this_level (levels.arrives cell id held) in
@@ -129,7 +133,8 @@ module _ (p : Placed) (s : Search) (l : LevelTable) (levels : AreLevelsOf p s l)
         ))
 
     -- the first step from an owner
-    owner-back : (w : Way) → s.start ≡ Owners → a.level ≡ suc zero → way_at p.table g s.sources zero id ≡ Some w → (o : ℕ) × (id_in p a.from ≡ Some o) × (w ≡ way_by_edge p.table (owner_way p.table o) (a.slot, id)) × (edge_at p.table o a.slot ≡ Some id)
+    owner-back : (w : Way) → s.start ≡ Owners → a.level ≡ suc zero → way_at p.table g s.sources zero id ≡ Some w →
+        (o : ℕ) × (id_in p a.from ≡ Some o) × (w ≡ way_by_edge p.table (owner_way p.table o) (a.slot, id)) × (edge_at p.table o a.slot ≡ Some id)
     unfolding way_at
     owner-back w start first_level found =
         let arrives = subst (λ k. AtLevel k (ArrivesFirst p s a id) (ArrivesNext p s a id)) first_level (levels.arrives cell id held) in
@@ -137,19 +142,26 @@ module _ (p : Placed) (s : Search) (l : LevelTable) (levels : AreLevelsOf p s l)
         let leads = subst (IsWay p.table) (sym same) arrives.leads in
         go (id_in p a.from) refl (sym (ap (λ (st : Start). source_way p st a id) start) ∙ arrives.by ∙ ap Some (sym same)) leads
       where
-        go : (o : Option ℕ) → id_in p (arrival_in l.arrivals cell).from ≡ o → option_map (λ x. way_by_edge p.table (owner_way p.table x) ((arrival_in l.arrivals cell).slot, id)) o ≡ Some w → IsWay p.table w → (o : ℕ) × (id_in p (arrival_in l.arrivals cell).from ≡ Some o) × (w ≡ way_by_edge p.table (owner_way p.table o) ((arrival_in l.arrivals cell).slot, id)) × (edge_at p.table o (arrival_in l.arrivals cell).slot ≡ Some id)
+        go : (o : Option ℕ) → id_in p (arrival_in l.arrivals cell).from ≡ o →
+            option_map (λ x. way_by_edge p.table (owner_way p.table x) ((arrival_in l.arrivals cell).slot, id)) o ≡ Some w → IsWay p.table w →
+            (o : ℕ) × (id_in p (arrival_in l.arrivals cell).from ≡ Some o)
+            × (w ≡ way_by_edge p.table (owner_way p.table o) ((arrival_in l.arrivals cell).slot, id))
+            × (edge_at p.table o (arrival_in l.arrivals cell).slot ≡ Some id)
         go None at by leads = absurd (cc)
         go (Some o) at by leads = (o, at, sym (same_Some by), (subst (IsWay p.table) (sym (same_Some by)) leads).0)
 
     -- the root at which it starts
-    pub root-back : (w : Way) → s.start ≡ Roots → a.level ≡ suc zero → way_at p.table g s.sources zero id ≡ Some w → (r : List ℕ × ℕ) × (slice_get p.table.roots a.from ≡ Some r) × (w ≡ root_way p.table r)
+    pub root-back : (w : Way) → s.start ≡ Roots → a.level ≡ suc zero → way_at p.table g s.sources zero id ≡ Some w →
+        (r : List ℕ × ℕ) × (slice_get p.table.roots a.from ≡ Some r) × (w ≡ root_way p.table r)
     unfolding way_at
     root-back w start first_level found =
         let arrives = subst (λ k. AtLevel k (ArrivesFirst p s a id) (ArrivesNext p s a id)) first_level (levels.arrives cell id held) in
         let same = same_Some (sym found ∙ arrives.first) in
         go (slice_get p.table.roots a.from) refl (sym (ap (λ (st : Start). source_way p st a id) start) ∙ arrives.by ∙ ap Some (sym same))
       where
-        go : (o : Option (List ℕ × ℕ)) → slice_get p.table.roots (arrival_in l.arrivals cell).from ≡ o → option_map (root_way p.table) o ≡ Some w → (r : List ℕ × ℕ) × (slice_get p.table.roots (arrival_in l.arrivals cell).from ≡ Some r) × (w ≡ root_way p.table r)
+        go : (o : Option (List ℕ × ℕ)) → slice_get p.table.roots (arrival_in l.arrivals cell).from ≡ o →
+            option_map (root_way p.table) o ≡ Some w →
+            (r : List ℕ × ℕ) × (slice_get p.table.roots (arrival_in l.arrivals cell).from ≡ Some r) × (w ≡ root_way p.table r)
         go None at by = absurd (cc)
         go (Some r) at by = (r, at, sym (same_Some by))
 
@@ -199,16 +211,21 @@ module _ (p : Placed) (s : Search) (l : LevelTable) (levels : AreLevelsOf p s l)
   may-start cell w leads =
       subst (λ (st : Start). ByStart st ((arrival_in l.arrivals cell).from < length p.table.roots) (IsSome (id_in p cell))) (sym levels.start) (go s.start refl leads.level leads.is)
     where
-      go : (start : Start) → s.start ≡ start → IsLevelOf start zero (arrival_in l.arrivals cell).level → IsWayOf p s start zero w → ByStart start ((arrival_in l.arrivals cell).from < length p.table.roots) (IsSome (id_in p cell))
+      go : (start : Start) → s.start ≡ start → IsLevelOf start zero (arrival_in l.arrivals cell).level → IsWayOf p s start zero w →
+          ByStart start ((arrival_in l.arrivals cell).from < length p.table.roots) (IsSome (id_in p cell))
       go Roots start this_level is =
           let root = root-back cell w.to leads.held w start this_level is in slice_get-within p.table.roots (arrival_in l.arrivals cell).from root.0 root.1
       go Owners start this_level is = subst IsSome (sym leads.held) refl
 
   pub start-is : (cell : ℕ) (w : Way) (from : PathFrom) → LeadsHere p s l zero cell w → IsStart p l cell from → w.from ≡ from
   start-is cell w from leads is =
-      go s.start refl leads.level leads.is (subst (λ (st : Start). ByStart st (IfSome (slice_get p.table.roots (arrival_in l.arrivals cell).from) (λ r. from ≡ (root_way p.table r).from)) (from ≡ (owner_way p.table (id_at p.cells cell)).from)) levels.start is)
+      go s.start refl leads.level leads.is
+      (subst (λ (st : Start). ByStart st (IfSome (slice_get p.table.roots (arrival_in l.arrivals cell).from) (λ r. from ≡ (root_way p.table r).from))
+      (from ≡ (owner_way p.table (id_at p.cells cell)).from)) levels.start is)
     where
-      go : (start : Start) → s.start ≡ start → IsLevelOf start zero (arrival_in l.arrivals cell).level → IsWayOf p s start zero w → ByStart start (IfSome (slice_get p.table.roots (arrival_in l.arrivals cell).from) (λ r. from ≡ (root_way p.table r).from)) (from ≡ (owner_way p.table (id_at p.cells cell)).from) → w.from ≡ from
+      go : (start : Start) → s.start ≡ start → IsLevelOf start zero (arrival_in l.arrivals cell).level → IsWayOf p s start zero w →
+          ByStart start (IfSome (slice_get p.table.roots (arrival_in l.arrivals cell).from) (λ r. from ≡ (root_way p.table r).from)) (from ≡ (owner_way p.table (id_at p.cells cell)).from) →
+          w.from ≡ from
       go Roots start this_level way is =
           let root = root-back cell w.to leads.held w start this_level way in
           let there = subst (λ o. IfSome o (λ r. from ≡ (root_way p.table r).from)) root.1 is in
@@ -235,7 +252,8 @@ module _ (p : Placed) (s : Search) (l : LevelTable) (levels : AreLevelsOf p s l)
   some-way (Some w) is = (w, refl)
 
   -- the way to an object of a level
-  way-at-level : (cell n : ℕ) → IsSome (id_in p cell) → (arrival_in l.arrivals cell).level ≡ suc n → (w : Way) × (way_in p s cell ≡ Some w) × (w.to ≡ id_at p.cells cell) × (way_at p.table g s.sources n (id_at p.cells cell) ≡ Some w)
+  way-at-level : (cell n : ℕ) → IsSome (id_in p cell) → (arrival_in l.arrivals cell).level ≡ suc n →
+      (w : Way) × (way_in p s cell ≡ Some w) × (w.to ≡ id_at p.cells cell) × (way_at p.table g s.sources n (id_at p.cells cell) ≡ Some w)
   unfolding canonical_way
   way-at-level cell n held is =
       let id = id_at p.cells cell in
@@ -248,7 +266,8 @@ module _ (p : Placed) (s : Search) (l : LevelTable) (levels : AreLevelsOf p s l)
   way-there cell steps held many =
       go s.start refl (arrival_in l.arrivals cell).level refl (sym (ap (λ (st : Start). path_steps st (arrival_in l.arrivals cell).level) levels.start) ∙ many)
     where
-      go : (start : Start) → s.start ≡ start → (k : ℕ) → (arrival_in l.arrivals cell).level ≡ k → path_steps s.start (arrival_in l.arrivals cell).level ≡ Some steps → (w : Way) × (way_in p s cell ≡ Some w) × LeadsHere p s l steps cell w
+      go : (start : Start) → s.start ≡ start → (k : ℕ) → (arrival_in l.arrivals cell).level ≡ k →
+          path_steps s.start (arrival_in l.arrivals cell).level ≡ Some steps → (w : Way) × (way_in p s cell ≡ Some w) × LeadsHere p s l steps cell w
       go start at zero is many =
           absurd (let none : None ≡ Some steps = sym (ap (path_steps s.start) is) ∙ many in cc)
       go Roots at (suc n) is many =
@@ -309,7 +328,8 @@ pub record HasWalked (k : Walk) (t : Trail) (left cell : ℕ) : Type 0 where
   pub shown : HasShown t left (rest ++ k.after)
   pub whole : (w : Way) → way_in k.placed k.search k.to ≡ Some w → (w.from ≡ way.from) × (w.steps ≡ way.steps ++ rest)
 
-pub walk-begins : (k : Walk) (t : Trail) (steps : ℕ) → AreLevelsOf k.placed k.search k.levels → IsSome (id_in k.placed k.to) → path_steps k.levels.start (arrival_in k.levels.arrivals k.to).level ≡ Some steps → HasShown t steps k.after → HasWalked k t steps k.to
+pub walk-begins : (k : Walk) (t : Trail) (steps : ℕ) → AreLevelsOf k.placed k.search k.levels → IsSome (id_in k.placed k.to) →
+    path_steps k.levels.start (arrival_in k.levels.arrivals k.to).level ≡ Some steps → HasShown t steps k.after → HasWalked k t steps k.to
 walk-begins k t steps levels held many has =
     let there = way-there k.placed k.search k.levels levels k.to steps held many in
     record {
@@ -323,7 +343,9 @@ walk-begins k t steps levels held many has =
     }
 
 -- one step of the walk
-pub walk-back : (k : Walk) (t u : Trail) (left cell : ℕ) → AreLevelsOf k.placed k.search k.levels → HasWalked k t (suc left) cell → ((after : List PathStep) → HasShown t (left + 1) after → HasShown u left (last_step k.placed k.levels cell (id_at k.placed.cells cell) ∷ after)) → HasWalked k u left (arrival_in k.levels.arrivals cell).from
+pub walk-back : (k : Walk) (t u : Trail) (left cell : ℕ) → AreLevelsOf k.placed k.search k.levels → HasWalked k t (suc left) cell →
+    ((after : List PathStep) → HasShown t (left + 1) after → HasShown u left (last_step k.placed k.levels cell (id_at k.placed.cells cell) ∷ after)) →
+    HasWalked k u left (arrival_in k.levels.arrivals cell).from
 walk-back k t u left cell levels now taken =
     let back = steps-back k.placed k.search k.levels levels left cell now.way now.leads in
     let id = id-held k.placed cell now.way.to now.leads.held in
@@ -333,7 +355,8 @@ walk-back k t u left cell levels now taken =
       way = back.before;
       rest = step ∷ now.rest;
       leads = back.leads;
-      shown = subst (λ n. HasShown u left (last_step k.placed k.levels cell n ∷ (now.rest ++ k.after))) id (taken (now.rest ++ k.after) (subst (λ n. HasShown t n (now.rest ++ k.after)) one now.shown));
+      shown =
+          subst (λ n. HasShown u left (last_step k.placed k.levels cell n ∷ (now.rest ++ k.after))) id (taken (now.rest ++ k.after) (subst (λ n. HasShown t n (now.rest ++ k.after)) one now.shown));
       whole = λ w is.
           let had = now.whole w is in (
             had.0 ∙ ap (λ (v : Way). v.from) back.last,
@@ -342,13 +365,18 @@ walk-back k t u left cell levels now taken =
     }
 
 -- the walk is over
-pub walk-ends : (k : Walk) (t : Trail) (steps cell : ℕ) (from : PathFrom) (v : PathView) → AreLevelsOf k.placed k.search k.levels → IsSome (id_in k.placed k.to) → path_steps k.levels.start (arrival_in k.levels.arrivals k.to).level ≡ Some steps → HasWalked k t zero cell → IsStart k.placed k.levels cell from → ((w : Way) → w.from ≡ from → HasShown t 0 w.steps → v ≡ view_of w) → IfSome (way_in k.placed k.search k.to) (λ w. v ≡ view_of (record { from = w.from; steps = w.steps ++ k.after; to = w.to }))
+pub walk-ends : (k : Walk) (t : Trail) (steps cell : ℕ) (from : PathFrom) (v : PathView) → AreLevelsOf k.placed k.search k.levels →
+    IsSome (id_in k.placed k.to) → path_steps k.levels.start (arrival_in k.levels.arrivals k.to).level ≡ Some steps → HasWalked k t zero cell →
+    IsStart k.placed k.levels cell from → ((w : Way) → w.from ≡ from → HasShown t 0 w.steps → v ≡ view_of w) →
+    IfSome (way_in k.placed k.search k.to) (λ w. v ≡ view_of (record { from = w.from; steps = w.steps ++ k.after; to = w.to }))
 walk-ends k t steps cell from v levels held many now start view =
     let there = way-there k.placed k.search k.levels levels k.to steps held many in
     let had = now.whole there.0 there.1 in
     let rest : there.0.steps ≡ now.rest = had.1 ∙ ap (λ (xs : List PathStep). xs ++ now.rest) (no-steps k.placed k.search k.levels levels cell now.way now.leads) in
     let begins = had.0 ∙ start-is k.placed k.search k.levels levels cell now.way from now.leads start in
-    subst (λ o. IfSome o (λ (w : Way). v ≡ view_of (record { from = w.from; steps = w.steps ++ k.after; to = w.to }))) (sym there.1) (view (record { from = there.0.from; steps = there.0.steps ++ k.after; to = there.0.to }) begins (subst (λ xs. HasShown t 0 (xs ++ k.after)) (sym rest) now.shown))
+    subst (λ o. IfSome o (λ (w : Way). v ≡ view_of (record { from = w.from; steps = w.steps ++ k.after; to = w.to }))) (sym there.1)
+    (view (record { from = there.0.from; steps = there.0.steps ++ k.after; to = there.0.to }) begins
+    (subst (λ xs. HasShown t 0 (xs ++ k.after)) (sym rest) now.shown))
 
 -- ---- what is answered
 
@@ -366,7 +394,9 @@ path-is v way w there shown =
     let is = subst (λ o. IsShownWith v [] o) there shown in
     ap (λ (u : PathView). Some u) (is ∙ ap (λ (xs : List PathStep). view_of (record { from = w.from; steps = xs; to = w.to })) (append-nil w.steps)) ∙ sym (ap (option_map view_of) there)
 
-pub path_then-is : (p : Placed) (v : PathView) (way : Option Way) (w : Way) (cell slot id : ℕ) → way ≡ Some w → edge_of (slot_in p cell slot) ≡ Some id → IsShownWith v (step_to p.table (slot, id) ∷ []) way → Some v ≡ option_map view_of (option_and_then (λ u. way_by_slot p u cell slot) way)
+pub path_then-is : (p : Placed) (v : PathView) (way : Option Way) (w : Way) (cell slot id : ℕ) → way ≡ Some w →
+    edge_of (slot_in p cell slot) ≡ Some id → IsShownWith v (step_to p.table (slot, id) ∷ []) way →
+    Some v ≡ option_map view_of (option_and_then (λ u. way_by_slot p u cell slot) way)
 path_then-is p v way w cell slot id there edge shown =
     let is = subst (λ o. IsShownWith v (step_to p.table (slot, id) ∷ []) o) there shown in
     ap (λ (u : PathView). Some u) (is ∙ view_of-to w.from (w.steps ++ step_to p.table (slot, id) ∷ []) w.to id)

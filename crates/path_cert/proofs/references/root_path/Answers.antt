@@ -22,8 +22,14 @@ returns c =
     let names = c.root_cell-cell.ensures.cell in
     let root = the_root p c.args.root c.root_cell-cell.result c.requires.root names in
     let shown = root_shown p.table (slice_get p.table.roots c.args.root) c.in_ok-from.from c.in_ok-from.ensures in
-    let is = subst (λ (steps : List PathStep). IfSome (slice_get c.args.table.now.table.roots c.args.root) (λ r. record { from = c.in_ok-from.from; steps = steps; left_out = 0 } ≡ view_of (root_way c.args.table.now.table r))) (sym c.empty.ensures) shown in
+    let is =
+    subst (λ (steps : List PathStep). IfSome (slice_get c.args.table.now.table.roots c.args.root)
+    (λ r. record { from = c.in_ok-from.from; steps = steps; left_out = 0 } ≡ view_of (root_way c.args.table.now.table r))) (sym c.empty.ensures)
+    shown in
     record {
       path = is;
-      is_path = root-is_path p c.args.root root _ c.cells-cells.ensures.sound (root-there p c.args.root c.root_cell-cell.result c.requires.root names) (c.cells-cells.ensures.placed.live c.root_cell-cell.result root.1 (root-held p c.args.root c.root_cell-cell.result c.requires.root names)) is;
+      is_path =
+          root-is_path p c.args.root root _ c.cells-cells.ensures.sound (root-there p c.args.root c.root_cell-cell.result c.requires.root names)
+          (c.cells-cells.ensures.placed.live c.root_cell-cell.result root.1 (root-held p c.args.root c.root_cell-cell.result c.requires.root names))
+          is;
     }

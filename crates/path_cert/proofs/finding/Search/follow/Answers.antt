@@ -26,8 +26,12 @@ loop-slot-preserved c =
     let ends = λ (es : List (ℕ × ℕ)). map (λ e. e.1) es in
     elim c.match-slot_at.branch [
       | in-Some+in_ok-meet w ↦
-          let held = target-held p w.in-Some.target (edge_of (slot_in p c.args.cell slot)) (sym (ap (option_and_then (id_in p)) w.in-Some.is) ∙ c.slot_at.ensures.leads) (sym (ap is_some w.in-Some.is) ∙ c.slot_at.ensures.in_a_cell) in
-          let more = Reaches-more p c.requires.placed r (ends (edges_of (take slot slots))) w.in-Some.target held.0 begun now (sought_in w.meet.new.self) was.reaches held.1 w.in_ok-meet.ensures.meets in
+          let held =
+          target-held p w.in-Some.target (edge_of (slot_in p c.args.cell slot))
+          (sym (ap (option_and_then (id_in p)) w.in-Some.is) ∙ c.slot_at.ensures.leads)
+          (sym (ap is_some w.in-Some.is) ∙ c.slot_at.ensures.in_a_cell) in
+          let more =
+          Reaches-more p c.requires.placed r (ends (edges_of (take slot slots))) w.in-Some.target held.0 begun now (sought_in w.meet.new.self) was.reaches held.1 w.in_ok-meet.ensures.meets in
           let edges_more = ap ends (edges-edge slots slot held.0 slot_within held.2) ∙ map-append (λ (e : ℕ × ℕ). e.1) (edges_of (take slot slots)) ((slot, held.0) ∷ []) in
           let fewer = subst (λ n. remaining n (sought_in w.meet.new.self) ≤ remaining n now) c.requires.roles w.in_ok-meet.ensures.remaining in
           rw w.self-is (record {

@@ -36,7 +36,10 @@ loop-place-preserved c =
       | then-not-shut-cell w ↦
           rw w.self-is (record {
             safe = w.take_object.ensures.safe;
-            arrivals = subst (λ ys. AreByObjects r ys f.arrivals w.take_object.new.self.arrivals.items) (sym more) (by_objects-open r xs cell f.arrivals g.arrivals was.arrivals w.take_object.new.self.arrivals.items w.if-not-shut-cell.true w.take_object.ensures.arrivals);
+            arrivals =
+                subst (λ ys. AreByObjects r ys f.arrivals w.take_object.new.self.arrivals.items) (sym more)
+                (by_objects-open r xs cell f.arrivals g.arrivals was.arrivals w.take_object.new.self.arrivals.items w.if-not-shut-cell.true
+                w.take_object.ensures.arrivals);
             grows = Grows-trans p f g (front_of w.take_object.new.self) was.grows w.take_object.ensures.grows;
           })
       | else-not-shut-cell w ↦

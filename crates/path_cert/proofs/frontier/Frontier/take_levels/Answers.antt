@@ -29,7 +29,9 @@ loop-from-preserved c =
       within = omega arith;
       safe = c.take_level.ensures.safe.up_to;
       levels = λ s by_cell begun.
-          let then = at-next p c.requires.placed c.requires.sound.ids.rising s c.args.shut.now by_cell (c.loop-from.level - 1) (c.loop-from.level + 1) two f c.loop-from.from (was.levels s by_cell begun) up_to h c.take_level.ensures.arrivals c.take_level.ensures.grows in
+          let then =
+          at-next p c.requires.placed c.requires.sound.ids.rising s c.args.shut.now by_cell (c.loop-from.level - 1) (c.loop-from.level + 1) two
+          f c.loop-from.from (was.levels s by_cell begun) up_to h c.take_level.ensures.arrivals c.take_level.ensures.grows in
           subst (λ place. IsAtLevel p s ((c.loop-from.level + 1) - 1) h place) to (subst (λ n. IsAtLevel p s n h (length f.order)) next then);
     }
 

@@ -59,7 +59,8 @@ loop-slot-preserved c =
                 let before = was.taken ways begun in
                 let ws = ways ++ ways_by t o (edges_of (take slot slots)) in
                 let now = first-taken p c.requires.placed Owners ws f before w.in-Some.target way a held.1 refl by leads in
-                subst (λ vs. HasTaken p Owners vs (next_first p c.requires.placed Owners ws f before w.in-Some.target way a held.1 refl by leads)) (ways_by-more t o ways (edges_of (take slot slots)) (slot, held.0) ∙ ap (λ es. ways ++ ways_by t o es) (sym more)) now;
+                subst (λ vs. HasTaken p Owners vs (next_first p c.requires.placed Owners ws f before w.in-Some.target way a held.1 refl by leads))
+                (ways_by-more t o ways (edges_of (take slot slots)) (slot, held.0) ∙ ap (λ es. ways ++ ways_by t o es) (sym more)) now;
             grows = Grows-trans p (front_of c.args.self.now) f _ was.grows grows;
           })
       | in_default w ↦

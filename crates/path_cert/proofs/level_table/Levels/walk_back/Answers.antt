@@ -99,17 +99,23 @@ loop-left-preserved c =
     let each = c.requires.table.1.each in
     let many : length c.self.inside.arrivals.items ≡ length c.args.self.now.arrivals = ap (λ (l : LevelTable). length l.arrivals) c.self.view_is in
     let within : c.skip_hidden-waypoint.result.cell < length c.self.inside.arrivals.items = omega (arith, below, each, many) in
-    let read = c.index-arrival.ensures ∙ get_or_default c.self.inside.arrivals.items cell c.index-arrival.result.now NOWHERE within ∙ ap (λ (l : LevelTable). arrival_in l.arrivals cell) c.self.view_is in
+    let read =
+    c.index-arrival.ensures ∙ get_or_default c.self.inside.arrivals.items cell c.index-arrival.result.now NOWHERE within ∙ ap (λ (l : LevelTable). arrival_in l.arrivals cell) c.self.view_is in
     let some = skipped-some c.args.self.now c.loop-left.trail.total before c.skip_hidden-waypoint.result skips (omega arith) in
     let one : c.skip_hidden-waypoint.result.left ≡ suc (c.skip_hidden-waypoint.result.left - 1) = omega (arith, some) in
     record {
       total = c.take.ensures.total ∙ c.loop-left.invariant.total;
       walked = λ s after levels has.
           let k : Walk = record { placed = c.args.table.now; search = s; levels = c.args.self.now; to = c.args.to; after = after } in
-          let skipped = walk-skipped k c.loop-left.trail levels before c.skip_hidden-waypoint.result (c.skip_hidden-waypoint.ensures p s levels held_before) (c.loop-left.invariant.walked s after levels has) in
+          let skipped =
+          walk-skipped k c.loop-left.trail levels before c.skip_hidden-waypoint.result (c.skip_hidden-waypoint.ensures p s levels held_before) (c.loop-left.invariant.walked s after levels has) in
           let now = subst (λ n. HasWalked k c.loop-left.trail n cell) one skipped in
-          let taken = subst (λ (a : Arrival). (rest : List PathStep) → HasShown c.loop-left.trail ((c.skip_hidden-waypoint.result.left - 1) + 1) rest → HasShown c.take.new.self (c.skip_hidden-waypoint.result.left - 1) (step_to p.table (a.slot, id_at p.cells cell) ∷ rest)) read c.in_ok-take.ensures.taken in
-          subst (λ (a : Arrival). HasWalked k c.take.new.self (c.skip_hidden-waypoint.result.left - 1) a.from) (sym read) (walk-back k c.loop-left.trail c.take.new.self (left - 1) cell levels now taken);
+          let taken =
+          subst (λ (a : Arrival). (rest : List PathStep) → HasShown c.loop-left.trail ((c.skip_hidden-waypoint.result.left - 1) + 1) rest →
+          HasShown c.take.new.self (c.skip_hidden-waypoint.result.left - 1) (step_to p.table (a.slot, id_at p.cells cell) ∷ rest)) read
+          c.in_ok-take.ensures.taken in
+          subst (λ (a : Arrival). HasWalked k c.take.new.self (c.skip_hidden-waypoint.result.left - 1) a.from) (sym read)
+          (walk-back k c.loop-left.trail c.take.new.self (left - 1) cell levels now taken);
     }
 
 pub start_at-requires-clause-cell : goal.start_at-requires-clause-cell
@@ -139,7 +145,11 @@ into_view-requires-clause-all c =
 pub returns-clause-path : goal.returns-clause-path
 returns-clause-path c = go c.into_view.result c.into_view.ensures.view
   where
-    go : (result : Result PathView OutOfMemory) → IfOk result (λ v. (w : Way) → w.from ≡ c.in_ok-from.from → HasShown c.loop-left.trail 0 w.steps → v ≡ view_of w) → IfOk result (λ v. (s : Search) (after : List PathStep) → AreLevelsOf c.args.table.now s c.args.self.now → HasShown c.args.trail c.args.steps after → IfSome (way_in c.args.table.now s c.args.to) (λ w. v ≡ view_of (record { from = w.from; steps = w.steps ++ after; to = w.to })))
+    go : (result : Result PathView OutOfMemory) →
+        IfOk result (λ v. (w : Way) → w.from ≡ c.in_ok-from.from → HasShown c.loop-left.trail 0 w.steps → v ≡ view_of w) →
+        IfOk result
+        (λ v. (s : Search) (after : List PathStep) → AreLevelsOf c.args.table.now s c.args.self.now → HasShown c.args.trail c.args.steps after →
+        IfSome (way_in c.args.table.now s c.args.to) (λ w. v ≡ view_of (record { from = w.from; steps = w.steps ++ after; to = w.to })))
     go (Err e) view = view
     go (Ok v) view = λ s after levels has.
         let k : Walk = record { placed = c.args.table.now; search = s; levels = c.args.self.now; to = c.args.to; after = after } in
