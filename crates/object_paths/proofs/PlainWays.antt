@@ -54,12 +54,18 @@ module _ (p : Placed) (r : RoleTable) (h : Heap) (stand : StandFor p r h) where
   plain-way-is cell = λ i. option_or (way-from_roots cell i) (way-from_owners cell i)
 
   -- so is the path to a holder, and else its own start
-  pub holder-way-is : (cell : ℕ) → option_map_or (λ w. w) (option_or (way_in p (search_of p r Roots (none_shut p)) cell) (way_in p (search_of p r Owners (none_shut p)) cell)) (owner_way p.table (id_at p.cells cell)) ≡ holder_way h (id_at p.cells cell)
+  pub holder-way-is : (cell : ℕ) →
+      option_map_or (λ w. w) (option_or (way_in p (search_of p r Roots (none_shut p)) cell) (way_in p (search_of p r Owners (none_shut p)) cell)) (owner_way p.table (id_at p.cells cell))
+      ≡ holder_way h (id_at p.cells cell)
   holder-way-is cell =
       λ i. option_map_or (λ w. w) (plain-way-is cell i) (owner_way (sym stand.table i) (id_at p.cells cell))
 
   -- by an edge from the holder
-  pub by-holder : (cell : ℕ) (e : ℕ × ℕ) → view_of (way_by_edge p.table (option_map_or (λ w. w) (option_or (way_in p (search_of p r Roots (none_shut p)) cell) (way_in p (search_of p r Owners (none_shut p)) cell)) (owner_way p.table (id_at p.cells cell))) e) ≡ view_of (way_by_edge h.table (holder_way h (id_at p.cells cell)) e)
+  pub by-holder : (cell : ℕ) (e : ℕ × ℕ) →
+      view_of (way_by_edge p.table
+      (option_map_or (λ w. w) (option_or (way_in p (search_of p r Roots (none_shut p)) cell) (way_in p (search_of p r Owners (none_shut p)) cell))
+      (owner_way p.table (id_at p.cells cell))) e)
+      ≡ view_of (way_by_edge h.table (holder_way h (id_at p.cells cell)) e)
   by-holder cell e = λ i. view_of (way_by_edge (sym stand.table i) (holder-way-is cell i) e)
 
 -- ---- what is shown of the first of two ways
@@ -85,7 +91,8 @@ module _ (t : Table) (edge : Option ℕ) (slot id : ℕ) (leads : edge ≡ Some 
   same_Some : {X : Type 0} {x y : X} → Some x ≡ Some y → x ≡ y
   same_Some e = cc
 
-  pub by-first : (a b : Option Way) (start : Way) (v : PathView) → Some v ≡ option_map view_of (option_and_then on a) → v ≡ view_of (way_by_edge t (option_map_or (λ w. w) (option_or a b) start) (slot, id))
+  pub by-first : (a b : Option Way) (start : Way) (v : PathView) → Some v ≡ option_map view_of (option_and_then on a) →
+      v ≡ view_of (way_by_edge t (option_map_or (λ w. w) (option_or a b) start) (slot, id))
   by-first None b start v is = absurd (cc)
   by-first (Some w) b start v is = same_Some (is ∙ ap (option_map view_of) (on-is w))
 
@@ -93,12 +100,14 @@ module _ (t : Table) (edge : Option ℕ) (slot id : ℕ) (leads : edge ≡ Some 
   no-first None none = refl
   no-first (Some w) none = absurd (let e : None ≡ Some (view_of (way_by_edge t w (slot, id))) = none ∙ ap (option_map view_of) (on-is w) in cc)
 
-  pub by-second : (a b : Option Way) (start : Way) (v : PathView) → a ≡ None → Some v ≡ option_map view_of (option_and_then on b) → v ≡ view_of (way_by_edge t (option_map_or (λ w. w) (option_or a b) start) (slot, id))
+  pub by-second : (a b : Option Way) (start : Way) (v : PathView) → a ≡ None → Some v ≡ option_map view_of (option_and_then on b) →
+      v ≡ view_of (way_by_edge t (option_map_or (λ w. w) (option_or a b) start) (slot, id))
   by-second None None start v none is = absurd (cc)
   by-second None (Some w) start v none is = same_Some (is ∙ ap (option_map view_of) (on-is w))
   by-second (Some w) b start v none is = absurd (cc)
 
-  pub by-start : (a b : Option Way) (start : Way) (v : PathView) → a ≡ None → b ≡ None → Some v ≡ option_map view_of (on start) → v ≡ view_of (way_by_edge t (option_map_or (λ w. w) (option_or a b) start) (slot, id))
+  pub by-start : (a b : Option Way) (start : Way) (v : PathView) → a ≡ None → b ≡ None → Some v ≡ option_map view_of (on start) →
+      v ≡ view_of (way_by_edge t (option_map_or (λ w. w) (option_or a b) start) (slot, id))
   by-start None None start v none no_other is = same_Some (is ∙ ap (option_map view_of) (on-is start))
   by-start None (Some w) start v none no_other is = absurd (cc)
   by-start (Some w) b start v none no_other is = absurd (cc)
@@ -116,7 +125,9 @@ few-shown (Some w) (Ok v) shown =
     let same : v ≡ view_of w = cc in subst (λ (u : PathView). length u.steps ≤ 2 * END_STEPS) (sym same) (view_of-few w)
 
 -- the same of a root
-pub few-root : (t : Table) (root : Option (List ℕ × ℕ)) (id : ℕ) → option_map (λ r. r.1) root ≡ Some id → (result : Result PathView OutOfMemory) → IfOk result (λ v. IfSome root (λ r. v ≡ view_of (root_way t r))) → IfOk result (λ v. length v.steps ≤ 2 * END_STEPS)
+pub few-root : (t : Table) (root : Option (List ℕ × ℕ)) (id : ℕ) → option_map (λ r. r.1) root ≡ Some id →
+    (result : Result PathView OutOfMemory) → IfOk result (λ v. IfSome root (λ r. v ≡ view_of (root_way t r))) →
+    IfOk result (λ v. length v.steps ≤ 2 * END_STEPS)
 few-root t None id named result shown = absurd (cc)
 few-root t (Some r) id named (Err e) shown = shown
 few-root t (Some r) id named (Ok v) shown =

@@ -90,14 +90,18 @@ module _ (h : Heap) (cells : List (Option ℕ)) (r : RoleTable) (placed : IsPlac
         ap (λ b. b || has_id r.owners cell) (has_level-under cell id held) ∙ ap (λ b. has_id (under_owners h) id || b) (say.owners cell id held)
 
     -- the levels from the roots, where what is owned is shut by its cell
-    pub unowned-levels : (owned : List Bool) → ((cell : ℕ) → cell < length cells → flag_of owned cell ≡ is_owned_cell r under cell) → (l : LevelTable) → AreLevelsOf p (search_of p r Roots owned) l → AreLevelsOf p (unowned_search h) l
+    pub unowned-levels : (owned : List Bool) → ((cell : ℕ) → cell < length cells → flag_of owned cell ≡ is_owned_cell r under cell) →
+        (l : LevelTable) → AreLevelsOf p (search_of p r Roots owned) l → AreLevelsOf p (unowned_search h) l
     unowned-levels owned flags l are =
-        levels-same p (search_of p r Roots owned) (is_owned h) l (by_cell (λ cell. flag_of owned cell) (is_owned h) (λ cell id held. flags cell (held-within p cell id held) ∙ owned-cell cell id held)) are
+        levels-same p (search_of p r Roots owned) (is_owned h) l
+        (by_cell (λ cell. flag_of owned cell) (is_owned h) (λ cell id held. flags cell (held-within p cell id held) ∙ owned-cell cell id held)) are
 
   -- ---- traced
 
   -- what has a level from the owners or from the roots, with nothing shut, is traced
-  pub has_level-traced : (nothing : List Bool) → ((cell : ℕ) → flag_of nothing cell ≡ false) → (under : LevelTable) → AreLevelsOf p (search_of p r Owners nothing) under → (rooted : LevelTable) → AreLevelsOf p (search_of p r Roots nothing) rooted → (cell id : ℕ) → id_in p cell ≡ Some id → (is_some (level_in under cell) || is_some (level_in rooted cell)) ≡ is_traced h id
+  pub has_level-traced : (nothing : List Bool) → ((cell : ℕ) → flag_of nothing cell ≡ false) → (under : LevelTable) →
+      AreLevelsOf p (search_of p r Owners nothing) under → (rooted : LevelTable) → AreLevelsOf p (search_of p r Roots nothing) rooted →
+      (cell id : ℕ) → id_in p cell ≡ Some id → (is_some (level_in under cell) || is_some (level_in rooted cell)) ≡ is_traced h id
   has_level-traced nothing none under levels rooted are cell id held =
       let s = search_of p r Roots nothing in
       let by_roots : is_some (level_in rooted cell) ≡ has_id (reached_nodes (object_graph t) (root_ids t)) id =
@@ -145,8 +149,13 @@ module _ (h : Heap) (cells : List (Option ℕ)) (r : RoleTable) (placed : IsPlac
 
 -- What is said by cells is what the heap says by ids.
 pub record AgreeByIds (p : Placed) (r : RoleTable) (h : Heap) : Type 0 where
-  pub unowned : (nothing : List Bool) → ((cell : ℕ) → flag_of nothing cell ≡ false) → (under : LevelTable) → AreLevelsOf p (search_of p r Owners nothing) under → (owned : List Bool) → ((cell : ℕ) → cell < length p.cells → flag_of owned cell ≡ is_owned_cell r under cell) → (l : LevelTable) → AreLevelsOf p (search_of p r Roots owned) l → AreLevelsOf p (unowned_search h) l
-  pub traced : (nothing : List Bool) → ((cell : ℕ) → flag_of nothing cell ≡ false) → (under : LevelTable) → AreLevelsOf p (search_of p r Owners nothing) under → (rooted : LevelTable) → AreLevelsOf p (search_of p r Roots nothing) rooted → (cell id : ℕ) → id_in p cell ≡ Some id → (is_some (level_in under cell) || is_some (level_in rooted cell)) ≡ is_traced h id
+  pub unowned : (nothing : List Bool) → ((cell : ℕ) → flag_of nothing cell ≡ false) → (under : LevelTable) →
+      AreLevelsOf p (search_of p r Owners nothing) under → (owned : List Bool) →
+      ((cell : ℕ) → cell < length p.cells → flag_of owned cell ≡ is_owned_cell r under cell) → (l : LevelTable) →
+      AreLevelsOf p (search_of p r Roots owned) l → AreLevelsOf p (unowned_search h) l
+  pub traced : (nothing : List Bool) → ((cell : ℕ) → flag_of nothing cell ≡ false) → (under : LevelTable) →
+      AreLevelsOf p (search_of p r Owners nothing) under → (rooted : LevelTable) → AreLevelsOf p (search_of p r Roots nothing) rooted →
+      (cell id : ℕ) → id_in p cell ≡ Some id → (is_some (level_in under cell) || is_some (level_in rooted cell)) ≡ is_traced h id
   pub met : (l : LevelTable) → AreLevelsOf p (unowned_search h) l → (cell id : ℕ) → id_in p cell ≡ Some id → is_some (level_in l cell) ≡ is_met h id
   pub finds : (owner ownee x y : ℕ) → id_in p owner ≡ Some x → id_in p ownee ≡ Some y → finds_in p r owner ownee ≡ finds h x y
 

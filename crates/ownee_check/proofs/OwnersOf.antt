@@ -82,12 +82,18 @@ abbrev pub passes_with_owner : (ℕ → ℕ → Bool) → List (ℕ × ℕ) → 
 passes_with_owner test owners id = option_map_or (test id) (owner_of owners id) false
 
 -- The ownees of the pairs that pass a test are those of these ids that pass it, where the ids rise and have all ownees.
-pub ownees-by_id : (test : ℕ → ℕ → Bool) (owners : List (ℕ × ℕ)) (ids : List ℕ) → Rise (keys_of owners) → Rise ids → ((id : ℕ) → IsTrue (has_id (keys_of owners) id) → IsTrue (has_id ids id)) → map (λ o. o.0) (filter (λ o. test o.0 o.1) owners) ≡ filter (passes_with_owner test owners) ids
+pub ownees-by_id : (test : ℕ → ℕ → Bool) (owners : List (ℕ × ℕ)) (ids : List ℕ) → Rise (keys_of owners) → Rise ids →
+    ((id : ℕ) → IsTrue (has_id (keys_of owners) id) → IsTrue (has_id ids id)) →
+    map (λ o. o.0) (filter (λ o. test o.0 o.1) owners) ≡ filter (passes_with_owner test owners) ids
 ownees-by_id test owners ids rise rise_ids among =
-    ap (map (λ o. o.0)) (filter_agree_all (λ o. test o.0 o.1) (λ o. passes o.0) owners (λ k d within. sym (ap (λ o. option_map_or (test (get_or owners k d).0) o false) (All-owner_of_pair owners rise k d within))))
+    ap (map (λ o. o.0))
+    (filter_agree_all (λ o. test o.0 o.1) (λ o. passes o.0) owners
+    (λ k d within. sym (ap (λ o. option_map_or (test (get_or owners k d).0) o false) (All-owner_of_pair owners rise k d within))))
     ∙ map-filter passes (λ (o : ℕ × ℕ). o.0) owners
     ∙ same_rising (filter passes (keys_of owners)) (filter passes ids) (AllPairs-filter (λ x y. x < y) passes (keys_of owners) rise) (AllPairs-filter (λ x y. x < y) passes ids rise_ids)
-    (λ y. has_id-filter passes (keys_of owners) y ∙ both (passes y) (has_id (keys_of owners) y) (has_id ids y) (λ at. ownee-found owners y ∙ some (owner_of owners y) y at) (among y) ∙ sym (has_id-filter passes ids y))
+    (λ y. has_id-filter passes (keys_of owners) y
+    ∙ both (passes y) (has_id (keys_of owners) y) (has_id ids y) (λ at. ownee-found owners y ∙ some (owner_of owners y) y at) (among y)
+    ∙ sym (has_id-filter passes ids y))
   where
     passes : ℕ → Bool
     passes id = passes_with_owner test owners id

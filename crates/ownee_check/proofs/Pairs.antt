@@ -54,7 +54,8 @@ noted-other false true t e other = refl
 noted-other false false t true other = sym (other refl)
 noted-other false false t false other = refl
 
-module _ (test : ℕ → Bool) (answers : List Bool) (ownees : List ℕ) (i : ℕ) (within : i < length ownees) (same : answers ≡ map test ownees) (old flags : List Bool) (x : ℕ) (was : flag_of flags x ≡ (flag_of old x || (has_id (take i ownees) x && test x))) where
+module _ (test : ℕ → Bool) (answers : List Bool) (ownees : List ℕ) (i : ℕ) (within : i < length ownees) (same : answers ≡ map test ownees)
+    (old flags : List Bool) (x : ℕ) (was : flag_of flags x ≡ (flag_of old x || (has_id (take i ownees) x && test x))) where
   abbrev y : ℕ
   y = get_or ownees i 0
 
@@ -99,13 +100,16 @@ module _ (p : Placed) (r : RoleTable) where
   pair-none false k false none = refl
 
   -- an ownee with an owner that isn't gone gives a pair
-  pub pairs-owned : (pairs : List Ownership) (ownees : List ℕ) (i owner x : ℕ) → i < length ownees → owner_in r (get_or ownees i 0) ≡ OwnerCell owner → is_found_in p r pairs x ≡ (has_id (take i ownees) x && is_kept p r x) → is_found_in p r (pairs ++ record { owner = owner; ownee = get_or ownees i 0 } ∷ []) x ≡ (has_id (take (i + 1) ownees) x && is_kept p r x)
+  pub pairs-owned : (pairs : List Ownership) (ownees : List ℕ) (i owner x : ℕ) → i < length ownees →
+      owner_in r (get_or ownees i 0) ≡ OwnerCell owner → is_found_in p r pairs x ≡ (has_id (take i ownees) x && is_kept p r x) →
+      is_found_in p r (pairs ++ record { owner = owner; ownee = get_or ownees i 0 } ∷ []) x ≡ (has_id (take (i + 1) ownees) x && is_kept p r x)
   pairs-owned pairs ownees i owner x within role was =
       let y = get_or ownees i 0 in
       let o : Ownership = record { owner = owner; ownee = get_or ownees i 0 } in
       found-more pairs o x
       ∙ ap (λ b. b || ((y == x && finds_in p r owner x) || false)) was
-      ∙ pair-owned (has_id (take i ownees) x) (is_kept p r x) (y == x) (finds_in p r owner x) (λ here. let same : y ≡ x = eqb-true y x here in sym (ap (is_found_by p r x) (sym (ap (owner_in r) same) ∙ role)))
+      ∙ pair-owned (has_id (take i ownees) x) (is_kept p r x) (y == x) (finds_in p r owner x)
+      (λ here. let same : y ≡ x = eqb-true y x here in sym (ap (is_found_by p r x) (sym (ap (owner_in r) same) ∙ role)))
       ∙ ap (λ b. b && is_kept p r x) (sym (has_id-more ownees i x within))
 
   no_cell : (role : OwnerRole) (x : ℕ) → ((owner : ℕ) → role ≡ OwnerCell owner → ⊥) → is_found_by p r x role ≡ false
@@ -114,7 +118,9 @@ module _ (p : Placed) (r : RoleTable) where
   no_cell (OwnerGone id) x none = refl
 
   -- another ownee gives none
-  pub pairs-none : (pairs : List Ownership) (ownees : List ℕ) (i x : ℕ) → i < length ownees → ((owner : ℕ) → owner_in r (get_or ownees i 0) ≡ OwnerCell owner → ⊥) → is_found_in p r pairs x ≡ (has_id (take i ownees) x && is_kept p r x) → is_found_in p r pairs x ≡ (has_id (take (i + 1) ownees) x && is_kept p r x)
+  pub pairs-none : (pairs : List Ownership) (ownees : List ℕ) (i x : ℕ) → i < length ownees →
+      ((owner : ℕ) → owner_in r (get_or ownees i 0) ≡ OwnerCell owner → ⊥) → is_found_in p r pairs x ≡ (has_id (take i ownees) x && is_kept p r x) →
+      is_found_in p r pairs x ≡ (has_id (take (i + 1) ownees) x && is_kept p r x)
   pairs-none pairs ownees i x within none was =
       let y = get_or ownees i 0 in
       was
@@ -133,7 +139,9 @@ module _ (p : Placed) (r : RoleTable) where
   asked-more false false false f = refl
 
   -- one ownee more of the owner that is asked next
-  pub asked-one : (flags : List Bool) (ownees : List ℕ) (pairs : List Ownership) (o : Ownership) (x : ℕ) → (flag_of flags x || (has_id ownees x && finds_in p r o.owner x)) ≡ is_found_in p r pairs x → (flag_of flags x || (has_id (ownees ++ o.ownee ∷ []) x && finds_in p r o.owner x)) ≡ is_found_in p r (pairs ++ o ∷ []) x
+  pub asked-one : (flags : List Bool) (ownees : List ℕ) (pairs : List Ownership) (o : Ownership) (x : ℕ) →
+      (flag_of flags x || (has_id ownees x && finds_in p r o.owner x)) ≡ is_found_in p r pairs x →
+      (flag_of flags x || (has_id (ownees ++ o.ownee ∷ []) x && finds_in p r o.owner x)) ≡ is_found_in p r (pairs ++ o ∷ []) x
   asked-one flags ownees pairs o x was =
       ap (λ b. flag_of flags x || (b && finds_in p r o.owner x)) (has_id-append ownees (o.ownee ∷ []) x)
       ∙ asked-more (flag_of flags x) (has_id ownees x) (o.ownee == x) (finds_in p r o.owner x)
@@ -152,7 +160,9 @@ held-more p cells cell all held =
 
 module _ (p : Placed) (r : RoleTable) (pairs : List Ownership) (a : Asked) (asked : HasAsked p r pairs a) where
   -- the owner was asked
-  pub asked-owner : (flags : List Bool) → length flags ≡ length a.found → Flags (λ x. has_id a.ownees x && finds_in p r a.owner x) a.found flags → HasAsked p r pairs (record { found = flags; owner = a.owner; ownees = [] })
+  pub asked-owner : (flags : List Bool) → length flags ≡ length a.found →
+      Flags (λ x. has_id a.ownees x && finds_in p r a.owner x) a.found flags →
+      HasAsked p r pairs (record { found = flags; owner = a.owner; ownees = [] })
   asked-owner flags each noted = record {
     each = each ∙ asked.each;
     owner = λ some. absurd (some refl);
@@ -190,6 +200,7 @@ module _ (p : Placed) (r : RoleTable) (pairs : List Ownership) (a : Asked) (aske
   }
 
 -- the same of slices that have these items
-pub noted-slices : (old slice : List Bool) (ownees asked : List ℕ) (test : List ℕ → ℕ → Bool) (new : List Bool) → slice ≡ old → asked ≡ ownees → Flags (test asked) slice new → Flags (test ownees) old new
+pub noted-slices : (old slice : List Bool) (ownees asked : List ℕ) (test : List ℕ → ℕ → Bool) (new : List Bool) → slice ≡ old → asked ≡ ownees →
+    Flags (test asked) slice new → Flags (test ownees) old new
 noted-slices old slice ownees asked test new same of noted =
     subst (λ xs. Flags (test ownees) xs new) same (subst (λ xs. Flags (test xs) slice new) of noted)

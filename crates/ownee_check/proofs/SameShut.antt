@@ -44,9 +44,11 @@ module _ (t : Table) (shut other : ℕ → Bool) (agree : (x : ℕ) → IsTrue (
   unfolding within
   within-same sources zero = refl
   within-same sources (suc n) =
-      filter_agree (λ y. has_id (within g sources n) y || list_any (λ z. not (shut z) && has_id (targets t z) y) (within g sources n)) (λ y. has_id (within g sources n) y || list_any (λ z. not (other z) && has_id (targets t z) y) (within g sources n))
+      filter_agree (λ y. has_id (within g sources n) y || list_any (λ z. not (shut z) && has_id (targets t z) y) (within g sources n))
+      (λ y. has_id (within g sources n) y || list_any (λ z. not (other z) && has_id (targets t z) y) (within g sources n))
       (λ y. ap (λ b. has_id (within g sources n) y || b)
-      (list_any_within (λ z. not (shut z) && has_id (targets t z) y) (λ z. not (other z) && has_id (targets t z) y) (within g sources n) (λ z at. ap (λ b. not b && has_id (targets t z) y) (agree z (within-nodes sources n z at)))))
+      (list_any_within (λ z. not (shut z) && has_id (targets t z) y) (λ z. not (other z) && has_id (targets t z) y) (within g sources n)
+      (λ z at. ap (λ b. not b && has_id (targets t z) y) (agree z (within-nodes sources n z at)))))
       (ids t)
       ∙ ap (λ found. filter (λ y. has_id found y || list_any (λ z. not (other z) && has_id (targets t z) y) found) (ids t)) (within-same sources n)
 
@@ -75,7 +77,8 @@ module _ (t : Table) (shut other : ℕ → Bool) (agree : (x : ℕ) → IsTrue (
   pub predecessor-same : (sources : List ℕ) (n y : ℕ) → predecessor g sources n y ≡ predecessor f sources n y
   unfolding predecessor
   predecessor-same sources n y =
-      find_within (λ x. not (shut x) && has_id (targets t x) y) (λ x. not (other x) && has_id (targets t x) y) (level g sources n) (λ x at. ap (λ b. not b && has_id (targets t x) y) (agree x (level-nodes sources n x at)))
+      find_within (λ x. not (shut x) && has_id (targets t x) y) (λ x. not (other x) && has_id (targets t x) y) (level g sources n)
+      (λ x at. ap (λ b. not b && has_id (targets t x) y) (agree x (level-nodes sources n x at)))
       ∙ ap (λ found. find (λ x. not (other x) && has_id (targets t x) y) found) (level-same sources n)
 
 -- the search with other objects shut
@@ -83,7 +86,8 @@ abbrev shutting : Search → (ℕ → Bool) → Search
 shutting s other = record { start = s.start; sources = s.sources; is_shut = other }
 
 -- The levels of a search are those of one that shuts the same live objects.
-pub levels-same : (p : Placed) (s : Search) (other : ℕ → Bool) (l : LevelTable) → ((x : ℕ) → IsTrue (has_id (ids p.table) x) → s.is_shut x ≡ other x) → AreLevelsOf p s l → AreLevelsOf p (shutting s other) l
+pub levels-same : (p : Placed) (s : Search) (other : ℕ → Bool) (l : LevelTable) →
+    ((x : ℕ) → IsTrue (has_id (ids p.table) x) → s.is_shut x ≡ other x) → AreLevelsOf p s l → AreLevelsOf p (shutting s other) l
 levels-same p s other l agree are = record {
   start = are.start;
   each = are.each;

@@ -61,7 +61,8 @@ filter-both : (p q : ℕ → Bool) (xs : List ℕ) → filter q (filter p xs) �
 filter-both p q [] = refl
 filter-both p q (x ∷ xs) = go (p x) (filter-both p q xs)
   where
-    go : (b : Bool) → filter q (filter p xs) ≡ filter (λ y. p y && q y) xs → filter q (cond b (x ∷ filter p xs) (filter p xs)) ≡ cond (b && q x) (x ∷ filter (λ y. p y && q y) xs) (filter (λ y. p y && q y) xs)
+    go : (b : Bool) → filter q (filter p xs) ≡ filter (λ y. p y && q y) xs →
+        filter q (cond b (x ∷ filter p xs) (filter p xs)) ≡ cond (b && q x) (x ∷ filter (λ y. p y && q y) xs) (filter (λ y. p y && q y) xs)
     go true rest = ap (λ ys. cond (q x) (x ∷ ys) ys) rest
     go false rest = rest
 
@@ -91,7 +92,8 @@ module _ (p : Placed) (r : RoleTable) (h : Heap) (placed : IsPlaced p) (stand : 
     not_in_doubt : owner_of h.owners id ≡ None → doubt cell ≡ false
     not_in_doubt unowned = false_from_ne_true (doubt cell) (λ doubted. false≢true (sym (ap is_some unowned) ∙ sym (ownee-found h.owners id) ∙ are.ownees cell id held doubted))
 
-    by_role : (o : Option ℕ) (role : OwnerRole) → owner_of h.owners id ≡ o → IsRoleBy p o role → (doubt cell && (is_met h id && not (is_found_by p r cell role))) ≡ option_map_or (violates h id) o false
+    by_role : (o : Option ℕ) (role : OwnerRole) → owner_of h.owners id ≡ o → IsRoleBy p o role →
+        (doubt cell && (is_met h id && not (is_found_by p r cell role))) ≡ option_map_or (violates h id) o false
     by_role None NotOwned owned says = ap (λ b. b && (is_met h id && true)) (not_in_doubt owned)
     by_role None (OwnerCell c) owned says = absurd (false≢true says.0)
     by_role None (OwnerGone gone) owned says = let e : None ≡ Some gone = says.0 in cc
@@ -129,7 +131,11 @@ module _ (p : Placed) (r : RoleTable) (h : Heap) (placed : IsPlaced p) (stand : 
       let live = sym (has_id-ids p.table (get_or (ids p.table) k d)) ∙ All-has_id (ids p.table) k d within in
       let there = placed.somewhere (get_or (ids p.table) k d) live in
       by_id-held p placed test there.0 x there.1 ∙ ap (λ y. doubt there.0 && (is_met h y && not (is_kept p r there.0))) (id-held p there.0 x there.1) ∙ violating-cell there.0 x there.1))
-      ∙ sym (ap (map Some) (ownees-by_id (violates h) h.owners (ids p.table) rise rise_ids (λ id at. has_id-ids p.table id ∙ sym (ap (λ t. is_live t id) stand.table) ∙ All-at (λ y. IsTrue (is_live h.table y)) (keys_of h.owners) stand.refers.ownees id at)))
+      ∙ sym
+      (ap (map Some)
+      (ownees-by_id (violates h) h.owners (ids p.table) rise rise_ids
+      (λ id at. has_id-ids p.table id ∙ sym (ap (λ t. is_live t id) stand.table)
+      ∙ All-at (λ y. IsTrue (is_live h.table y)) (keys_of h.owners) stand.refers.ownees id at)))
       ∙ some_after (filter (λ o. violates h o.0 o.1) h.owners)
 
   -- where none is in doubt, none violates
@@ -140,7 +146,9 @@ module _ (p : Placed) (r : RoleTable) (h : Heap) (placed : IsPlaced p) (stand : 
       ∙ violating-ids rise_ids
 
   -- those in doubt that have a level, and that are not found, violate
-  pub some-violating : Rise (ids p.table) → (l : LevelTable) → AreLevelsOf p (unowned_search h) l → (met ownees : List ℕ) → met ≡ filter (λ x. is_some (level_in l x)) doubts → ownees ≡ filter (λ x. not (is_kept p r x)) met → map (id_in p) ownees ≡ map (λ o. Some o.0) (violating_ownees h)
+  pub some-violating : Rise (ids p.table) → (l : LevelTable) → AreLevelsOf p (unowned_search h) l → (met ownees : List ℕ) →
+      met ≡ filter (λ x. is_some (level_in l x)) doubts → ownees ≡ filter (λ x. not (is_kept p r x)) met →
+      map (id_in p) ownees ≡ map (λ o. Some o.0) (violating_ownees h)
   some-violating rise_ids l levels met ownees are_met are_ownees =
       let has_level = λ (x : ℕ). is_some (level_in l x) in
       let unfound = λ (x : ℕ). not (is_kept p r x) in

@@ -22,7 +22,8 @@ map-cond f true x = refl
 map-cond f false x = refl
 
 -- one root or edge more
-pub one_more : {X : Type 0} (f : X → Reference) (to : X → ℕ) (xs : List X) (x : X) → IsOneMore (to x) (f x) (λ id. map f (filter (λ y. to y == id) xs)) (λ id. map f (filter (λ y. to y == id) (xs ++ x ∷ [])))
+pub one_more : {X : Type 0} (f : X → Reference) (to : X → ℕ) (xs : List X) (x : X) →
+    IsOneMore (to x) (f x) (λ id. map f (filter (λ y. to y == id) xs)) (λ id. map f (filter (λ y. to y == id) (xs ++ x ∷ [])))
 one_more f to xs x id =
     ap (map f) (filter-append (λ y. to y == id) xs (x ∷ []))
     ∙ map-append f (filter (λ y. to y == id) xs) (cond (to x == id) (x ∷ []) [])
@@ -34,14 +35,18 @@ one_more-after id r others before after more x =
     ap (λ rs. others x ++ rs) (more x) ∙ sym (append_assoc (others x) (before x) (cond (id == x) (r ∷ []) []))
 
 -- one object more, whose slots count
-pub scanned-next : (t : Table) (before : ℕ → List Reference) (is_scanned : ℕ → Bool) (xs : List ℕ) (i : ℕ) → i < length xs → is_scanned (get_or xs i 0) ≡ true → (id : ℕ) → (before id ++ flat_map (slots_to t id) (filter is_scanned (take i xs))) ++ slots_to t id (get_or xs i 0) ≡ before id ++ flat_map (slots_to t id) (filter is_scanned (take (i + 1) xs))
+pub scanned-next : (t : Table) (before : ℕ → List Reference) (is_scanned : ℕ → Bool) (xs : List ℕ) (i : ℕ) → i < length xs →
+    is_scanned (get_or xs i 0) ≡ true → (id : ℕ) →
+    (before id ++ flat_map (slots_to t id) (filter is_scanned (take i xs))) ++ slots_to t id (get_or xs i 0) ≡ before id ++ flat_map (slots_to t id) (filter is_scanned (take (i + 1) xs))
 scanned-next t before is_scanned xs i within scanned id =
     let x = get_or xs i 0 in
     let more = filter_more is_scanned xs i 0 within ∙ ap (λ b. filter is_scanned (take i xs) ++ cond b (x ∷ []) []) scanned in
     flat_map_more (slots_to t id) (before id) (filter is_scanned (take i xs)) x ∙ ap (λ ys. before id ++ flat_map (slots_to t id) ys) (sym more)
 
 -- and one whose slots don't
-pub scanned-passed : (t : Table) (before : ℕ → List Reference) (is_scanned : ℕ → Bool) (xs : List ℕ) (i : ℕ) → i < length xs → is_scanned (get_or xs i 0) ≡ false → (id : ℕ) → before id ++ flat_map (slots_to t id) (filter is_scanned (take i xs)) ≡ before id ++ flat_map (slots_to t id) (filter is_scanned (take (i + 1) xs))
+pub scanned-passed : (t : Table) (before : ℕ → List Reference) (is_scanned : ℕ → Bool) (xs : List ℕ) (i : ℕ) → i < length xs →
+    is_scanned (get_or xs i 0) ≡ false → (id : ℕ) →
+    before id ++ flat_map (slots_to t id) (filter is_scanned (take i xs)) ≡ before id ++ flat_map (slots_to t id) (filter is_scanned (take (i + 1) xs))
 scanned-passed t before is_scanned xs i within passed id =
     let x = get_or xs i 0 in
     let more = filter_more is_scanned xs i 0 within ∙ ap (λ b. filter is_scanned (take i xs) ++ cond b (x ∷ []) []) passed ∙ append-nil (filter is_scanned (take i xs)) in

@@ -22,7 +22,8 @@ list-here : (id : ℕ) (r : Reference) (before after : ℕ → List Reference) �
 list-here id r before after more =
     sym (more id ∙ ap (λ b. before id ++ cond b (r ∷ []) []) (eq-eqb id id refl))
 
-module _ (p : Placed) (placed : IsPlaced p) (asked : List ℕ) (before after : ℕ → List Reference) (f : Finding) (cell id : ℕ) (r : Reference) (held : id_in p cell ≡ Some id) (more : IsOneMore id r before after) (finds : FindsFirst p asked before f) where
+module _ (p : Placed) (placed : IsPlaced p) (asked : List ℕ) (before after : ℕ → List Reference) (f : Finding) (cell id : ℕ) (r : Reference)
+    (held : id_in p cell ≡ Some id) (more : IsOneMore id r before after) (finds : FindsFirst p asked before f) where
   -- another cell that was asked for has another object
   apart : (n c : ℕ) → slice_get asked n ≡ Some c → c ≢ cell → id ≢ id_at p.cells c
   apart n c at other same =
@@ -38,7 +39,9 @@ module _ (p : Placed) (placed : IsPlaced p) (asked : List ℕ) (before after : �
   }
 
   -- The object has a place among the asked ones, and the reference comes after those that were found.
-  pub finds-put : (place : ℕ) (known next : FirstReferences) → get_or f.places cell None ≡ Some place → slice_get f.found place ≡ Some known → ((list : List Reference) → StartList p id list known → StartList p id (list ++ r ∷ []) next) → FindsFirst p asked after (record { places = f.places; found = slice_set f.found place next })
+  pub finds-put : (place : ℕ) (known next : FirstReferences) → get_or f.places cell None ≡ Some place → slice_get f.found place ≡ Some known →
+      ((list : List Reference) → StartList p id list known → StartList p id (list ++ r ∷ []) next) →
+      FindsFirst p asked after (record { places = f.places; found = slice_set f.found place next })
   finds-put place known next at_place is_known with_one = record {
     are = record {
       held = finds.are.held;
@@ -64,14 +67,18 @@ module _ (p : Placed) (placed : IsPlaced p) (asked : List ℕ) (before after : �
       next_starts : StartList p id (after id) next
       next_starts = subst (λ rs. StartList p id rs next) (list-here id r before after more) (with_one (before id) known_starts)
 
-      here : (n c : ℕ) (found : FirstReferences) → slice_get asked n ≡ Some c → slice_get (slice_set f.found place next) n ≡ Some found → n ≡ place → StartList p (id_at p.cells c) (after (id_at p.cells c)) found
+      here : (n c : ℕ) (found : FirstReferences) → slice_get asked n ≡ Some c → slice_get (slice_set f.found place next) n ≡ Some found →
+          n ≡ place → StartList p (id_at p.cells c) (after (id_at p.cells c)) found
       here n c found at is same =
           let same_cell : cell ≡ c = (let e = ap (slice_get asked) same in let a = is_asked in cc) in
           let same_id : id ≡ id_at p.cells c = sym (ap (id_at p.cells) (sym same_cell) ∙ id-held p cell id held) in
-          let is_next : next ≡ found = sym (get_or-set_same f.found place next next within) ∙ get_or_from_slice_get (slice_set f.found place next) place found next (ap (slice_get (slice_set f.found place next)) (sym same) ∙ is) in
+          let is_next : next ≡ found =
+          sym (get_or-set_same f.found place next next within)
+          ∙ get_or_from_slice_get (slice_set f.found place next) place found next (ap (slice_get (slice_set f.found place next)) (sym same) ∙ is) in
           subst (λ x. StartList p x (after x) found) same_id (subst (λ v. StartList p id (after id) v) is_next next_starts)
 
-      there : (n c : ℕ) (found : FirstReferences) → slice_get asked n ≡ Some c → slice_get (slice_set f.found place next) n ≡ Some found → n ≢ place → StartList p (id_at p.cells c) (after (id_at p.cells c)) found
+      there : (n c : ℕ) (found : FirstReferences) → slice_get asked n ≡ Some c → slice_get (slice_set f.found place next) n ≡ Some found →
+          n ≢ place → StartList p (id_at p.cells c) (after (id_at p.cells c)) found
       there n c found at is other =
           let n_within : n < length f.found = (let set_within = slice_get_within (slice_set f.found place next) n found is in let many = length-set f.found place next in omega arith) in
           let was : slice_get f.found n ≡ Some found =

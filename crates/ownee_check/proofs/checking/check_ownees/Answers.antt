@@ -52,7 +52,8 @@ pub not_found-requires-clause-ownees : goal.not_found-requires-clause-ownees
 not_found-requires-clause-ownees c =
     let p = c.args.table.now in
     let all = All (λ (cell : ℕ). IsSome (id_in p cell)) in
-    let met = All-filter (λ (x : ℕ). is_some (level_in c.in_ok-levels.levels x)) (λ (cell : ℕ). IsSome (id_in p cell)) c.as_slice.result.now (subst all (sym c.as_slice.ensures.value) c.requires.doubts) in
+    let met =
+    All-filter (λ (x : ℕ). is_some (level_in c.in_ok-levels.levels x)) (λ (cell : ℕ). IsSome (id_in p cell)) c.as_slice.result.now (subst all (sym c.as_slice.ensures.value) c.requires.doubts) in
     subst all (sym (c.as_slice-2.ensures.value ∙ c.in_ok-met.ensures.met)) met
 
 pub returns : goal.returns
@@ -61,17 +62,24 @@ returns c =
     let r = c.args.roles.now in
     let known = c.cells-cells.ensures in
     let all = All (λ (cell : ℕ). IsSome (id_in p cell)) in
-    let met = All-filter (λ (x : ℕ). is_some (level_in c.in_ok-levels.levels x)) (λ (cell : ℕ). IsSome (id_in p cell)) c.as_slice.result.now (subst all (sym c.as_slice.ensures.value) c.requires.doubts) in
+    let met =
+    All-filter (λ (x : ℕ). is_some (level_in c.in_ok-levels.levels x)) (λ (cell : ℕ). IsSome (id_in p cell)) c.as_slice.result.now (subst all (sym c.as_slice.ensures.value) c.requires.doubts) in
     record {
       violating = λ h stand are.
           let levels = c.in_ok-levels.ensures.unowned h stand in
           let are_met = ap (filter (λ (x : ℕ). is_some (level_in c.in_ok-levels.levels x))) c.as_slice.ensures.value in
           record {
             table = stand.table;
-            ownees = some-violating p r h known.placed stand c.args.doubts.items are known.sound.ids.rising c.in_ok-levels.levels levels c.as_slice-2.result.now c.in_ok-ownees.ownees.items (c.as_slice-2.ensures.value ∙ c.in_ok-met.ensures.met ∙ are_met) c.in_ok-ownees.ensures.violating;
+            ownees =
+                some-violating p r h known.placed stand c.args.doubts.items are known.sound.ids.rising c.in_ok-levels.levels levels
+                c.as_slice-2.result.now c.in_ok-ownees.ownees.items (c.as_slice-2.ensures.value ∙ c.in_ok-met.ensures.met ∙ are_met)
+                c.in_ok-ownees.ensures.violating;
             levels = levels;
             made = λ some. refl;
           };
-      objects = subst all (sym c.in_ok-ownees.ensures.violating) (All-filter (λ (x : ℕ). not (is_kept p r x)) (λ (cell : ℕ). IsSome (id_in p cell)) c.as_slice-2.result.now (subst all (sym (c.as_slice-2.ensures.value ∙ c.in_ok-met.ensures.met)) met));
+      objects =
+          subst all (sym c.in_ok-ownees.ensures.violating)
+          (All-filter (λ (x : ℕ). not (is_kept p r x)) (λ (cell : ℕ). IsSome (id_in p cell)) c.as_slice-2.result.now
+          (subst all (sym (c.as_slice-2.ensures.value ∙ c.in_ok-met.ensures.met)) met));
       levels = c.in_ok-levels.ensures.levels;
     }

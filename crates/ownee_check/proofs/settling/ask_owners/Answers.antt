@@ -10,7 +10,8 @@ pub loop-pair-preserved : goal.loop-pair-preserved
 loop-pair-preserved c =
     let i = c.loop-pair.pair-index in
     let none : Ownership = record { owner = 0; ownee = 0 } in
-    subst (λ pairs. HasAsked c.args.table.now c.args.roles.now pairs (asked_in c.take.new.self)) (sym (take_more c.args.pairs.now i none c.loop-pair-test.true)) (c.in_ok-take.ensures.asked (take i c.args.pairs.now) c.loop-pair.invariant)
+    subst (λ pairs. HasAsked c.args.table.now c.args.roles.now pairs (asked_in c.take.new.self))
+    (sym (take_more c.args.pairs.now i none c.loop-pair-test.true)) (c.in_ok-take.ensures.asked (take i c.args.pairs.now) c.loop-pair.invariant)
 
 pub returns-clause-each : goal.returns-clause-each
 returns-clause-each c =

@@ -25,7 +25,11 @@ returns-in-Some-clause-path c h r levels stand =
 pub returns-in-None-clause-path : goal.returns-in-None-clause-path
 returns-in-None-clause-path c = go c.path-in-None.result c.path-in-None.ensures.path
   where
-    go : (result : Result (Option PathView) OutOfMemory) → IfOk result (λ v. (s : Search) → AreLevelsOf c.args.table.now s c.self.inside.owners → v ≡ option_map view_of (way_in c.args.table.now s c.args.cell)) → IfOk result (λ v. (h : Heap) (r : RoleTable) → ArePlainLevels c.args.table.now r c.args.self.now → StandFor c.args.table.now r h → v ≡ option_map view_of (plain_way h (id_at c.args.table.now.cells c.args.cell)))
+    go : (result : Result (Option PathView) OutOfMemory) →
+        IfOk result (λ v. (s : Search) → AreLevelsOf c.args.table.now s c.self.inside.owners → v ≡ option_map view_of (way_in c.args.table.now s c.args.cell)) →
+        IfOk result
+        (λ v. (h : Heap) (r : RoleTable) → ArePlainLevels c.args.table.now r c.args.self.now → StandFor c.args.table.now r h →
+        v ≡ option_map view_of (plain_way h (id_at c.args.table.now.cells c.args.cell)))
     go (Err e) found = found
     go (Ok v) found = λ h r levels stand.
         let p = c.args.table.now in

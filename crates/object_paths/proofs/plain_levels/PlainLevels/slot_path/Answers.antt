@@ -22,7 +22,8 @@ returns-in-Some-clause-path c h r id levels stand leads =
     let owners = search_of c.args.table.now r Owners (none_shut c.args.table.now) in
     let at_roots = subst (λ (l : LevelTable). AreLevelsOf c.args.table.now roots l) (sym (ap (λ (l : PlainTable). l.roots) c.self.view_is)) levels.roots in
     let shown = sym c.in-Some.is ∙ c.in_ok-path.ensures.path roots at_roots in
-    by-first p.table (edge_of (slot_in p c.args.holder c.args.slot)) c.args.slot id leads (way_in p roots c.args.holder) (way_in p owners c.args.holder) (owner_way p.table (id_at p.cells c.args.holder)) c.in-Some.path shown
+    by-first p.table (edge_of (slot_in p c.args.holder c.args.slot)) c.args.slot id leads (way_in p roots c.args.holder)
+    (way_in p owners c.args.holder) (owner_way p.table (id_at p.cells c.args.holder)) c.in-Some.path shown
     ∙ by-holder p r h stand c.args.holder (c.args.slot, id)
 
 pub returns-in-Some-2-clause-path : goal.returns-in-Some-2-clause-path
@@ -42,7 +43,12 @@ returns-in-Some-2-clause-path c h r id levels stand leads =
 pub returns-in-None-clause-path : goal.returns-in-None-clause-path
 returns-in-None-clause-path c = go c.owner_step.result c.owner_step.ensures.path
   where
-    go : (result : Result PathView OutOfMemory) → IfOk result (λ v. Some v ≡ option_map view_of (way_by_slot c.args.table.now (owner_way c.args.table.now.table (id_at c.args.table.now.cells c.args.holder)) c.args.holder c.args.slot)) → IfOk result (λ v. (h : Heap) (r : RoleTable) (id : ℕ) → ArePlainLevels c.args.table.now r c.args.self.now → StandFor c.args.table.now r h → edge_of (slot_in c.args.table.now c.args.holder c.args.slot) ≡ Some id → v ≡ view_of (way_by_edge h.table (holder_way h (id_at c.args.table.now.cells c.args.holder)) (c.args.slot, id)))
+    go : (result : Result PathView OutOfMemory) →
+        IfOk result (λ v. Some v ≡ option_map view_of (way_by_slot c.args.table.now (owner_way c.args.table.now.table (id_at c.args.table.now.cells c.args.holder)) c.args.holder c.args.slot)) →
+        IfOk result
+        (λ v. (h : Heap) (r : RoleTable) (id : ℕ) → ArePlainLevels c.args.table.now r c.args.self.now → StandFor c.args.table.now r h →
+        edge_of (slot_in c.args.table.now c.args.holder c.args.slot) ≡ Some id →
+        v ≡ view_of (way_by_edge h.table (holder_way h (id_at c.args.table.now.cells c.args.holder)) (c.args.slot, id)))
     go (Err e) found = found
     go (Ok v) found = λ h r id levels stand leads.
         let p = c.args.table.now in

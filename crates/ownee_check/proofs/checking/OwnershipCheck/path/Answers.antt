@@ -28,5 +28,11 @@ returns c =
     let p = c.args.table.now in
     let x = id_at p.cells c.args.ownee in
     record {
-      path = IfOk-weaker c.path_by_levels.result (λ (v : Option PathView). (s : Search) → IsSomeAnd c.args.self.now.levels (AreLevelsOf p s) → v ≡ option_map view_of (way_in p s c.args.ownee)) (λ (v : Option PathView). (h : Heap) → AreViolating p h c.args.self.now → v ≡ option_map view_of (unowned_way h x)) (λ v says h are. says (unowned_search h) (levels-made p h c.args.self.now are c.args.ownee c.requires.ownee) ∙ ap (λ t. option_map view_of (canonical_way t (is_owned h) (root_ways h.table) x)) (sym are.table)) c.path_by_levels.ensures.path;
+      path =
+          IfOk-weaker c.path_by_levels.result
+          (λ (v : Option PathView). (s : Search) → IsSomeAnd c.args.self.now.levels (AreLevelsOf p s) →
+          v ≡ option_map view_of (way_in p s c.args.ownee))
+          (λ (v : Option PathView). (h : Heap) → AreViolating p h c.args.self.now → v ≡ option_map view_of (unowned_way h x))
+          (λ v says h are. says (unowned_search h) (levels-made p h c.args.self.now are c.args.ownee c.requires.ownee)
+          ∙ ap (λ t. option_map view_of (canonical_way t (is_owned h) (root_ways h.table) x)) (sym are.table)) c.path_by_levels.ensures.path;
     }

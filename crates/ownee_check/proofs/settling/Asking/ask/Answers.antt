@@ -19,7 +19,10 @@ returns-in_ok-answers-clause-asked c pairs was =
     let each = c.note_found.ensures.each ∙ ap length c.as_mut_slice.ensures.value in
     let items = with_items_is c.args.self.now.found c.note_found.new.found (each ∙ sym c.args.self.now.found.ok.0) in
     let answers = c.as_slice-then-not-is_empty-2.ensures.value ∙ c.in_ok-answers.ensures.found ∙ ap (map test) (c.as_slice.ensures.value ∙ sym c.as_slice-then-not-is_empty.ensures.value) in
-    let noted = noted-slices before.found c.as_mut_slice.result.now before.ownees c.as_slice-then-not-is_empty.result.now (λ ownees x. has_id ownees x && test x) new c.as_mut_slice.ensures.value c.as_slice-then-not-is_empty.ensures.value (c.note_found.ensures.found test answers) in
+    let noted =
+    noted-slices before.found c.as_mut_slice.result.now before.ownees c.as_slice-then-not-is_empty.result.now
+    (λ ownees x. has_id ownees x && test x) new c.as_mut_slice.ensures.value c.as_slice-then-not-is_empty.ensures.value
+    (c.note_found.ensures.found test answers) in
     let asked = asked-owner p r pairs before was new each noted in
     let cleared = subst (λ ys. HasAsked p r pairs (record { found = c.note_found.new.found; owner = c.args.self.now.owner; ownees = ys })) (sym c.clear.ensures.items) asked in
     subst (λ flags. HasAsked p r pairs (record { found = flags; owner = c.args.self.now.owner; ownees = c.clear.new.self.items })) (sym items) cleared

@@ -11,5 +11,7 @@ returns c = record {
       let p = c.args.table.now in
       let r = c.args.roles.now in
       let next = c.in_ok-turn_to.ensures.asked pairs was in
-      subst (λ ys. HasAsked p r (pairs ++ c.args.pair ∷ []) (record { found = c.turn_to.new.self.found.items; owner = c.turn_to.new.self.owner; ownees = ys })) (sym c.in_ok-push.ensures.items) (asked-pair p r pairs (asked_in c.turn_to.new.self) next c.args.pair c.in_ok-turn_to.ensures.owner c.requires.pair);
+      subst (λ ys. HasAsked p r (pairs ++ c.args.pair ∷ [])
+      (record { found = c.turn_to.new.self.found.items; owner = c.turn_to.new.self.owner; ownees = ys })) (sym c.in_ok-push.ensures.items)
+      (asked-pair p r pairs (asked_in c.turn_to.new.self) next c.args.pair c.in_ok-turn_to.ensures.owner c.requires.pair);
 }

@@ -27,6 +27,8 @@ returns-clause-finds c p held =
         each = ap length none ∙ length-replicate many NO_REFERENCES;
       };
       first = λ n cell r at is.
-          let empty = sym (get_or_from_slice_get c.in_ok-found.found.items n r NO_REFERENCES is) ∙ ap (λ (rs : List FirstReferences). get_or rs n NO_REFERENCES) none ∙ get_or-replicate_same many n NO_REFERENCES in
+          let empty =
+          sym (get_or_from_slice_get c.in_ok-found.found.items n r NO_REFERENCES is)
+          ∙ ap (λ (rs : List FirstReferences). get_or rs n NO_REFERENCES) none ∙ get_or-replicate_same many n NO_REFERENCES in
           subst (λ (f : FirstReferences). StartList p (id_at p.cells cell) [] f) (sym empty) (starts-empty p (id_at p.cells cell));
     }

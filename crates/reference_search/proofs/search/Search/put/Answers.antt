@@ -13,8 +13,11 @@ returns-in_default-clause-finds c p asked before after id placed held refers mor
 
 pub returns-in-Some-get_mut-clause-finds : goal.returns-in-Some-get_mut-clause-finds
 returns-in-Some-get_mut-clause-finds c p asked before after id placed held refers more finds =
-    let known : slice_get c.args.self.now.found.items c.in-Some.place ≡ Some c.in-Some-get_mut.found.now = slice_get-get_or c.args.self.now.found.items c.in-Some.place c.in-Some-get_mut.found.now c.in-Some-get_mut.ensures.item.3.0 ∙ ap Some (sym c.in-Some-get_mut.ensures.value) in
-    finds-put p placed asked before after (finding_in c.args.self.now) c.args.cell id (reference_of p c.args.reference) held more finds c.in-Some.place c.in-Some-get_mut.found.now c.with.result (sym c.place_of.ensures ∙ c.in-Some.is) known (λ list starts. c.with.ensures p id list refers starts)
+    let known : slice_get c.args.self.now.found.items c.in-Some.place ≡ Some c.in-Some-get_mut.found.now =
+    slice_get-get_or c.args.self.now.found.items c.in-Some.place c.in-Some-get_mut.found.now c.in-Some-get_mut.ensures.item.3.0 ∙ ap Some (sym c.in-Some-get_mut.ensures.value) in
+    finds-put p placed asked before after (finding_in c.args.self.now) c.args.cell id (reference_of p c.args.reference) held more finds
+    c.in-Some.place c.in-Some-get_mut.found.now c.with.result (sym c.place_of.ensures ∙ c.in-Some.is) known
+    (λ list starts. c.with.ensures p id list refers starts)
 
 pub returns-in_default-get_mut-clause-finds : goal.returns-in_default-get_mut-clause-finds
 returns-in_default-get_mut-clause-finds c p asked before after id placed held refers more finds =

@@ -71,7 +71,8 @@ loop-number-preserved c =
                 let now = λ (id : ℕ). before id ++ flat_map (slots_to t id) (filter is_scanned (take n (ids t))) in
                 let scanned = said cell x in_cell ∙ sym c.is_scanned.ensures ∙ w.if-is_scanned.true in
                 let same = λ (id : ℕ). ap (λ s. now id ++ slots_to t id s) (id-held p cell x in_cell) ∙ scanned-next t before is_scanned (ids t) n here scanned id in
-                finds-same p asked (λ id. now id ++ slots_to t id (id_at p.cells cell)) _ (finding_in w.take_slots.new.self) same (w.take_slots.ensures.finds asked now (was.finds asked before is_scanned said begun));
+                finds-same p asked (λ id. now id ++ slots_to t id (id_at p.cells cell)) _ (finding_in w.take_slots.new.self) same
+                (w.take_slots.ensures.finds asked now (was.finds asked before is_scanned said begun));
           })
       | else-is_scanned w ↦
           rw w.self-is (record {
@@ -89,4 +90,6 @@ returns-clause-finds c asked before is_scanned said begun =
     let t = c.args.table.now.table in
     let many = length-map t.objects (λ (o : Object). o.id) in
     let all = take_all c.loop-number.number (ids t) (omega arith) in
-    finds-same p asked (λ id. before id ++ flat_map (slots_to t id) (filter is_scanned (take c.loop-number.number (ids t)))) _ (finding_in c.loop-number.self) (λ id. ap (λ xs. before id ++ flat_map (slots_to t id) (filter is_scanned xs)) all) (c.loop-number.invariant.finds asked before is_scanned said begun)
+    finds-same p asked (λ id. before id ++ flat_map (slots_to t id) (filter is_scanned (take c.loop-number.number (ids t)))) _
+    (finding_in c.loop-number.self) (λ id. ap (λ xs. before id ++ flat_map (slots_to t id) (filter is_scanned xs)) all)
+    (c.loop-number.invariant.finds asked before is_scanned said begun)

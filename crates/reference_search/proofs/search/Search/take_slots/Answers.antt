@@ -38,14 +38,16 @@ loop-slot-preserved c =
             count = w.put.ensures.count ∙ was.count;
             finds = λ asked before begun.
                 let more = one_more-after held.0 (by_slot holder slot) before (by_edges holder es) (by_edges holder later) next in
-                w.put.ensures.finds p asked (λ x. before x ++ by_edges holder es x) (λ x. before x ++ by_edges holder later x) held.0 c.requires.placed held.1 (within, held.2) more (was.finds asked before begun);
+                w.put.ensures.finds p asked (λ x. before x ++ by_edges holder es x) (λ x. before x ++ by_edges holder later x) held.0
+                c.requires.placed held.1 (within, held.2) more (was.finds asked before begun);
           })
       | in_default w ↦
           let none = no-edge (edge_of (slot_in p c.args.holder slot)) (sym (sym (ap is_some w.in_default.is) ∙ c.slot_at.ensures.in_a_cell)) in
           rw w.self-is (record {
             count = was.count;
             finds = λ asked before begun.
-                finds-same p asked (λ x. before x ++ by_edges holder es x) (λ x. before x ++ by_edges holder later x) (finding_in c.loop-slot.self) (λ id. ap (λ xs. before id ++ by_edges holder xs id) (sym (edges-none slots slot within none))) (was.finds asked before begun);
+                finds-same p asked (λ x. before x ++ by_edges holder es x) (λ x. before x ++ by_edges holder later x) (finding_in c.loop-slot.self)
+                (λ id. ap (λ xs. before id ++ by_edges holder xs id) (sym (edges-none slots slot within none))) (was.finds asked before begun);
           })
     ]
 
@@ -55,4 +57,5 @@ returns-clause-finds c asked before begun =
     let slots = slots_in c.args.table.now c.args.holder in
     let holder = id_at c.args.table.now.cells c.args.holder in
     let all = edges-all slots c.loop-slot.slot (omega arith) ∙ sym (edges-cell p c.args.holder holder (held-id p c.args.holder c.requires.holder)) in
-    finds-same p asked (λ id. before id ++ by_edges holder (edges_of (take c.loop-slot.slot slots)) id) _ (finding_in c.loop-slot.self) (λ id. ap (λ xs. before id ++ by_edges holder xs id) all) (c.loop-slot.invariant.finds asked before begun)
+    finds-same p asked (λ id. before id ++ by_edges holder (edges_of (take c.loop-slot.slot slots)) id) _ (finding_in c.loop-slot.self)
+    (λ id. ap (λ xs. before id ++ by_edges holder xs id) all) (c.loop-slot.invariant.finds asked before begun)

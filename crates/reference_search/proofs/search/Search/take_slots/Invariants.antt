@@ -11,5 +11,6 @@ use Rattle.reference_search.proofs.search.Search.take_slots.Given as goal
 abbrev pub invariant-loop-slot : goal.invariant-loop-slot
 invariant-loop-slot l = record {
   count : length l.self.found.items ≡ length l.fn.self.found.items;
-  finds : (asked : List ℕ) (before : ℕ → List Reference) → FindsFirst l.table asked before (finding_in l.fn.self) → FindsFirst l.table asked (λ id. before id ++ by_edges (id_at l.table.cells l.holder) (edges_of (take l.slot (slots_in l.table l.holder))) id) (finding_in l.self);
+  finds : (asked : List ℕ) (before : ℕ → List Reference) → FindsFirst l.table asked before (finding_in l.fn.self) →
+      FindsFirst l.table asked (λ id. before id ++ by_edges (id_at l.table.cells l.holder) (edges_of (take l.slot (slots_in l.table l.holder))) id) (finding_in l.self);
 }
