@@ -10,8 +10,8 @@ returns-clause-tells g c start text equal =
     elim c.match-branch-2.branch [
       | in-Some w ↦
           let gives = rw w.in-Some.is at c.in_ok-next.ensures.gives in
-          rw w.result-is (tells-more start _ _ c.args.self.now c.next.new.self.pending text w.in-Some.field-0 _ (omega (arith, place)) equal gives)
+          rw w.result-is (tells-more equal _ c.next.new.self.pending _ (omega (arith, place)) w.in-Some.field-0 gives)
       | in-None w ↦
           let gives = rw w.in-None.is at c.in_ok-next.ensures.gives in
-          rw w.result-is (tells-equal start _ _ c.args.self.now c.next.new.self.pending text equal gives)
+          rw w.result-is (tells-equal equal _ c.next.new.self.pending gives)
     ]

@@ -21,8 +21,14 @@ returns-clause-gives g c =
       | then-is_empty+in_ok-fill w ↦
           let inside : c.if-is_empty.self-inside.pending ≡ w.fill.new.self = ap (λ s. s.pending) w.self-inside-is in
           let empty : c.args.self.now.pending ≡ [] = sym pending ∙ no_items c.self.inside.pending (eqb-true (length c.self.inside.pending) 0 (sym c.is_empty.ensures ∙ w.if-is_empty.true)) in
-          rw w.source-is (gives-read c.args.self.now.pending w.fill.new.self c.pop.new.self _ _ c.pop.result empty w.in_ok-fill.ensures.read w.in_ok-fill.ensures.at_end (sym inside ∙ c.pop.ensures.given) (subst (λ (xs : List ℕ). IfNone c.pop.result (xs ≡ [])) inside c.pop.ensures.none))
+          rw w.source-is
+          (gives-read c.args.self.now.pending w.fill.new.self c.pop.new.self _ _ c.pop.result empty w.in_ok-fill.ensures.read
+          w.in_ok-fill.ensures.at_end (sym inside ∙ c.pop.ensures.given)
+          (subst (λ (xs : List ℕ). IfNone c.pop.result (xs ≡ [])) inside c.pop.ensures.none))
       | else-is_empty w ↦
           let inside : c.if-is_empty.self-inside.pending ≡ c.args.self.now.pending = ap (λ s. s.pending) w.self-inside-is ∙ pending in
-          rw w.source-is (gives-pending c.args.self.now.pending c.pop.new.self _ c.pop.result (λ none. some_items c.self.inside.pending (sym c.is_empty.ensures ∙ w.if-is_empty.false) (pending ∙ none)) (sym inside ∙ c.pop.ensures.given) (subst (λ (xs : List ℕ). IfNone c.pop.result (xs ≡ [])) inside c.pop.ensures.none))
+          rw w.source-is
+          (gives-pending c.args.self.now.pending c.pop.new.self _ c.pop.result
+          (λ none. some_items c.self.inside.pending (sym c.is_empty.ensures ∙ w.if-is_empty.false) (pending ∙ none))
+          (sym inside ∙ c.pop.ensures.given) (subst (λ (xs : List ℕ). IfNone c.pop.result (xs ≡ [])) inside c.pop.ensures.none))
     ]

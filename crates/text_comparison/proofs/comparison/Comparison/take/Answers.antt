@@ -1,7 +1,7 @@
 use Rattle.std.proofs.Common.{◌≡◌, ◌<◌, ◌+◌, ◌++◌, ◌∷◌, [], ℕ, List, suc, length, take, drop, get_or, sym, ap, subst, ◌∙◌, arith}
 use Rattle.std.proofs.Math.Seq.{drop-cons}
 use Rattle.std.proofs.lemmas.List.{append_assoc, take-append-drop, take_more}
-use Rattle.text_comparison.specs.Comparing.{ComparisonState, DiffersWithin}
+use Rattle.text_comparison.specs.Comparing.{ComparisonState, DiffersWithin, IsEqualSoFar}
 use Rattle.text_comparison.proofs.Comparisons.{equal-counted, differs-other, differs-end}
 use Rattle.text_comparison.proofs.comparison.Comparison.take.Goals as goal
 use Rattle.text_comparison.proofs.comparison.Comparison.take.Goals.{in_default-via-in-Some+else-other-byte, in_default-via-in_default}
@@ -27,11 +27,11 @@ returns-in_default-clause-compared g c start before equal =
       | in_default-via-in-Some+else-other-byte w ↦
           let gives = rw w.in-Some.is at c.in_ok-other.ensures.gives in
           subst (λ (t : List ℕ). DiffersWithin start t (c.self.inside.place + 1)) (split-at before text i c.loop-byte-test.true)
-          (differs-other start _ _ c.loop-byte.self c.next.new.self.pending (before ++ take i text) w.in-Some.other (get_or text i 0) _ (drop (suc i) text) (omega (arith, place)) so_far gives w.if-other-byte.false)
+          (differs-other so_far _ c.next.new.self.pending _ (omega (arith, place)) w.in-Some.other (get_or text i 0) (drop (suc i) text) gives w.if-other-byte.false)
       | in_default-via-in_default w ↦
           let gives = rw w.in_default.is at c.in_ok-other.ensures.gives in
           subst (λ (t : List ℕ). DiffersWithin start t (c.self.inside.place + 1)) (split-at before text i c.loop-byte-test.true)
-          (differs-end start _ _ c.loop-byte.self c.next.new.self.pending (before ++ take i text) (get_or text i 0) _ (drop (suc i) text) (omega (arith, place)) so_far gives)
+          (differs-end so_far _ c.next.new.self.pending _ (omega (arith, place)) (get_or text i 0) (drop (suc i) text) gives)
     ]
 
 pub loop-byte-preserved : goal.loop-byte-preserved
@@ -41,6 +41,8 @@ loop-byte-preserved g c =
     record {
       equal = λ start before equal.
           let gives = rw c.in-Some.is at c.in_ok-other.ensures.gives in
-          equal-counted start _ _ c.loop-byte.self c.next.new.self c.count.new.self (before ++ take i text) (before ++ take (i + 1) text) c.in-Some.other (get_or text i 0) c.if-other-byte.true (one-more before text i c.loop-byte-test.true) c.next.ensures.place c.in_ok-count-in-Some.ensures.counted (c.loop-byte.invariant.equal start before equal) gives;
+          let so_far = c.loop-byte.invariant.equal start before equal in
+          subst (λ (t : List ℕ). IsEqualSoFar start (g.B.Source.left c.next.new.source) c.count.new.self t) (one-more before text i c.loop-byte-test.true)
+          (equal-counted so_far _ c.next.ensures.place c.in_ok-count-in-Some.ensures.counted c.in-Some.other (get_or text i 0) c.if-other-byte.true gives);
       later = let was = c.loop-byte.invariant.later in let now = c.next.ensures.cause.later in omega arith;
     }
