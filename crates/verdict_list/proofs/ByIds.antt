@@ -1,12 +1,13 @@
 -- What violates an assertion, by cells and by ids.
-use Rattle.std.proofs.Common.{◌≡◌, ℕ, zero, suc, ◌+◌, ◌<◌, ◌≤◌, Bool, true, false, ◌&&◌, List, [], ◌∷◌, ◌++◌, length, map, get_or, take, drop, ◌||◌, eqb-true, Option, Some, IsTrue, sym, ap, refl, subst, ◌∙◌, arith}
+use Rattle.std.proofs.Common.{◌≡◌, ℕ, zero, suc, ◌+◌, ◌<◌, ◌≤◌, Bool, true, false, ◌&&◌, List, [], ◌∷◌, ◌++◌, length, map, get_or, take, drop, ◌||◌}
+use Rattle.std.proofs.Common.{eqb-true, Option, Some, IsTrue, sym, ap, refl, subst, ◌∙◌, arith}
 use Rattle.std.specs.Prelude.{nat_le, ◌==◌, Result, Ok, Err, IfOk}
 use Rattle.std.specs.List.{All, filter, slice_get}
 use Rattle.std.specs.Option.{IsSome, is_some, option_map_or}
 use Rattle.std.proofs.Math.Seq.{drop-cons}
 use Rattle.std.proofs.lemmas.Bool.{false≢true, false_from_ne_true}
 use Rattle.std.proofs.lemmas.Bool.Decides.{nat_tests}
-use Rattle.std.proofs.lemmas.List.{length-map}
+use Rattle.std.proofs.lemmas.List.{append-nil, drop_all, length-map}
 use Rattle.std.proofs.lemmas.List.Kept.{AllPairs-filter}
 use Rattle.std.proofs.lemmas.List.Elements.{All-contains}
 use Rattle.std.proofs.lemmas.Option.{slice_get_within, get_or_from_slice_get, slice_get-get_or}
@@ -65,7 +66,8 @@ violating-is Unshared h refers ordered rise =
     turned false false c live = refl
 
 -- by the cell and by the id it is the same
-pub violated-agrees : (p : Placed) (r : RoleTable) (t : CountTable) (h : Heap) → StandFor p r h → AreCountsOf p h t → (a : Assertion) (cell id : ℕ) → id_in p cell ≡ Some id → is_violated_in a r t cell ≡ is_violated_by a h id
+pub violated-agrees : (p : Placed) (r : RoleTable) (t : CountTable) (h : Heap) → StandFor p r h → AreCountsOf p h t →
+    (a : Assertion) (cell id : ℕ) → id_in p cell ≡ Some id → is_violated_in a r t cell ≡ is_violated_by a h id
 violated-agrees p r t h stand trace Dead cell id held =
     ap (λ b. b && get_or t.kept cell false) (stand.dead cell ∙ ap (λ o. option_map_or (has_id h.dead) o false) held) ∙ ap (λ b. has_id h.dead id && b) (trace.kept cell id held)
 violated-agrees p r t h stand trace Unshared cell id held =
@@ -100,17 +102,8 @@ module _ (f : ℕ → Option ℕ) (test : ℕ → Bool) (all : List (Option ℕ)
       kept = ap (filter test) (drop_next ids n id at) ∙ rw fails refl
 
   pub gathered : (ids cells : List ℕ) (n : ℕ) → length ids ≤ n → AreGathered ids cells n → map f cells ≡ all
-  gathered ids cells n past so_far = sym (none (map f cells)) ∙ ap (λ xs. map f cells ++ map Some (filter test xs)) (sym (drop_all ids n past)) ∙ so_far
-    where
-      none : (xs : List (Option ℕ)) → xs ++ [] ≡ xs
-      none [] = refl
-      none (x ∷ xs) = ap (λ ys. x ∷ ys) (none xs)
-
-      drop_all : (xs : List ℕ) (m : ℕ) → length xs ≤ m → drop m xs ≡ []
-      drop_all [] zero h = refl
-      drop_all [] (suc m) h = refl
-      drop_all (x ∷ xs) zero h = absurd (omega (arith, h))
-      drop_all (x ∷ xs) (suc m) h = drop_all xs m (omega (arith, h))
+  gathered ids cells n past so_far =
+      sym (append-nil (map f cells)) ∙ ap (λ xs. map f cells ++ map Some (filter test xs)) (sym (drop_all n ids past)) ∙ so_far
 
 -- ---- cells that hold these objects
 
@@ -128,7 +121,8 @@ module _ (f : ℕ → Option ℕ) where
       all_held cells ids others n cell at
 
 -- the object with a number, by id
-pub nth_id : (p : Placed) (n cell live : ℕ) → id_in p cell ≡ slice_get (ids p.table) n → n < live → live ≡ length p.table.objects → (id : ℕ) × (id_in p cell ≡ Some id) × (slice_get (ids p.table) n ≡ Some id)
+pub nth_id : (p : Placed) (n cell live : ℕ) → id_in p cell ≡ slice_get (ids p.table) n → n < live → live ≡ length p.table.objects →
+    (id : ℕ) × (id_in p cell ≡ Some id) × (slice_get (ids p.table) n ≡ Some id)
 nth_id p n cell live same below many =
     let within : n < length (ids p.table) = omega (arith, below, many, length-map p.table.objects (λ o. o.id)) in
     let at = slice_get-get_or (ids p.table) n 0 within in
@@ -146,7 +140,8 @@ module _ (f : ℕ → Option ℕ) where
   absent : (cells ids : List ℕ) (y x : ℕ) → map f cells ≡ map Some ids → f y ≡ Some x → has_id ids x ≡ false → times y cells ≡ 0
   absent [] ids y x same held none = refl
   absent (c ∷ cells) [] y x same held none = cc
-  absent (c ∷ cells) (id ∷ ids) y x same held none = go (c == y) refl (id == x) refl (λ differ. absent cells ids y x (let others : map f cells ≡ map Some ids = cc in others) held (sym (ap (λ e. e || has_id ids x) differ) ∙ none))
+  absent (c ∷ cells) (id ∷ ids) y x same held none =
+      go (c == y) refl (id == x) refl (λ differ. absent cells ids y x (let others : map f cells ≡ map Some ids = cc in others) held (sym (ap (λ e. e || has_id ids x) differ) ∙ none))
     where
       go : (b : Bool) → (c == y) ≡ b → (d : Bool) → (id == x) ≡ d → ((id == x) ≡ false → times y cells ≡ 0) → bit b + times y cells ≡ 0
       go b is true equal rest = absurd (false≢true (sym none ∙ ap (λ e. e || has_id ids x) equal))

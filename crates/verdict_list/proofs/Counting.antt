@@ -1,5 +1,6 @@
 -- The traced objects of a type, counted by id.
-use Rattle.std.proofs.Common.{◌≡◌, ◌≢◌, ℕ, zero, suc, ◌+◌, ◌<◌, ◌≤◌, ⊎_elim, Bool, true, false, List, [], ◌∷◌, ◌++◌, length, map, get_or, set, take, drop, cond, replicate, Option, None, Some, sym, ap, refl, subst, ◌∙◌, arith, eqb-true}
+use Rattle.std.proofs.Common.{◌≡◌, ◌≢◌, ℕ, zero, suc, ◌+◌, ◌<◌, ◌≤◌, ⊎_elim, Bool, true, false, List, [], ◌∷◌, ◌++◌, length, map, get_or, set, take}
+use Rattle.std.proofs.Common.{drop, cond, replicate, Option, None, Some, sym, ap, refl, subst, ◌∙◌, arith, eqb-true}
 use Rattle.std.specs.Prelude.{◌==◌}
 use Rattle.std.specs.List.{filter, slice_get, position, IsDistinct}
 use Rattle.std.specs.Option.{IsSome, IfSome, option_and_then, option_map_or}
@@ -7,7 +8,7 @@ use Rattle.std.specs.Str.{bytes_eq}
 use Rattle.std.proofs.Math.Seq.{take-suc}
 use Rattle.std.proofs.lemmas.Bool.{false≢true, cases_eq, false_from_ne_true}
 use Rattle.std.proofs.lemmas.Bool.Decides.{nat_tests}
-use Rattle.std.proofs.lemmas.List.{get_or-set_same, get_or-set_other, length-map, length-append, take_all}
+use Rattle.std.proofs.lemmas.List.{get_or-set_same, get_or-set_other, length-map, length-append, append-nil, drop_all, take_all}
 use Rattle.std.proofs.lemmas.List.Elements.{filter-append}
 use Rattle.std.proofs.lemmas.Option.{slice_get-get_or, slice_get_within, get_or_from_slice_get}
 use Rattle.std.proofs.lemmas.Slice.Eq.{bytes_eq-Decides}
@@ -36,7 +37,8 @@ instances-few h name =
 
 -- ---- counts of types, one after another
 
-pub kinds_more : (counts : List KindCount) (kinds : List ℕ) (n : ℕ) (c : KindCount) → slice_get kinds n ≡ Some c.kind → map (λ x. x.kind) counts ++ drop n kinds ≡ kinds → map (λ x. x.kind) (counts ++ c ∷ []) ++ drop (n + 1) kinds ≡ kinds
+pub kinds_more : (counts : List KindCount) (kinds : List ℕ) (n : ℕ) (c : KindCount) → slice_get kinds n ≡ Some c.kind →
+    map (λ x. x.kind) counts ++ drop n kinds ≡ kinds → map (λ x. x.kind) (counts ++ c ∷ []) ++ drop (n + 1) kinds ≡ kinds
 kinds_more counts kinds n c at so_far = go counts ∙ ap (λ rest. map (λ (x : KindCount). x.kind) counts ++ rest) (sym (drop_next kinds n c.kind at)) ∙ so_far
   where
     go : (cs : List KindCount) → map (λ x. x.kind) (cs ++ c ∷ []) ++ drop (n + 1) kinds ≡ map (λ x. x.kind) cs ++ c.kind ∷ drop (n + 1) kinds
@@ -44,17 +46,9 @@ kinds_more counts kinds n c at so_far = go counts ∙ ap (λ rest. map (λ (x : 
     go (x ∷ cs) = ap (λ xs. x.kind ∷ xs) (go cs)
 
 pub kinds_all : (counts : List KindCount) (kinds : List ℕ) (n : ℕ) → length kinds ≤ n → map (λ x. x.kind) counts ++ drop n kinds ≡ kinds → map (λ x. x.kind) counts ≡ kinds
-kinds_all counts kinds n past so_far = sym (none (map (λ (x : KindCount). x.kind) counts)) ∙ ap (λ rest. map (λ (x : KindCount). x.kind) counts ++ rest) (sym (drop_all kinds n past)) ∙ so_far
-  where
-    none : (xs : List ℕ) → xs ++ [] ≡ xs
-    none [] = refl
-    none (x ∷ xs) = ap (λ ys. x ∷ ys) (none xs)
-
-    drop_all : (xs : List ℕ) (m : ℕ) → length xs ≤ m → drop m xs ≡ []
-    drop_all [] zero h = refl
-    drop_all [] (suc m) h = refl
-    drop_all (x ∷ xs) zero h = absurd (omega (arith, h))
-    drop_all (x ∷ xs) (suc m) h = drop_all xs m (omega (arith, h))
+kinds_all counts kinds n past so_far =
+    let known : List ℕ = map (λ (x : KindCount). x.kind) counts in
+    sym (append-nil known) ∙ ap (λ rest. known ++ rest) (sym (drop_all n kinds past)) ∙ so_far
 
 -- ---- the traced objects of a type among the first ones by id
 
@@ -65,14 +59,11 @@ module _ (p : Placed) (h : Heap) where
   take_next : (n id : ℕ) → slice_get (ids p.table) n ≡ Some id → take (n + 1) (ids p.table) ≡ take n (ids p.table) ++ id ∷ []
   take_next n id at =
       let next : n + 1 ≡ suc n = omega arith in
-      ap (λ m. take m (ids p.table)) next ∙ take-suc (ids p.table) n id (slice_get_within (ids p.table) n id at) ∙ ap (λ x. take n (ids p.table) ++ x ∷ []) (get_or_from_slice_get (ids p.table) n id id at)
+      ap (λ m. take m (ids p.table)) next ∙ take-suc (ids p.table) n id (slice_get_within (ids p.table) n id at)
+      ∙ ap (λ x. take n (ids p.table) ++ x ∷ []) (get_or_from_slice_get (ids p.table) n id id at)
 
   traced_next : (n id : ℕ) → slice_get (ids p.table) n ≡ Some id → filter (is_traced h) (take (n + 1) (ids p.table)) ≡ filter (is_traced h) (take n (ids p.table)) ++ filter (is_traced h) (id ∷ [])
   traced_next n id at = ap (filter (is_traced h)) (take_next n id at) ∙ filter-append (is_traced h) (take n (ids p.table)) (id ∷ [])
-
-  append-nil : (xs : List ℕ) → xs ++ [] ≡ xs
-  append-nil [] = refl
-  append-nil (x ∷ xs) = ap (λ ys. x ∷ ys) (append-nil xs)
 
   -- an object that is not traced
   pub seen-untraced : (name : List ℕ) (n id : ℕ) → slice_get (ids p.table) n ≡ Some id → is_traced h id ≡ false → seen name (n + 1) ≡ seen name n
@@ -113,21 +104,25 @@ pub record AreCounted (p : Placed) (r : RoleTable) (h : Heap) (counts : List ℕ
   pub first : (kind limit : ℕ) → kind < length p.table.kinds → limit_in r kind ≡ Some limit → option_and_then (id_in p) (get_or places kind None) ≡ slice_get (seen p h (name_of p kind) n) limit
 
 -- the next object is not traced
-pub counted_past : (p : Placed) (r : RoleTable) (h : Heap) (counts : List ℕ) (places : List (Option ℕ)) (n id : ℕ) → slice_get (ids p.table) n ≡ Some id → is_traced h id ≡ false → AreCounted p r h counts places n → AreCounted p r h counts places (n + 1)
+pub counted_past : (p : Placed) (r : RoleTable) (h : Heap) (counts : List ℕ) (places : List (Option ℕ)) (n id : ℕ) →
+    slice_get (ids p.table) n ≡ Some id → is_traced h id ≡ false → AreCounted p r h counts places n → AreCounted p r h counts places (n + 1)
 counted_past p r h counts places n id at untraced counted = record {
   count = λ kind within. counted.count kind within ∙ ap length (sym (seen-untraced p h (name_of p kind) n id at untraced));
   first = λ kind limit within limited. counted.first kind limit within limited ∙ ap (λ xs. slice_get xs limit) (sym (seen-untraced p h (name_of p kind) n id at untraced));
 }
 
 -- the next object is traced, and its type has this number
-module _ (p : Placed) (r : RoleTable) (h : Heap) (distinct : IsDistinct bytes_eq p.table.kinds) (counts : List ℕ) (places : List (Option ℕ)) (n id cell number : ℕ) (at : slice_get (ids p.table) n ≡ Some id) (traced : is_traced h id ≡ true) (held : id_in p cell ≡ Some id) (seen_kind : number < length p.table.kinds) (named : kind_at p.table id ≡ name_of p number) where
+module _ (p : Placed) (r : RoleTable) (h : Heap) (distinct : IsDistinct bytes_eq p.table.kinds) (counts : List ℕ) (places : List (Option ℕ))
+    (n id cell number : ℕ) (at : slice_get (ids p.table) n ≡ Some id) (traced : is_traced h id ≡ true) (held : id_in p cell ≡ Some id)
+    (seen_kind : number < length p.table.kinds) (named : kind_at p.table id ≡ name_of p number) where
   of_type : bytes_eq (kind_at p.table id) (name_of p number) ≡ true
   of_type = (bytes_eq-Decides (kind_at p.table id) (name_of p number)).1 named
 
   other_type : (kind : ℕ) → kind < length p.table.kinds → kind ≢ number → bytes_eq (kind_at p.table id) (name_of p kind) ≡ false
   other_type kind within ne = false_from_ne_true _ (λ same.
       let its : name_of p number ≡ name_of p kind = sym named ∙ (bytes_eq-Decides (kind_at p.table id) (name_of p kind)).0 same in
-      let e : Some kind ≡ Some number = sym (position_distinct p.table.kinds kind distinct within) ∙ ap (λ name. position (bytes_eq name) p.table.kinds) (sym its) ∙ position_distinct p.table.kinds number distinct seen_kind in
+      let e : Some kind ≡ Some number =
+      sym (position_distinct p.table.kinds kind distinct within) ∙ ap (λ name. position (bytes_eq name) p.table.kinds) (sym its) ∙ position_distinct p.table.kinds number distinct seen_kind in
       let e' : kind ≡ number = cc in
       ne e')
 
@@ -146,9 +141,13 @@ module _ (p : Placed) (r : RoleTable) (h : Heap) (distinct : IsDistinct bytes_eq
         get_or-set_same counts number (get_or counts number 0 + 1) 0 (omega (arith, seen_kind, many_counts))
         ∙ omega (arith, counted.count number seen_kind, ap length after, length-append before (id ∷ []))
 
-    first_here : (limit : ℕ) → limit_in r number ≡ Some limit → option_and_then (id_in p) (get_or (set places number (first_after (limit_in r number) (get_or counts number 0) (get_or places number None) cell)) number None) ≡ slice_get (seen p h (name_of p number) (n + 1)) limit
+    first_here : (limit : ℕ) → limit_in r number ≡ Some limit →
+        option_and_then (id_in p) (get_or (set places number (first_after (limit_in r number) (get_or counts number 0) (get_or places number None) cell)) number None)
+        ≡ slice_get (seen p h (name_of p number) (n + 1)) limit
     first_here limit limited =
-        ap (option_and_then (id_in p)) (get_or-set_same places number _ None (omega (arith, seen_kind, many_places)) ∙ ap (λ l. first_after l (get_or counts number 0) (get_or places number None) cell) limited)
+        ap (option_and_then (id_in p))
+        (get_or-set_same places number _ None (omega (arith, seen_kind, many_places))
+        ∙ ap (λ l. first_after l (get_or counts number 0) (get_or places number None) cell) limited)
         ∙ go (limit == get_or counts number 0) refl ∙ ap (λ xs. slice_get xs limit) (sym after)
       where
         go : (b : Bool) → (limit == get_or counts number 0) ≡ b → option_and_then (id_in p) (cond b (Some cell) (get_or places number None)) ≡ slice_get (before ++ id ∷ []) limit
@@ -159,34 +158,43 @@ module _ (p : Placed) (r : RoleTable) (h : Heap) (distinct : IsDistinct bytes_eq
             let ne : limit ≢ length before = λ e. false≢true (sym is ∙ equal limit (get_or counts number 0) (e ∙ sym (counted.count number seen_kind))) in
             counted.first number limit seen_kind limited ∙ sym (slice_get-before before id limit ne)
 
-    pub counted_more : AreCounted p r h (set counts number (get_or counts number 0 + 1)) (set places number (first_after (limit_in r number) (get_or counts number 0) (get_or places number None) cell)) (n + 1)
+    pub counted_more :
+        AreCounted p r h (set counts number (get_or counts number 0 + 1)) (set places number (first_after (limit_in r number) (get_or counts number 0) (get_or places number None) cell)) (n + 1)
     counted_more = record {
       count = λ kind within. ⊎_elim
           (λ e. subst (λ k. get_or (set counts number (get_or counts number 0 + 1)) k 0 ≡ length (seen p h (name_of p k) (n + 1))) (sym e) count_here)
           (λ ne. get_or-set_other counts number kind _ 0 ne ∙ counted.count kind within ∙ ap length (sym (others kind within ne)))
           (cases_eq kind number);
       first = λ kind limit within limited. ⊎_elim
-          (λ e. subst (λ k. option_and_then (id_in p) (get_or (set places number (first_after (limit_in r number) (get_or counts number 0) (get_or places number None) cell)) k None) ≡ slice_get (seen p h (name_of p k) (n + 1)) limit) (sym e) (first_here limit (ap (limit_in r) (sym e) ∙ limited)))
+          (λ e. subst
+          (λ k. option_and_then (id_in p) (get_or (set places number (first_after (limit_in r number) (get_or counts number 0) (get_or places number None) cell)) k None)
+          ≡ slice_get (seen p h (name_of p k) (n + 1)) limit) (sym e) (first_here limit (ap (limit_in r) (sym e) ∙ limited)))
           (λ ne. ap (option_and_then (id_in p)) (get_or-set_other places number kind _ None ne) ∙ counted.first kind limit within limited ∙ ap (λ xs. slice_get xs limit) (sym (others kind within ne)))
           (cases_eq kind number);
     }
 
 -- nothing is counted at first
-pub counted_none : (p : Placed) (r : RoleTable) (h : Heap) (counts : List ℕ) (places : List (Option ℕ)) → ((kind : ℕ) → get_or counts kind 0 ≡ 0) → ((kind : ℕ) → get_or places kind None ≡ None) → AreCounted p r h counts places 0
+pub counted_none : (p : Placed) (r : RoleTable) (h : Heap) (counts : List ℕ) (places : List (Option ℕ)) →
+    ((kind : ℕ) → get_or counts kind 0 ≡ 0) → ((kind : ℕ) → get_or places kind None ≡ None) → AreCounted p r h counts places 0
 counted_none p r h counts places zeros nones = record {
   count = λ kind within. zeros kind;
   first = λ kind limit within limited. ap (option_and_then (id_in p)) (nones kind);
 }
 
 -- all objects are counted
-pub counted_all : (p : Placed) (r : RoleTable) (h : Heap) (counts : List ℕ) (places : List (Option ℕ)) (n : ℕ) → h.table ≡ p.table → length p.table.objects ≤ n → AreCounted p r h counts places n → ArePastLimits p r h places
+pub counted_all : (p : Placed) (r : RoleTable) (h : Heap) (counts : List ℕ) (places : List (Option ℕ)) (n : ℕ) → h.table ≡ p.table →
+    length p.table.objects ≤ n → AreCounted p r h counts places n → ArePastLimits p r h places
 unfolding instances traced_ids
 counted_all p r h counts places n same past counted kind limit within limited =
-    counted.first kind limit within limited ∙ ap (λ xs. slice_get (filter (λ id. bytes_eq (kind_at p.table id) (name_of p kind)) (filter (is_traced h) xs)) limit) (take_all n (ids p.table) (omega (arith, past, length-map p.table.objects (λ o. o.id))))
+    counted.first kind limit within limited
+    ∙ ap (λ xs. slice_get (filter (λ id. bytes_eq (kind_at p.table id) (name_of p kind)) (filter (is_traced h) xs)) limit)
+    (take_all n (ids p.table) (omega (arith, past, length-map p.table.objects (λ o. o.id))))
     ∙ ap (λ (t : Table). slice_get (filter (λ id. bytes_eq (kind_at t id) (name_of p kind)) (filter (is_traced h) (ids t))) limit) (sym same)
 
 -- what holds of the places of all types holds of them when one is set
-pub held_more : (p : Placed) (places : List (Option ℕ)) (limit : Option ℕ) (count cell number : ℕ) → number < length places → IsSome (id_in p cell) → ((kind : ℕ) → IfSome (get_or places kind None) (λ c. IsSome (id_in p c))) → (kind : ℕ) → IfSome (get_or (set places number (first_after limit count (get_or places number None) cell)) kind None) (λ c. IsSome (id_in p c))
+pub held_more : (p : Placed) (places : List (Option ℕ)) (limit : Option ℕ) (count cell number : ℕ) → number < length places →
+    IsSome (id_in p cell) → ((kind : ℕ) → IfSome (get_or places kind None) (λ c. IsSome (id_in p c))) → (kind : ℕ) →
+    IfSome (get_or (set places number (first_after limit count (get_or places number None) cell)) kind None) (λ c. IsSome (id_in p c))
 held_more p places limit count cell number within taken held kind = ⊎_elim same other (cases_eq kind number)
   where
     chosen : (b : Bool) → IfSome (cond b (Some cell) (get_or places number None)) (λ c. IsSome (id_in p c))
@@ -194,7 +202,10 @@ held_more p places limit count cell number within taken held kind = ⊎_elim sam
     chosen false = held number
 
     same : kind ≡ number → IfSome (get_or (set places number (first_after limit count (get_or places number None) cell)) kind None) (λ c. IsSome (id_in p c))
-    same e = subst (λ o. IfSome o (λ c. IsSome (id_in p c))) (sym (ap (λ k. get_or (set places number (first_after limit count (get_or places number None) cell)) k None) e ∙ get_or-set_same places number _ None within)) (chosen (option_map_or (λ l. l == count) limit false))
+    same e =
+        subst (λ o. IfSome o (λ c. IsSome (id_in p c)))
+        (sym (ap (λ k. get_or (set places number (first_after limit count (get_or places number None) cell)) k None) e
+        ∙ get_or-set_same places number _ None within)) (chosen (option_map_or (λ l. l == count) limit false))
 
     other : kind ≢ number → IfSome (get_or (set places number (first_after limit count (get_or places number None) cell)) kind None) (λ c. IsSome (id_in p c))
     other ne = subst (λ o. IfSome o (λ c. IsSome (id_in p c))) (sym (get_or-set_other places number kind _ None ne)) (held kind)

@@ -1,9 +1,10 @@
 -- A list of verdicts of which so many of the first carry their paths, one verdict after another.
-use Rattle.std.proofs.Common.{◌≡◌, ℕ, zero, suc, ◌+◌, ◌-◌, ◌<◌, Option, None, Some, Bool, true, false, nat_lt, List, [], ◌∷◌, ◌++◌, length, ◌≤◌, get_or, map, take, drop, sym, ap, refl, subst, ◌∙◌, arith}
+use Rattle.std.proofs.Common.{◌≡◌, ℕ, zero, suc, ◌+◌, ◌-◌, ◌<◌, Option, None, Some, Bool, true, false, nat_lt, List, [], ◌∷◌, ◌++◌, length, ◌≤◌}
+use Rattle.std.proofs.Common.{get_or, map, take, drop, sym, ap, refl, subst, ◌∙◌, arith}
 use Rattle.std.specs.Prelude.{min}
 use Rattle.std.specs.List.{slice_get}
 use Rattle.std.specs.Option.{IfSome, is_some}
-use Rattle.std.proofs.lemmas.List.{length-map}
+use Rattle.std.proofs.lemmas.List.{append_assoc, append-nil, drop_all, length-map, take_all}
 use Rattle.std.proofs.lemmas.Bool.{ltb-true, ltb-false, lt-ltb, le-ltb}
 use Rattle.std.proofs.lemmas.Option.{slice_get-get_or}
 use Rattle.graph_meaning.specs.declared.collection.Verdict.{Verdict}
@@ -15,14 +16,6 @@ use Rattle.reference_search.specs.declared.cell_reference.FirstReferences.{First
 use Rattle.reference_search.specs.References.{AreFirst}
 use Rattle.verdict_list.specs.Listed.{verdict_if, GoesOn, AreFirstOf}
 use Rattle.verdict_list.proofs.ByIds.{drop_next}
-
-take-nil : {X : Type 0} (n : ℕ) → take {A = X} n [] ≡ []
-take-nil zero = refl
-take-nil (suc n) = refl
-
-drop-nil : {X : Type 0} (n : ℕ) → drop {A = X} n [] ≡ []
-drop-nil zero = refl
-drop-nil (suc n) = refl
 
 without_more : (vs : List Verdict) (v : Verdict) → map without_paths (vs ++ v ∷ []) ≡ map without_paths vs ++ without_paths v ∷ []
 without_more [] v = refl
@@ -43,7 +36,7 @@ pub first_more : (n : ℕ) (vs : List Verdict) (v : Verdict) → first_with_path
 unfolding first_with_paths
 first_more zero [] v = refl
 first_more zero (u ∷ vs) v = rw (past_zero (suc (length vs))) (ap (λ us. without_paths u ∷ us) (without_more vs v))
-first_more (suc n) [] v = rw (lt-ltb 0 (suc n) (omega arith)) (ap (λ us. v ∷ us ++ map without_paths (drop n [])) (take-nil n) ∙ ap (λ us. v ∷ map without_paths us) (drop-nil n))
+first_more (suc n) [] v = rw (lt-ltb 0 (suc n) (omega arith)) (ap (λ us. v ∷ us ++ map without_paths (drop n [])) (take_all n [] (omega arith)) ∙ ap (λ us. v ∷ map without_paths us) (drop_all n [] (omega arith)))
 first_more (suc n) (u ∷ vs) v = rw (less_both (length vs) n) (ap (λ us. u ∷ us) (first_more n vs v))
 
 pub length-first : (n : ℕ) (vs : List Verdict) → length (first_with_paths n vs) ≡ length vs
@@ -51,20 +44,6 @@ unfolding first_with_paths
 length-first zero vs = length-map vs without_paths
 length-first (suc n) [] = refl
 length-first (suc n) (v ∷ vs) = ap suc (length-first n vs)
-
-drop_past : {X : Type 0} (xs : List X) (n : ℕ) → length xs ≤ n → drop n xs ≡ []
-drop_past [] zero h = refl
-drop_past [] (suc n) h = refl
-drop_past (x ∷ xs) zero h = absurd (let less : suc (length xs) ≤ zero = h in omega arith)
-drop_past (x ∷ xs) (suc n) h = drop_past xs n (omega (arith, h))
-
-pub append_more : {X : Type 0} (xs ys : List X) (x : X) → (xs ++ x ∷ []) ++ ys ≡ xs ++ x ∷ ys
-append_more [] ys x = refl
-append_more (z ∷ xs) ys x = ap (λ zs. z ∷ zs) (append_more xs ys x)
-
-pub append-nil : {X : Type 0} (xs : List X) → xs ++ [] ≡ xs
-append-nil [] = refl
-append-nil (x ∷ xs) = ap (λ ys. x ∷ ys) (append-nil xs)
 
 -- ---- a list that goes on with a verdict on each of these
 
@@ -77,14 +56,15 @@ module _ {X : Type 0} (paths : ℕ) (verdict : X → Verdict) where
   pub begins : (old : List Verdict) (all : List X) → HasGoneOn old old all all
   begins old all before same = (before, same, refl)
 
-  pub goes_by_one : (old list : List Verdict) (x : X) (rest all : List X) (v : Verdict) → v ≡ verdict_if (nat_lt (length list) paths) (verdict x) → HasGoneOn old list (x ∷ rest) all → HasGoneOn old (list ++ v ∷ []) rest all
+  pub goes_by_one : (old list : List Verdict) (x : X) (rest all : List X) (v : Verdict) →
+      v ≡ verdict_if (nat_lt (length list) paths) (verdict x) → HasGoneOn old list (x ∷ rest) all → HasGoneOn old (list ++ v ∷ []) rest all
   goes_by_one old list x rest all v is gone before same =
       let (sofar, listed, on) = gone before same in
       let number : length list ≡ length sofar = ap length listed ∙ length-first paths sofar in
       let shown : v ≡ verdict_if (nat_lt (length sofar) paths) (verdict x) = is ∙ ap (λ n. verdict_if (nat_lt n paths) (verdict x)) number in (
         sofar ++ verdict x ∷ [],
         ap (λ us. us ++ v ∷ []) listed ∙ ap (λ u. first_with_paths paths sofar ++ u ∷ []) shown ∙ sym (first_more paths sofar (verdict x)),
-        append_more sofar (map verdict rest) (verdict x) ∙ on,
+        append_assoc sofar (verdict x ∷ []) (map verdict rest) ∙ on,
       )
 
   pub ends : (old list : List Verdict) (all : List X) → HasGoneOn old list [] all → GoesOn paths old (map verdict all) list
@@ -92,17 +72,21 @@ module _ {X : Type 0} (paths : ℕ) (verdict : X → Verdict) where
       let (sofar, listed, on) = gone before same in
       listed ∙ ap (first_with_paths paths) (sym (append-nil sofar) ∙ on)
 
-  pub goes_by_nth : (old list : List Verdict) (all : List X) (n : ℕ) (d : X) (v : Verdict) → n < length all → v ≡ verdict_if (nat_lt (length list) paths) (verdict (get_or all n d)) → HasGoneOn old list (drop n all) all → HasGoneOn old (list ++ v ∷ []) (drop (n + 1) all) all
+  pub goes_by_nth : (old list : List Verdict) (all : List X) (n : ℕ) (d : X) (v : Verdict) → n < length all →
+      v ≡ verdict_if (nat_lt (length list) paths) (verdict (get_or all n d)) → HasGoneOn old list (drop n all) all →
+      HasGoneOn old (list ++ v ∷ []) (drop (n + 1) all) all
   goes_by_nth old list all n d v within is gone =
       goes_by_one old list (get_or all n d) (drop (n + 1) all) all v is
       (subst (λ rest. HasGoneOn old list rest all) (drop_next all n (get_or all n d) (slice_get-get_or all n d within)) gone)
 
   -- the same where a number is that of the verdicts in the list
-  pub goes_by_count : (old list : List Verdict) (all : List X) (n : ℕ) (d : X) (v : Verdict) (many : ℕ) → n < length all → many ≡ length list → v ≡ verdict_if (nat_lt many paths) (verdict (get_or all n d)) → HasGoneOn old list (drop n all) all → HasGoneOn old (list ++ v ∷ []) (drop (n + 1) all) all
+  pub goes_by_count : (old list : List Verdict) (all : List X) (n : ℕ) (d : X) (v : Verdict) (many : ℕ) → n < length all → many ≡ length list →
+      v ≡ verdict_if (nat_lt many paths) (verdict (get_or all n d)) → HasGoneOn old list (drop n all) all →
+      HasGoneOn old (list ++ v ∷ []) (drop (n + 1) all) all
   goes_by_count old list all n d v many within number is = goes_by_nth old list all n d v within (is ∙ ap (λ m. verdict_if (nat_lt m paths) (verdict (get_or all n d))) number)
 
   pub ends_at : (old list : List Verdict) (all : List X) (n : ℕ) → length all ≤ n → HasGoneOn old list (drop n all) all → GoesOn paths old (map verdict all) list
-  ends_at old list all n past gone = ends old list all (subst (λ rest. HasGoneOn old list rest all) (drop_past all n past) gone)
+  ends_at old list all n past gone = ends old list all (subst (λ rest. HasGoneOn old list rest all) (drop_all n all past) gone)
 
 -- one part after another
 pub goes_on_twice : (paths : ℕ) (old middle new vs ws : List Verdict) → GoesOn paths old vs middle → GoesOn paths middle ws new → GoesOn paths old (vs ++ ws) new
@@ -128,10 +112,13 @@ is_some-slice_get (x ∷ xs) zero = sym (lt-ltb 0 (suc (length xs)) (omega arith
 is_some-slice_get (x ∷ xs) (suc n) = is_some-slice_get xs n ∙ sym (less_both n (length xs))
 
 -- the first references to the object in the n-th of these cells, if they are known
-pub first_at : (p : Placed) (h : Heap) (cells : List ℕ) (references : List FirstReferences) (n : ℕ) (o : Option FirstReferences) → AreFirstOf p h cells references → n < length cells → o ≡ slice_get references n → IfSome o (AreFirst p h (id_at p.cells (get_or cells n 0)))
+pub first_at : (p : Placed) (h : Heap) (cells : List ℕ) (references : List FirstReferences) (n : ℕ) (o : Option FirstReferences) →
+    AreFirstOf p h cells references → n < length cells → o ≡ slice_get references n → IfSome o (AreFirst p h (id_at p.cells (get_or cells n 0)))
 first_at p h cells references n None first within is = tt
 first_at p h cells references n (Some f) first within is = first n (get_or cells n 0) f (slice_get-get_or cells n 0 within) (sym is)
 
-pub refers_at : (p : Placed) (cells : List ℕ) (references : List FirstReferences) (n : ℕ) (o : Option FirstReferences) → (h : Heap) × AreFirstOf p h cells references → n < length cells → o ≡ slice_get references n → IfSome o (λ f. (h : Heap) × (id : ℕ) × AreFirst p h id f)
+pub refers_at : (p : Placed) (cells : List ℕ) (references : List FirstReferences) (n : ℕ) (o : Option FirstReferences) →
+    (h : Heap) × AreFirstOf p h cells references → n < length cells → o ≡ slice_get references n →
+    IfSome o (λ f. (h : Heap) × (id : ℕ) × AreFirst p h id f)
 refers_at p cells references n None first within is = tt
 refers_at p cells references n (Some f) first within is = (first.0, id_at p.cells (get_or cells n 0), first.1 n (get_or cells n 0) f (slice_get-get_or cells n 0 within) (sym is))

@@ -1,5 +1,6 @@
 -- The types over their limit, by their names and by their numbers.
-use Rattle.std.proofs.Common.{◌≡◌, ◌≢◌, ℕ, zero, suc, ◌+◌, ◌<◌, ◌≤◌, ⊎_elim, Bool, true, false, ◌&&◌, cond, nat_lt, List, [], ◌∷◌, length, map, get_or, Option, None, Some, IsTrue, Ordering, Less, Equal, Greater, String, sym, ap, refl, subst, ◌∙◌, arith}
+use Rattle.std.proofs.Common.{◌≡◌, ◌≢◌, ℕ, zero, suc, ◌+◌, ◌<◌, ◌≤◌, ⊎_elim, Bool, true, false, ◌&&◌, cond, nat_lt, List, [], ◌∷◌, length, map}
+use Rattle.std.proofs.Common.{get_or, Option, None, Some, IsTrue, Ordering, Less, Equal, Greater, String, sym, ap, refl, subst, ◌∙◌, arith}
 use Rattle.std.specs.Prelude.{unwrap_or, ◌==◌, slice_index}
 use Rattle.std.specs.List.{All, AllByRecursion, filter, find, slice_get, position, IsDistinct}
 use Rattle.std.specs.List.Sorted.{IsStrictlySortedBy}
@@ -70,11 +71,13 @@ some-none : {X : Type 0} {A : Type 0} (x : X) → Some x ≡ None → A
 some-none x e = cc
 
 -- Entries in order in which every look-up finds the same are the same.
-same_named : {X : Type 0} (es fs : Named X) → IsStrictlySortedBy name_cmp (keys_of es) → IsStrictlySortedBy name_cmp (keys_of fs) → ((q : List ℕ) → lookup (is_at (name_cmp q)) es ≡ lookup (is_at (name_cmp q)) fs) → es ≡ fs
+same_named : {X : Type 0} (es fs : Named X) → IsStrictlySortedBy name_cmp (keys_of es) → IsStrictlySortedBy name_cmp (keys_of fs) →
+    ((q : List ℕ) → lookup (is_at (name_cmp q)) es ≡ lookup (is_at (name_cmp q)) fs) → es ≡ fs
 same_named [] [] sorted_es sorted_fs same = refl
 same_named [] (f ∷ fs) sorted_es sorted_fs same = some-none f.1 (sym (first_found f fs) ∙ sym (same f.0))
 same_named (e ∷ es) [] sorted_es sorted_fs same = some-none e.1 (sym (first_found e es) ∙ same e.0)
-same_named {X} (e ∷ es) (f ∷ fs) sorted_es sorted_fs same = go (name_cmp e.0 f.0) refl (same_named es fs (sorted_tail name_cmp e.0 (keys_of es) sorted_es) (sorted_tail name_cmp f.0 (keys_of fs) sorted_fs))
+same_named {X} (e ∷ es) (f ∷ fs) sorted_es sorted_fs same =
+    go (name_cmp e.0 f.0) refl (same_named es fs (sorted_tail name_cmp e.0 (keys_of es) sorted_es) (sorted_tail name_cmp f.0 (keys_of fs) sorted_fs))
   where
     go : (o : Ordering) → name_cmp e.0 f.0 ≡ o → (((q : List ℕ) → lookup (is_at (name_cmp q)) es ≡ lookup (is_at (name_cmp q)) fs) → es ≡ fs) → (e ∷ es) ≡ (f ∷ fs)
     go Less is rest = some-none e.1 (sym (first_found e es) ∙ same e.0 ∙ none_less e.0 f fs sorted_fs is)
@@ -123,13 +126,17 @@ module _ (test : List ℕ × ℕ → Bool) where
       go true rest = (below_passing e.0 es sorted.0, rest)
       go false rest = rest
 
-  lookup-passing : (q : List ℕ) (es : Named ℕ) → IsStrictlySortedBy name_cmp (keys_of es) → lookup (is_at (name_cmp q)) (filter test es) ≡ option_and_then (λ l. cond (test (q, l)) (Some l) None) (lookup (is_at (name_cmp q)) es)
+  lookup-passing : (q : List ℕ) (es : Named ℕ) → IsStrictlySortedBy name_cmp (keys_of es) →
+      lookup (is_at (name_cmp q)) (filter test es) ≡ option_and_then (λ l. cond (test (q, l)) (Some l) None) (lookup (is_at (name_cmp q)) es)
   lookup-passing q [] sorted = refl
   lookup-passing q (e ∷ es) sorted = go (test e) refl (is_at (name_cmp q) e.0) refl (lookup-passing q es (sorted_tail name_cmp e.0 (keys_of es) sorted))
     where
-      go : (b : Bool) → test e ≡ b → (c : Bool) → is_at (name_cmp q) e.0 ≡ c → lookup (is_at (name_cmp q)) (filter test es) ≡ option_and_then (λ l. cond (test (q, l)) (Some l) None) (lookup (is_at (name_cmp q)) es) → lookup (is_at (name_cmp q)) (cond b (e ∷ filter test es) (filter test es)) ≡ option_and_then (λ l. cond (test (q, l)) (Some l) None) (cond c (Some e.1) (lookup (is_at (name_cmp q)) es))
+      go : (b : Bool) → test e ≡ b → (c : Bool) → is_at (name_cmp q) e.0 ≡ c →
+          lookup (is_at (name_cmp q)) (filter test es) ≡ option_and_then (λ l. cond (test (q, l)) (Some l) None) (lookup (is_at (name_cmp q)) es) →
+          lookup (is_at (name_cmp q)) (cond b (e ∷ filter test es) (filter test es)) ≡ option_and_then (λ l. cond (test (q, l)) (Some l) None) (cond c (Some e.1) (lookup (is_at (name_cmp q)) es))
       go true passes true at rest =
-          ap (λ x. cond x (Some e.1) (lookup (is_at (name_cmp q)) (filter test es))) at ∙ sym (ap (λ k. cond (test (k, e.1)) (Some e.1) None) (same_name q e.0 at) ∙ ap (λ x. cond x (Some e.1) None) passes)
+          ap (λ x. cond x (Some e.1) (lookup (is_at (name_cmp q)) (filter test es))) at
+          ∙ sym (ap (λ k. cond (test (k, e.1)) (Some e.1) None) (same_name q e.0 at) ∙ ap (λ x. cond x (Some e.1) None) passes)
       go true passes false at rest = ap (λ x. cond x (Some e.1) (lookup (is_at (name_cmp q)) (filter test es))) at ∙ rest
       go false fails true at rest =
           ap (λ k. lookup (is_at (name_cmp k)) (filter test es)) (same_name q e.0 at) ∙ none_below e.0 (filter test es) (below_passing e.0 es (sorted_head name_cmp e.0 (keys_of es) sorted))
@@ -187,7 +194,9 @@ below_next k n ne = go (nat_lt k n) refl
 pub over_pass : (r : RoleTable) (t : CountTable) (n : ℕ) (o : Option ℕ) → is_over_limit r t n ≡ false → over_below r t (n + 1) o ≡ over_below r t n o
 over_pass r t n None fails = refl
 over_pass r t n (Some k) fails = ⊎_elim
-    (λ e. ap (λ b. cond b (Some k) None) (none (nat_lt k (n + 1)) (is_over_limit r t k) (ap (is_over_limit r t) e ∙ fails) ∙ sym (none (nat_lt k n) (is_over_limit r t k) (ap (is_over_limit r t) e ∙ fails))))
+    (λ e. ap (λ b. cond b (Some k) None)
+    (none (nat_lt k (n + 1)) (is_over_limit r t k) (ap (is_over_limit r t) e ∙ fails)
+    ∙ sym (none (nat_lt k n) (is_over_limit r t k) (ap (is_over_limit r t) e ∙ fails))))
     (λ ne. ap (λ b. cond (b && is_over_limit r t k) (Some k) None) (below_next k n ne))
     (cases_eq k n)
   where
@@ -195,7 +204,9 @@ over_pass r t n (Some k) fails = ⊎_elim
     none true b is = is
     none false b is = refl
 
-pub over_more : (p : Placed) (r : RoleTable) (t : CountTable) → IsDistinct bytes_eq p.table.kinds → (n : ℕ) → n < length p.table.kinds → is_over_limit r t n ≡ true → (q : List ℕ) (found : Option ℕ) → found ≡ over_below r t n (position (bytes_eq q) p.table.kinds) → cond (bytes_eq (name_of p n) q) (Some n) found ≡ over_below r t (n + 1) (position (bytes_eq q) p.table.kinds)
+pub over_more : (p : Placed) (r : RoleTable) (t : CountTable) → IsDistinct bytes_eq p.table.kinds → (n : ℕ) → n < length p.table.kinds →
+    is_over_limit r t n ≡ true → (q : List ℕ) (found : Option ℕ) → found ≡ over_below r t n (position (bytes_eq q) p.table.kinds) →
+    cond (bytes_eq (name_of p n) q) (Some n) found ≡ over_below r t (n + 1) (position (bytes_eq q) p.table.kinds)
 over_more p r t distinct n within over q found is = go (bytes_eq (name_of p n) q) refl
   where
     here : cond (nat_lt n (n + 1) && is_over_limit r t n) (Some n) None ≡ Some n
@@ -227,7 +238,8 @@ lookup-by_texts : {Y : Type 0} (q : List ℕ) (es : List (String Y × ℕ)) → 
 lookup-by_texts q [] = refl
 lookup-by_texts q (e ∷ es) = ap (λ rest. cond (is_at (name_cmp q) (string_bytes e.0)) (Some e.1) rest) (lookup-by_texts q es)
 
-below-by_texts : {Y : Type 0} (k : String Y) (es : List (String Y × ℕ)) → AllByRecursion (λ x. string_cmp k x ≡ Less) (keys_of es) → AllByRecursion (λ x. name_cmp (string_bytes k) x ≡ Less) (keys_of (by_texts es))
+below-by_texts : {Y : Type 0} (k : String Y) (es : List (String Y × ℕ)) → AllByRecursion (λ x. string_cmp k x ≡ Less) (keys_of es) →
+    AllByRecursion (λ x. name_cmp (string_bytes k) x ≡ Less) (keys_of (by_texts es))
 below-by_texts k [] below = tt
 below-by_texts k (e ∷ es) below = (below.0, below-by_texts k es below.1)
 
@@ -241,7 +253,8 @@ module _ (f : ℕ → ℕ) where
   lookup-values q [] = refl
   lookup-values q (e ∷ es) = go (is_at (name_cmp q) e.0) (lookup-values q es)
     where
-      go : (b : Bool) → lookup (is_at (name_cmp q)) (map (λ e. (e.0, f e.1)) es) ≡ option_map f (lookup (is_at (name_cmp q)) es) → cond b (Some (f e.1)) (lookup (is_at (name_cmp q)) (map (λ e. (e.0, f e.1)) es)) ≡ option_map f (cond b (Some e.1) (lookup (is_at (name_cmp q)) es))
+      go : (b : Bool) → lookup (is_at (name_cmp q)) (map (λ e. (e.0, f e.1)) es) ≡ option_map f (lookup (is_at (name_cmp q)) es) →
+          cond b (Some (f e.1)) (lookup (is_at (name_cmp q)) (map (λ e. (e.0, f e.1)) es)) ≡ option_map f (cond b (Some e.1) (lookup (is_at (name_cmp q)) es))
       go true rest = refl
       go false rest = rest
 
@@ -269,7 +282,8 @@ module _ {Y : Type 0} (p : Placed) (r : RoleTable) (t : CountTable) (m : BTreeMa
   -- each entry has a type's name and number
   entry-is : (i : ℕ) (k : List ℕ) (v : ℕ) → slice_get texts i ≡ Some (k, v) → (k ≡ name_of p v) × IsOverLimit p r t v
   entry-is i k v at =
-      let found : lookup (is_at (name_cmp k)) texts ≡ Some v = lookup_from_place (eq_by_cmp_equiv nat_list_cmp_total) texts i k v (IsDistinct-from_sorted name_cmp (keys_of texts) (sorted-by_texts m.entries sorted)) at in
+      let found : lookup (is_at (name_cmp k)) texts ≡ Some v =
+      lookup_from_place (eq_by_cmp_equiv nat_list_cmp_total) texts i k v (IsDistinct-from_sorted name_cmp (keys_of texts) (sorted-by_texts m.entries sorted)) at in
       let (placed, over) = over_is r t n (position (bytes_eq k) p.table.kinds) v (sym (has k) ∙ sym (lookup-by_texts k m.entries) ∙ found) in
       let place = position-Some (bytes_eq k) p.table.kinds v [] placed in
       ((bytes_eq-Decides k (name_of p v)).0 place.1, record { seen = place.0; over = over })
@@ -288,12 +302,14 @@ module _ {Y : Type 0} (p : Placed) (r : RoleTable) (t : CountTable) (m : BTreeMa
       go : (es : List (String Y × ℕ)) → All (λ e. (string_bytes e.0 ≡ name_of p e.1) × IsOverLimit p r t e.1) es → All (IsOverLimit p r t) (values_of es)
       go [] all = All-nil (IsOverLimit p r t)
       go (e ∷ es) all =
-          All-cons (IsOverLimit p r t) e.1 (values_of es) (All-head (λ x. (string_bytes x.0 ≡ name_of p x.1) × IsOverLimit p r t x.1) e es all).1 (go es (All-tail (λ x. (string_bytes x.0 ≡ name_of p x.1) × IsOverLimit p r t x.1) e es all))
+          All-cons (IsOverLimit p r t) e.1 (values_of es) (All-head (λ x. (string_bytes x.0 ≡ name_of p x.1) × IsOverLimit p r t x.1) e es all).1
+          (go es (All-tail (λ x. (string_bytes x.0 ≡ name_of p x.1) × IsOverLimit p r t x.1) e es all))
 
   abbrev limit_at : ℕ → ℕ
   limit_at k = unwrap_or (limit_in r k) 0
 
-  named_limits : (es : List (String Y × ℕ)) → All (λ e. (string_bytes e.0 ≡ name_of p e.1) × IsOverLimit p r t e.1) es → map (named_limit p r) (values_of es) ≡ map (λ e. (e.0, limit_at e.1)) (by_texts es)
+  named_limits : (es : List (String Y × ℕ)) → All (λ e. (string_bytes e.0 ≡ name_of p e.1) × IsOverLimit p r t e.1) es →
+      map (named_limit p r) (values_of es) ≡ map (λ e. (e.0, limit_at e.1)) (by_texts es)
   named_limits [] all = refl
   named_limits (e ∷ es) all =
       ap (λ name. (name, limit_at e.1) ∷ map (named_limit p r) (values_of es)) (sym (All-head (λ x. (string_bytes x.0 ≡ name_of p x.1) × IsOverLimit p r t x.1) e es all).0)
@@ -304,7 +320,8 @@ module _ {Y : Type 0} (p : Placed) (r : RoleTable) (t : CountTable) (m : BTreeMa
     passes l = nat_lt l.1 (length (instances h l.0))
 
     -- what a heap says of the limit of a name, roles say of its number
-    look : (q : List ℕ) (o : Option ℕ) → position (bytes_eq q) p.table.kinds ≡ o → option_map limit_at (over_below r t n o) ≡ option_and_then (λ l. cond (passes (q, l)) (Some l) None) (lookup (is_at (name_cmp q)) h.limits)
+    look : (q : List ℕ) (o : Option ℕ) → position (bytes_eq q) p.table.kinds ≡ o →
+        option_map limit_at (over_below r t n o) ≡ option_and_then (λ l. cond (passes (q, l)) (Some l) None) (lookup (is_at (name_cmp q)) h.limits)
     unfolding passes
     look q None unseen = go (lookup (is_at (name_cmp q)) h.limits)
       where
@@ -334,7 +351,9 @@ module _ {Y : Type 0} (p : Placed) (r : RoleTable) (t : CountTable) (m : BTreeMa
         counted : slice_index t.instances k ≡ length (instances h q)
         counted = trace.instances k q named
 
-        go : (o : Option ℕ) → limit_in r k ≡ o → option_map limit_at (cond (option_map_or (λ l. nat_lt l (slice_index t.instances k)) (limit_in r k) false) (Some k) None) ≡ option_and_then (λ l. cond (nat_lt l (length (instances h q))) (Some l) None) (limit_in r k)
+        go : (o : Option ℕ) → limit_in r k ≡ o →
+            option_map limit_at (cond (option_map_or (λ l. nat_lt l (slice_index t.instances k)) (limit_in r k) false) (Some k) None)
+            ≡ option_and_then (λ l. cond (nat_lt l (length (instances h q))) (Some l) None) (limit_in r k)
         go None is = rw is refl
         go (Some l) is = rw (is, counted) (chosen (nat_lt l (length (instances h q))))
           where
@@ -350,7 +369,8 @@ module _ {Y : Type 0} (p : Placed) (r : RoleTable) (t : CountTable) (m : BTreeMa
         ∙ same_named (map (λ e. (e.0, limit_at e.1)) texts) (filter passes h.limits)
         (subst (IsStrictlySortedBy name_cmp) (sym (keys-values limit_at texts)) (sorted-by_texts m.entries sorted))
         (sorted_passing passes h.limits stand.ordered.limits)
-        (λ q. lookup-values limit_at q texts ∙ ap (option_map limit_at) (lookup-by_texts q m.entries ∙ has q) ∙ look q (position (bytes_eq q) p.table.kinds) refl ∙ sym (lookup-passing passes q h.limits stand.ordered.limits))
+        (λ q. lookup-values limit_at q texts ∙ ap (option_map limit_at) (lookup-by_texts q m.entries ∙ has q)
+        ∙ look q (position (bytes_eq q) p.table.kinds) refl ∙ sym (lookup-passing passes q h.limits stand.ordered.limits))
 
 -- at first there is none
 pub over_none : {Y : Type 0} (p : Placed) (r : RoleTable) (t : CountTable) (m : BTreeMap (String Y) ℕ) → m.entries ≡ [] → HasOver p r t m 0

@@ -62,7 +62,8 @@ module _ (P : ℕ × ℕ → Type 0) (f : ℕ → Option ℕ) where
       (λ later. pair_at cells os others (All-tail P o os all) cell later)
       (or_cases _ _ at)
 
-pairs_are : (owners : List (ℕ × ℕ)) (f : ℕ → Option ℕ) (cells : List ℕ) (os : List (ℕ × ℕ)) → map f cells ≡ map (λ o. Some o.0) os → All (IsListed owners) os → map (λ cell. (unwrap_or (f cell) 0, unwrap_or (owner_of owners (unwrap_or (f cell) 0)) 0)) cells ≡ os
+pairs_are : (owners : List (ℕ × ℕ)) (f : ℕ → Option ℕ) (cells : List ℕ) (os : List (ℕ × ℕ)) → map f cells ≡ map (λ o. Some o.0) os →
+    All (IsListed owners) os → map (λ cell. (unwrap_or (f cell) 0, unwrap_or (owner_of owners (unwrap_or (f cell) 0)) 0)) cells ≡ os
 pairs_are owners f [] [] same all = refl
 pairs_are owners f [] (o ∷ os) same all = cc
 pairs_are owners f (c ∷ cells) [] same all = cc

@@ -24,6 +24,9 @@ first_shown p cell id false path held = refl
 pub counted-is : (p : Placed) (t : CountTable) → IsPlaced p → (cell id : ℕ) → id_in p cell ≡ Some id → counted_in p t id ≡ t.references cell
 counted-is p t placed cell id held = ap (λ o. option_map_or t.references o 0) (cell_of-held p placed cell id held)
 
-pub unshared-is : (b : Bool) (count : ℕ → ℕ) (h : Heap) (x id : ℕ) (kind : List ℕ) (refs : ℕ) (first second : Shown) → id ≡ x → kind ≡ kind_at h.table x → refs ≡ count x → first ≡ path_if b (shown_path (option_map (reference_way h x) (slice_get (references h x) 0))) → second ≡ path_if b (shown_path (option_map (reference_way h x) (slice_get (references h x) 1))) → Unshared id kind refs first second ≡ verdict_if b (unshared_verdict count h x)
+pub unshared-is : (b : Bool) (count : ℕ → ℕ) (h : Heap) (x id : ℕ) (kind : List ℕ) (refs : ℕ) (first second : Shown) → id ≡ x →
+    kind ≡ kind_at h.table x → refs ≡ count x → first ≡ path_if b (shown_path (option_map (reference_way h x) (slice_get (references h x) 0))) →
+    second ≡ path_if b (shown_path (option_map (reference_way h x) (slice_get (references h x) 1))) →
+    Unshared id kind refs first second ≡ verdict_if b (unshared_verdict count h x)
 unshared-is true count h x id kind refs first second e1 e2 e3 e4 e5 = rw (e1, e2, e3, e4, e5) refl
 unshared-is false count h x id kind refs first second e1 e2 e3 e4 e5 = rw (e1, e2, e3, e4, e5) refl

@@ -54,7 +54,8 @@ module _ (p : Placed) (r : RoleTable) (t : CountTable) (places : List (Option �
       ap (λ l. (name_of p c.kind, l) ∷ map (named_count p) counts) (sym (ap (λ o. unwrap_or o 0) (All-head (IsCountedBy r t places) c counts all).limit))
       ∙ ap (λ rest. named_limit p r c.kind ∷ rest) (named_counts counts (All-tail (IsCountedBy r t places) c counts all))
 
-  pub kinds-are : (h : Heap) (counts : List KindCount) (kinds : List ℕ) → All (IsCountedBy r t places) counts → map (λ c. c.kind) counts ≡ kinds → map (named_limit p r) kinds ≡ violating_kinds h → map (named_count p) counts ≡ violating_kinds h
+  pub kinds-are : (h : Heap) (counts : List KindCount) (kinds : List ℕ) → All (IsCountedBy r t places) counts →
+      map (λ c. c.kind) counts ≡ kinds → map (named_limit p r) kinds ≡ violating_kinds h → map (named_count p) counts ≡ violating_kinds h
   kinds-are h counts kinds all same over = named_counts counts all ∙ ap (map (named_limit p r)) same ∙ over
 
   module _ (h : Heap) (trace : AreCountsOf p h t) (counts : List KindCount) (each : All (IsCountedBy r t places) counts) (seen : All (IsSeenIn p) counts) where
@@ -69,11 +70,15 @@ module _ (p : Placed) (r : RoleTable) (t : CountTable) (places : List (Option �
         let it = (there k d.kind (omega (arith, within, length-map counts (λ (c : KindCount). c.kind)))).over in
         subst (λ kind. is_over_limit r t kind ≡ true) (get_or-map (λ (c : KindCount). c.kind) counts k d d.kind within) it
 
-    pub first_at_limit : (kinds : List ℕ) → map (λ c. c.kind) counts ≡ kinds → All (IsOverLimit p r t) kinds → ArePastLimits p r h places → (k : ℕ) (d : KindCount) → k < length counts → HasFirst p h (get_or counts k d)
+    pub first_at_limit : (kinds : List ℕ) → map (λ c. c.kind) counts ≡ kinds → All (IsOverLimit p r t) kinds → ArePastLimits p r h places →
+        (k : ℕ) (d : KindCount) → k < length counts → HasFirst p h (get_or counts k d)
     first_at_limit kinds same over past k d within =
         let c = get_or counts k d in
         let found = instances h (name_of p c.kind) in
-        let less : c.limit < slice_index t.instances c.kind = ltb-true c.limit (slice_index t.instances c.kind) (sym (ap (λ o. option_map_or (λ l. nat_lt l (slice_index t.instances c.kind)) o false) (each k d within).limit) ∙ over_at kinds same over k d within) in
+        let less : c.limit < slice_index t.instances c.kind =
+        ltb-true c.limit (slice_index t.instances c.kind)
+        (sym (ap (λ o. option_map_or (λ l. nat_lt l (slice_index t.instances c.kind)) o false) (each k d within).limit)
+        ∙ over_at kinds same over k d within) in
         let named = trace.instances c.kind (name_of p c.kind) (named_at p c.kind (seen k d within).seen) in
         let at = slice_get-get_or found c.limit 0 (omega (arith, less, named)) in
         (get_or found c.limit 0, ap (option_and_then (id_in p)) (each k d within).first ∙ past c.kind c.limit (seen k d within).seen (each k d within).limit ∙ at, at)
@@ -81,7 +86,9 @@ module _ (p : Placed) (r : RoleTable) (t : CountTable) (places : List (Option �
 -- ---- the whole list
 
 -- the verdicts on what is asserted dead, on types and on what is asserted unshared
-pub first_three : (paths : ℕ) (none one two three : List Verdict) (count : ℕ → ℕ) (h : Heap) → none ≡ [] → GoesOn paths none (map (dead_verdict h) (violating_dead h)) one → GoesOn paths one (map (instances_verdict h) (violating_kinds h)) two → GoesOn paths two (map (unshared_verdict count h) (violating_unshared h)) three → three ≡ first_with_paths paths (first_verdicts count h)
+pub first_three : (paths : ℕ) (none one two three : List Verdict) (count : ℕ → ℕ) (h : Heap) → none ≡ [] →
+    GoesOn paths none (map (dead_verdict h) (violating_dead h)) one → GoesOn paths one (map (instances_verdict h) (violating_kinds h)) two →
+    GoesOn paths two (map (unshared_verdict count h) (violating_unshared h)) three → three ≡ first_with_paths paths (first_verdicts count h)
 first_three paths none one two three count h empty dead kinds unshared =
     let first = goes_on_twice paths none one two (map (dead_verdict h) (violating_dead h)) (map (instances_verdict h) (violating_kinds h)) dead kinds in
     goes_on_twice paths none two three _ (map (unshared_verdict count h) (violating_unshared h)) first unshared [] (empty ∙ sym (first_none paths))

@@ -23,7 +23,9 @@ use Rattle.ownee_check.specs.Ownership.{OwnershipTable, AreViolating}
 use Rattle.verdict_list.specs.Listed.{GoesOn, first_verdicts, path_if, verdict_if}
 
 -- the verdict on an ownee, put together from its parts
-pub ownedby-is : (b : Bool) (h : Heap) (o : ℕ × ℕ) (id : ℕ) (kind : List ℕ) (owner : ℕ) (gone : Bool) (path : Shown) → id ≡ o.0 → kind ≡ kind_at h.table o.0 → owner ≡ o.1 → gone ≡ is_gone h o.1 → path ≡ path_if b (shown_path (unowned_way h o.0)) → OwnedBy id kind owner gone path ≡ verdict_if b (ownedby_verdict h o)
+pub ownedby-is : (b : Bool) (h : Heap) (o : ℕ × ℕ) (id : ℕ) (kind : List ℕ) (owner : ℕ) (gone : Bool) (path : Shown) → id ≡ o.0 →
+    kind ≡ kind_at h.table o.0 → owner ≡ o.1 → gone ≡ is_gone h o.1 → path ≡ path_if b (shown_path (unowned_way h o.0)) →
+    OwnedBy id kind owner gone path ≡ verdict_if b (ownedby_verdict h o)
 ownedby-is true h o id kind owner gone path e1 e2 e3 e4 e5 = rw (e1, e2, e3, e4, e5) refl
 ownedby-is false h o id kind owner gone path e1 e2 e3 e4 e5 = rw (e1, e2, e3, e4, e5) refl
 
@@ -39,7 +41,10 @@ ownees-few p r h c sound stand violating =
     let keys : keys_of h.owners ≡ filter (has_id (keys_of h.owners)) (ids h.table) =
     same_rising (keys_of h.owners) (filter (has_id (keys_of h.owners)) (ids h.table)) (Rise-sorted (keys_of h.owners) stand.ordered.owners)
     (AllPairs-filter (λ x y. x < y) (has_id (keys_of h.owners)) (ids h.table) rise.rising)
-    (λ y. both (has_id (keys_of h.owners) y) (has_id (ids h.table) y) (λ at. has_id-ids h.table y ∙ All-contains (λ x. IsTrue (is_live h.table x)) (keys_of h.owners) y stand.refers.ownees ((has_id-Contains (keys_of h.owners) y).0 at)) ∙ sym (has_id-filter (has_id (keys_of h.owners)) (ids h.table) y)) in
+    (λ y. both (has_id (keys_of h.owners) y) (has_id (ids h.table) y)
+    (λ at. has_id-ids h.table y
+    ∙ All-contains (λ x. IsTrue (is_live h.table x)) (keys_of h.owners) y stand.refers.ownees ((has_id-Contains (keys_of h.owners) y).0 at))
+    ∙ sym (has_id-filter (has_id (keys_of h.owners)) (ids h.table) y)) in
     let front = length-filter_le (has_id (keys_of h.owners)) (ids h.table) in
     omega (arith, many, listed, ap length keys, front, length-map h.owners (λ o. o.0), length-map h.table.objects (λ o. o.id), ap (λ (x : Table). length x.objects) stand.table)
   where
@@ -49,6 +54,7 @@ ownees-few p r h c sound stand violating =
 
 -- ---- the whole list
 
-pub whole : (paths : ℕ) (first all : List Verdict) (count : ℕ → ℕ) (h : Heap) → first ≡ first_with_paths paths (first_verdicts count h) → GoesOn paths first (map (ownedby_verdict h) (violating_ownees h)) all → all ≡ first_with_paths paths (all_verdicts count h)
+pub whole : (paths : ℕ) (first all : List Verdict) (count : ℕ → ℕ) (h : Heap) → first ≡ first_with_paths paths (first_verdicts count h) →
+    GoesOn paths first (map (ownedby_verdict h) (violating_ownees h)) all → all ≡ first_with_paths paths (all_verdicts count h)
 unfolding all_verdicts
 whole paths first all count h are ownees = ownees (first_verdicts count h) are

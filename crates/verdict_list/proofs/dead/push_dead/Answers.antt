@@ -23,8 +23,12 @@ push-requires c = omega (arith, c.loop-cell.invariant.number, c.requires.room, c
 
 pub loop-cell-preserved : goal.loop-cell-preserved
 loop-cell-preserved c = rw c.in_ok-push.ensures.ok (record {
-  gone = λ h shows. goes_by_nth c.args.paths (λ cell. dead_verdict h (id_at c.args.table.now.cells cell)) c.args.list.now c.loop-cell.list c.args.cells.now c.loop-cell.cell-index 0 c.in_ok-verdict.verdict c.loop-cell-test.true
-      (c.in_ok-verdict.ensures h shows ∙ ap (λ n. verdict_if (nat_lt n c.args.paths) (dead_verdict h (id_at c.args.table.now.cells (get_or c.args.cells.now c.loop-cell.cell-index 0)))) c.len.ensures) (c.loop-cell.invariant.gone h shows);
+  gone =
+      λ h shows. goes_by_nth c.args.paths (λ cell. dead_verdict h (id_at c.args.table.now.cells cell)) c.args.list.now c.loop-cell.list
+      c.args.cells.now c.loop-cell.cell-index 0 c.in_ok-verdict.verdict c.loop-cell-test.true
+      (c.in_ok-verdict.ensures h shows
+      ∙ ap (λ n. verdict_if (nat_lt n c.args.paths) (dead_verdict h (id_at c.args.table.now.cells (get_or c.args.cells.now c.loop-cell.cell-index 0)))) c.len.ensures)
+      (c.loop-cell.invariant.gone h shows);
   number = omega (arith, c.loop-cell.invariant.number, length-append c.loop-cell.list (c.in_ok-verdict.verdict ∷ []));
 })
 
@@ -33,4 +37,5 @@ returns-clause-length c = omega (arith, c.loop-cell.invariant.number, c.loop-cel
 
 pub returns-clause-verdicts : goal.returns-clause-verdicts
 returns-clause-verdicts c h shows =
-    ends_at c.args.paths (λ cell. dead_verdict h (id_at c.args.table.now.cells cell)) c.args.list.now c.loop-cell.list c.args.cells.now c.loop-cell.cell-index c.loop-cell-test.false (c.loop-cell.invariant.gone h shows)
+    ends_at c.args.paths (λ cell. dead_verdict h (id_at c.args.table.now.cells cell)) c.args.list.now c.loop-cell.list c.args.cells.now
+    c.loop-cell.cell-index c.loop-cell-test.false (c.loop-cell.invariant.gone h shows)

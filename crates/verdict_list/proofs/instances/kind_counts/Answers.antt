@@ -20,8 +20,15 @@ pub loop-kind-preserved : goal.loop-kind-preserved
 loop-kind-preserved g c = rw c.in_ok-push.ensures.items (record {
   kinds = kinds_more c.loop-kind.counts.items c.args.kinds.now c.loop-kind.kind-index _ (slice_get-get_or c.args.kinds.now c.loop-kind.kind-index 0 c.loop-kind-test.true) c.loop-kind.invariant.kinds;
   many = length-append c.loop-kind.counts.items _ ∙ ap (λ n. n + 1) c.loop-kind.invariant.many;
-  seen = All-push (IsSeenIn c.args.table.now) c.loop-kind.counts.items _ c.loop-kind.invariant.seen (record { seen = (c.requires.over c.loop-kind.kind-index 0 c.loop-kind-test.true).seen; first = subst (λ o. IfSome o (λ cell. IsSome (id_in c.args.table.now cell))) (sym c.at_kind.ensures) (c.requires.held (get_or c.args.kinds.now c.loop-kind.kind-index 0)) });
-  each = All-push (IsCountedBy c.args.roles.now (g.T.HeapCounts.counts c.args.traced.now) c.args.places.now) c.loop-kind.counts.items _ c.loop-kind.invariant.each (record { limit = c.limit_of.ensures; found = c.found.ensures; first = c.at_kind.ensures });
+  seen =
+      All-push (IsSeenIn c.args.table.now) c.loop-kind.counts.items _ c.loop-kind.invariant.seen
+      (record {
+        seen = (c.requires.over c.loop-kind.kind-index 0 c.loop-kind-test.true).seen;
+        first = subst (λ o. IfSome o (λ cell. IsSome (id_in c.args.table.now cell))) (sym c.at_kind.ensures) (c.requires.held (get_or c.args.kinds.now c.loop-kind.kind-index 0));
+      });
+  each =
+      All-push (IsCountedBy c.args.roles.now (g.T.HeapCounts.counts c.args.traced.now) c.args.places.now) c.loop-kind.counts.items _
+      c.loop-kind.invariant.each (record { limit = c.limit_of.ensures; found = c.found.ensures; first = c.at_kind.ensures });
 })
 
 pub returns-clause-kinds : goal.returns-clause-kinds

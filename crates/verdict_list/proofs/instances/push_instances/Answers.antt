@@ -23,9 +23,12 @@ push-requires c = omega (arith, c.loop-count.invariant.number, c.requires.room, 
 pub loop-count-preserved : goal.loop-count-preserved
 loop-count-preserved c = rw c.in_ok-push.ensures.ok (record {
   gone = λ h shows says first.
-      let shown : nat_lt c.len.result c.args.paths ≡ true → length c.args.list.now < c.args.paths = λ is_shown. (let less : c.len.result < c.args.paths = ltb-true c.len.result c.args.paths is_shown in omega (arith, less, c.len.ensures, c.loop-count.invariant.number)) in
-      goes_by_count c.args.paths (λ k. instances_verdict h (named_count c.args.table.now k)) c.args.list.now c.loop-count.list c.args.counts.now c.loop-count.count-index _ c.in_ok-verdict.verdict c.len.result c.loop-count-test.true c.len.ensures
-      (c.in_ok-verdict.ensures h shows (says c.loop-count.count-index _ c.loop-count-test.true) (λ is_shown. first (shown is_shown) c.loop-count.count-index _ c.loop-count-test.true)) (c.loop-count.invariant.gone h shows says first);
+      let shown : nat_lt c.len.result c.args.paths ≡ true → length c.args.list.now < c.args.paths =
+      λ is_shown. (let less : c.len.result < c.args.paths = ltb-true c.len.result c.args.paths is_shown in omega (arith, less, c.len.ensures, c.loop-count.invariant.number)) in
+      goes_by_count c.args.paths (λ k. instances_verdict h (named_count c.args.table.now k)) c.args.list.now c.loop-count.list c.args.counts.now
+      c.loop-count.count-index _ c.in_ok-verdict.verdict c.len.result c.loop-count-test.true c.len.ensures
+      (c.in_ok-verdict.ensures h shows (says c.loop-count.count-index _ c.loop-count-test.true)
+      (λ is_shown. first (shown is_shown) c.loop-count.count-index _ c.loop-count-test.true)) (c.loop-count.invariant.gone h shows says first);
   number = omega (arith, c.loop-count.invariant.number, length-append c.loop-count.list (c.in_ok-verdict.verdict ∷ []));
 })
 
@@ -34,4 +37,5 @@ returns-clause-length c = omega (arith, c.loop-count.invariant.number, c.loop-co
 
 pub returns-clause-verdicts : goal.returns-clause-verdicts
 returns-clause-verdicts c h shows says first =
-    ends_at c.args.paths (λ k. instances_verdict h (named_count c.args.table.now k)) c.args.list.now c.loop-count.list c.args.counts.now c.loop-count.count-index c.loop-count-test.false (c.loop-count.invariant.gone h shows says first)
+    ends_at c.args.paths (λ k. instances_verdict h (named_count c.args.table.now k)) c.args.list.now c.loop-count.list c.args.counts.now
+    c.loop-count.count-index c.loop-count-test.false (c.loop-count.invariant.gone h shows says first)

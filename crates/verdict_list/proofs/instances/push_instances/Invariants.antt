@@ -9,6 +9,8 @@ use Rattle.verdict_list.proofs.instances.push_instances.Given as goal
 
 abbrev pub invariant-loop-count : goal.invariant-loop-count
 invariant-loop-count l = record {
-  gone : (h : Heap) → ShowsPaths l.table h l.levels → All (SaysOf l.table h) l.counts → (length l.fn.list < l.paths → All (HasFirst l.table h) l.counts) → HasGoneOn l.paths (λ c. instances_verdict h (named_count l.table c)) l.fn.list l.list (drop l.count-index l.counts) l.counts;
+  gone : (h : Heap) → ShowsPaths l.table h l.levels → All (SaysOf l.table h) l.counts →
+      (length l.fn.list < l.paths → All (HasFirst l.table h) l.counts) →
+      HasGoneOn l.paths (λ c. instances_verdict h (named_count l.table c)) l.fn.list l.list (drop l.count-index l.counts) l.counts;
   number : length l.list ≡ length l.fn.list + l.count-index;
 }

@@ -17,8 +17,12 @@ references_of-requires-clause-kept g c = ap length c.kept-kept.ensures ∙ c.req
 
 pub push_unshared-requires-clause-references : goal.push_unshared-requires-clause-references
 push_unshared-requires-clause-references g c =
-    let (h, stand, trace) = c.requires.counts in
-    (h, rw (c.deref-6.ensures.value, c.deref-7.ensures.value) ((rw c.deref-3.ensures.value at c.in_ok-references.ensures.first) h stand (λ x id held. ap (λ ks. get_or ks x false) c.kept-kept.ensures ∙ trace.kept x id held)))
+    let (h, stand, trace) = c.requires.counts in (
+      h,
+      rw (c.deref-6.ensures.value, c.deref-7.ensures.value)
+          ((rw c.deref-3.ensures.value at c.in_ok-references.ensures.first) h stand
+          (λ x id held. ap (λ ks. get_or ks x false) c.kept-kept.ensures ∙ trace.kept x id held)),
+    )
 
 pub returns-clause-verdicts : goal.returns-clause-verdicts
 returns-clause-verdicts g c h stand trace =
@@ -36,14 +40,32 @@ returns-clause-verdicts g c h stand trace =
     let same = c.in_ok-counts.ensures.kinds ∙ c.deref.ensures.value in
     let says = all_say p r t places h trace counts each c.in_ok-counts.ensures.seen in
     let first : length c.push_dead.new.list < n → All (HasFirst p h) counts = λ less k d within.
-    first_at_limit p r t places h trace counts each c.in_ok-counts.ensures.seen kinds same c.in_ok-kinds.ensures.each (c.in_ok-places.ensures.past (c.shows_some-shows_kinds.ensures (omega (arith, less, c.saturating_sub.ensures, c.len-4.ensures, c.in_ok-push_dead.ensures.length, ap length c.empty-list.ensures, ap length c.deref-4.ensures.value)) (omega (arith, within, c.len-5.ensures, c.in_ok-counts.ensures.many, ap length c.deref.ensures.value))) h stand keeps) k d within in
+    first_at_limit p r t places h trace counts each c.in_ok-counts.ensures.seen kinds same c.in_ok-kinds.ensures.each
+    (c.in_ok-places.ensures.past
+    (c.shows_some-shows_kinds.ensures
+    (omega (
+      arith,
+      less,
+      c.saturating_sub.ensures,
+      c.len-4.ensures,
+      c.in_ok-push_dead.ensures.length,
+      ap length c.empty-list.ensures,
+      ap length c.deref-4.ensures.value,
+    )) (omega (arith, within, c.len-5.ensures, c.in_ok-counts.ensures.many, ap length c.deref.ensures.value))) h
+    stand keeps) k d within in
     let dead : GoesOn n c.empty-list.result (map (dead_verdict h) (violating_dead h)) c.push_dead.new.list =
-    subst (λ vs. GoesOn n c.empty-list.result vs c.push_dead.new.list) (map_held (id_in p) (dead_verdict h) c.deref-4.result.now (violating_dead h) (ap (map (id_in p)) c.deref-4.ensures.value ∙ c.in_ok-dead.ensures.violating h stand trace)) (c.in_ok-push_dead.ensures.verdicts h shows) in
+    subst (λ vs. GoesOn n c.empty-list.result vs c.push_dead.new.list)
+    (map_held (id_in p) (dead_verdict h) c.deref-4.result.now (violating_dead h)
+    (ap (map (id_in p)) c.deref-4.ensures.value ∙ c.in_ok-dead.ensures.violating h stand trace)) (c.in_ok-push_dead.ensures.verdicts h shows) in
     let instances : GoesOn n c.push_dead.new.list (map (instances_verdict h) (violating_kinds h)) c.push_instances.new.list =
-    subst (λ vs. GoesOn n c.push_dead.new.list vs c.push_instances.new.list) (map_pairs (instances_verdict h) (named_count p) c.deref-5.result.now (violating_kinds h) (ap (map (named_count p)) c.deref-5.ensures.value ∙ kinds-are p r t places h counts kinds each same (c.in_ok-kinds.ensures.over h stand trace)))
+    subst (λ vs. GoesOn n c.push_dead.new.list vs c.push_instances.new.list)
+    (map_pairs (instances_verdict h) (named_count p) c.deref-5.result.now (violating_kinds h)
+    (ap (map (named_count p)) c.deref-5.ensures.value ∙ kinds-are p r t places h counts kinds each same (c.in_ok-kinds.ensures.over h stand trace)))
     (c.in_ok-push_instances.ensures.verdicts h shows (subst (All (SaysOf p h)) (sym c.deref-5.ensures.value) says) (λ less. subst (All (HasFirst p h)) (sym c.deref-5.ensures.value) (first less))) in
     let unshared : GoesOn n c.push_instances.new.list (map (unshared_verdict count h) (violating_unshared h)) c.push_unshared.new.list =
-    subst (λ vs. GoesOn n c.push_instances.new.list vs c.push_unshared.new.list) (map_held (id_in p) (unshared_verdict count h) c.deref-6.result.now (violating_unshared h) (ap (map (id_in p)) c.deref-6.ensures.value ∙ c.in_ok-unshared.ensures.violating h stand trace))
+    subst (λ vs. GoesOn n c.push_instances.new.list vs c.push_unshared.new.list)
+    (map_held (id_in p) (unshared_verdict count h) c.deref-6.result.now (violating_unshared h)
+    (ap (map (id_in p)) c.deref-6.ensures.value ∙ c.in_ok-unshared.ensures.violating h stand trace))
     (c.in_ok-push_unshared.ensures.verdicts h shows (rw (c.deref-6.ensures.value, c.deref-7.ensures.value) ((rw c.deref-3.ensures.value at c.in_ok-references.ensures.first) h stand keeps))) in
     first_three n c.empty-list.result c.push_dead.new.list c.push_instances.new.list c.push_unshared.new.list count h c.empty-list.ensures dead instances unshared
 

@@ -24,7 +24,8 @@ loop-kind-preserved g c =
     let within : n < length p.table.kinds = omega (arith, c.loop-kind-test.true, c.kinds-kind-end.ensures.count) in
     elim c.if-is_over_limit.branch [
       | then-is_over_limit+in_ok-name+in_ok-insert w ↦
-          let name_is : string_bytes w.in_ok-name.name ≡ name_of p n = w.in_ok-name.ensures.ok ∙ w.as_str.ensures.text ∙ sym (get_or_from_slice_get p.table.kinds n w.kind_name.result.now _ w.kind_name.ensures.name) in
+          let name_is : string_bytes w.in_ok-name.name ≡ name_of p n =
+          w.in_ok-name.ensures.ok ∙ w.as_str.ensures.text ∙ sym (get_or_from_slice_get p.table.kinds n w.kind_name.result.now _ w.kind_name.ensures.name) in
           let over : is_over_limit c.args.roles.now (g.T.HeapCounts.counts c.args.traced.now) n ≡ true = sym c.is_over_limit.ensures ∙ w.if-is_over_limit.true in
           rw w.numbers-is (record {
             sorted = w.in_ok-insert.ensures.ordered;
@@ -35,7 +36,9 @@ loop-kind-preserved g c =
           })
       | else-is_over_limit w ↦ rw w.numbers-is (record {
         sorted = c.loop-kind.invariant.sorted;
-        has = λ q. c.loop-kind.invariant.has q ∙ sym (over_pass c.args.roles.now (g.T.HeapCounts.counts c.args.traced.now) n (position (bytes_eq q) p.table.kinds) (sym c.is_over_limit.ensures ∙ w.if-is_over_limit.false));
+        has =
+            λ q. c.loop-kind.invariant.has q
+            ∙ sym (over_pass c.args.roles.now (g.T.HeapCounts.counts c.args.traced.now) n (position (bytes_eq q) p.table.kinds) (sym c.is_over_limit.ensures ∙ w.if-is_over_limit.false));
         few = omega (arith, c.loop-kind.invariant.few);
       })
     ]
@@ -46,7 +49,8 @@ returns-clause-over g c h stand trace =
     (omega (arith, c.loop-kind-test.false, c.loop-kind.auto.kind-end, c.kinds-kind-end.ensures.count)) c.cells-cells.ensures.sound stand trace
 
 pub returns-clause-each : goal.returns-clause-each
-returns-clause-each g c = all_over c.args.table.now c.args.roles.now (g.T.HeapCounts.counts c.args.traced.now) c.loop-kind.numbers c.loop-kind.kind c.loop-kind.invariant.sorted c.loop-kind.invariant.has
+returns-clause-each g c =
+    all_over c.args.table.now c.args.roles.now (g.T.HeapCounts.counts c.args.traced.now) c.loop-kind.numbers c.loop-kind.kind c.loop-kind.invariant.sorted c.loop-kind.invariant.has
 
 pub returns-clause-few : goal.returns-clause-few
 returns-clause-few g c = omega (arith, c.loop-kind.invariant.few, c.loop-kind.auto.kind-end, c.kinds-kind-end.ensures.count, c.cells-cells.ensures.sound.limits.kinds)

@@ -1,5 +1,5 @@
-use Rattle.std.proofs.Common.{◌≡◌, ◌∷◌, ◌++◌, ap, sym, ◌∙◌}
-use Rattle.verdict_list.proofs.GoingOn.{append_more, append-nil}
+use Rattle.std.proofs.Common.{◌≡◌, [], ◌∷◌, ◌++◌, ap, sym, ◌∙◌}
+use Rattle.std.proofs.lemmas.List.{append_assoc, append-nil}
 use Rattle.verdict_list.proofs.over_limit.values.Goals as goal
 
 pub loop-number-init : goal.loop-number-init
@@ -9,7 +9,7 @@ pub loop-number-preserved : goal.loop-number-preserved
 loop-number-preserved c =
     let first : c.loop-number.number-iterator ≡ c.in-Some.number.now ∷ c.next.new.self = c.in-Some.ensures.steps in
     rw c.in_ok-push.ensures.items
-    (append_more c.loop-number.values.items c.next.new.self c.in-Some.number.now ∙ ap (λ rest. c.loop-number.values.items ++ rest) (sym first) ∙ c.loop-number.invariant)
+    (append_assoc c.loop-number.values.items (c.in-Some.number.now ∷ []) c.next.new.self ∙ ap (λ rest. c.loop-number.values.items ++ rest) (sym first) ∙ c.loop-number.invariant)
 
 pub returns : goal.returns
 returns c = sym (append-nil c.loop-number.values.items) ∙ ap (λ rest. c.loop-number.values.items ++ rest) (sym c.in-None.ensures.steps.0) ∙ c.loop-number.invariant

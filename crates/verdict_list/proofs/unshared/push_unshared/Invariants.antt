@@ -9,6 +9,7 @@ use Rattle.verdict_list.proofs.unshared.push_unshared.Given as goal
 
 abbrev pub invariant-loop-place : goal.invariant-loop-place
 invariant-loop-place g l = record {
-  gone : (h : Heap) → ShowsPaths l.table h l.levels → AreFirstOf l.table h l.cells l.references → HasGoneOn l.paths (λ cell. unshared_verdict (counted_in l.table (g.T.HeapCounts.counts l.traced)) h (id_at l.table.cells cell)) l.fn.list l.list (drop l.place l.cells) l.cells;
+  gone : (h : Heap) → ShowsPaths l.table h l.levels → AreFirstOf l.table h l.cells l.references →
+      HasGoneOn l.paths (λ cell. unshared_verdict (counted_in l.table (g.T.HeapCounts.counts l.traced)) h (id_at l.table.cells cell)) l.fn.list l.list (drop l.place l.cells) l.cells;
   number : length l.list ≡ length l.fn.list + l.place;
 }

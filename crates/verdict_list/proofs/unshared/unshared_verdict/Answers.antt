@@ -12,7 +12,8 @@ returns g c h shows first =
     let p = c.args.table.now in
     let cell = c.args.cell in
     let id = id_at p.cells cell in
-    unshared-is (is_some c.args.found) (counted_in p (g.T.HeapCounts.counts c.args.traced.now)) h id c.object_id-id.result c.in_ok-kind.kind c.references-refs.result c.in_ok-first.first c.in_ok-first.second
+    unshared-is (is_some c.args.found) (counted_in p (g.T.HeapCounts.counts c.args.traced.now)) h id c.object_id-id.result c.in_ok-kind.kind
+    c.references-refs.result c.in_ok-first.first c.in_ok-first.second
     c.object_id-id.ensures.id
     (c.in_ok-kind.ensures ∙ ap (λ (t : Table). kind_at t id) (sym shows.stand.table))
     (c.references-refs.ensures ∙ sym (counted-is p (g.T.HeapCounts.counts c.args.traced.now) c.cells-cells.ensures.placed cell id (held-id p cell c.requires.cell)))

@@ -1,5 +1,5 @@
-use Rattle.std.proofs.Common.{◌≡◌, ◌∷◌, [], true, false, map, Some, ap, sym, subst, ◌∙◌, arith}
-use Rattle.std.specs.List.{filter}
+use Rattle.std.proofs.Common.{◌≡◌, ℕ, ◌<◌, ◌∷◌, [], length, true, false, map, Some, ap, sym, subst, ◌∙◌, arith}
+use Rattle.std.specs.List.{filter, slice_get}
 use Rattle.std.proofs.lemmas.List.{length-map, length-append}
 use Rattle.graph_meaning.specs.Heap.{Table, ids}
 use Rattle.graph_meaning.specs.Laws.{IdsRise}
@@ -7,51 +7,62 @@ use Rattle.object_table.specs.Placed.{id_in}
 use Rattle.path_cert.proofs.HeldObjects.{held-within}
 use Rattle.verdict_list.specs.Violating.{is_violated_by, violating}
 use Rattle.verdict_list.proofs.ByIds.{violating-is, violated-agrees, gather_one, pass_one, gathered, nth_id, all_taken, once_held, violating-rise}
+use Rattle.verdict_list.proofs.violating.violating.Given as given
 use Rattle.verdict_list.proofs.violating.violating.Goals as goal
-use Rattle.verdict_list.proofs.violating.violating.Goals.{then-is_violated+in_ok-push, else-is_violated}
+use Rattle.verdict_list.proofs.violating.violating.Goals.{After-nth_cell-cell, then-is_violated+in_ok-push, else-is_violated}
 
 pub loop-number-init : goal.loop-number-init
 loop-number-init g c = rw c.new-cells.ensures.items (record {
   gathered = λ h stand trace.
-      ap (map Some) (sym (violating-is c.args.assertion h stand.refers stand.ordered (subst IdsRise (sym stand.table) c.cells-all.ensures.sound.ids) ∙ ap (λ (t : Table). filter (is_violated_by c.args.assertion h) (ids t)) stand.table));
+      ap (map Some)
+      (sym (violating-is c.args.assertion h stand.refers stand.ordered (subst IdsRise (sym stand.table) c.cells-all.ensures.sound.ids)
+      ∙ ap (λ (t : Table). filter (is_violated_by c.args.assertion h) (ids t)) stand.table));
   few = omega arith;
 })
 
+module _ (g : given.Over) (c : After-nth_cell-cell g) where
+  -- the object in the cell is the one with this number, by id
+  nth : (id : ℕ) × (id_in c.args.table.now c.nth_cell-cell.result ≡ Some id) × (slice_get (ids c.args.table.now.table) c.loop-number.number ≡ Some id)
+  nth =
+      nth_id c.args.table.now c.loop-number.number c.nth_cell-cell.result c.live-number-end.result c.nth_cell-cell.ensures.cell c.loop-number-test.true
+      c.live-number-end.ensures.count
+
+  within : c.nth_cell-cell.result < length c.args.table.now.cells
+  within = held-within c.args.table.now c.nth_cell-cell.result nth.0 nth.1
+
 pub is_violated-requires-clause-roles : goal.is_violated-requires-clause-roles
 is_violated-requires-clause-roles g c =
-    let (id, held, at) = nth_id c.args.table.now c.loop-number.number c.nth_cell-cell.result c.live-number-end.result c.nth_cell-cell.ensures.cell c.loop-number-test.true c.live-number-end.ensures.count in
-    let within = held-within c.args.table.now c.nth_cell-cell.result id held in
-    omega (arith, within, c.requires.roles.many_cells)
+    omega (arith, within g (goal.at.is_violated-requires-clause-roles g c).After-nth_cell-cell, c.requires.roles.many_cells)
 
 pub is_violated-requires-clause-kept : goal.is_violated-requires-clause-kept
 is_violated-requires-clause-kept g c =
-    let (id, held, at) = nth_id c.args.table.now c.loop-number.number c.nth_cell-cell.result c.live-number-end.result c.nth_cell-cell.ensures.cell c.loop-number-test.true c.live-number-end.ensures.count in
-    let within = held-within c.args.table.now c.nth_cell-cell.result id held in
-    let trace = c.requires.counts.2 in
-    omega (arith, within, trace.each)
+    omega (arith, within g (goal.at.is_violated-requires-clause-kept g c).After-nth_cell-cell, c.requires.counts.2.each)
 
 pub is_violated-requires-clause-words : goal.is_violated-requires-clause-words
 is_violated-requires-clause-words g c =
-    let (id, held, at) = nth_id c.args.table.now c.loop-number.number c.nth_cell-cell.result c.live-number-end.result c.nth_cell-cell.ensures.cell c.loop-number-test.true c.live-number-end.ensures.count in
-    let within = held-within c.args.table.now c.nth_cell-cell.result id held in
-    let trace = c.requires.counts.2 in
-    omega (arith, within, trace.cells)
+    omega (arith, within g (goal.at.is_violated-requires-clause-words g c).After-nth_cell-cell, c.requires.counts.2.cells)
 
 pub loop-number-preserved : goal.loop-number-preserved
 loop-number-preserved g c =
+    let (id, held, at) = nth g (goal.at.loop-number-preserved g c).After-nth_cell-cell in
     elim c.if-is_violated.branch [
       | then-is_violated+in_ok-push w ↦ rw (w.cells-is, w.in_ok-push.ensures.items) (record {
         gathered = λ h stand trace.
-            let (id, held, at) = nth_id c.args.table.now c.loop-number.number c.nth_cell-cell.result c.live-number-end.result c.nth_cell-cell.ensures.cell c.loop-number-test.true c.live-number-end.ensures.count in
-            let passes : is_violated_by c.args.assertion h id ≡ true = sym (violated-agrees c.args.table.now c.args.roles.now (g.T.HeapCounts.counts c.args.traced.now) h stand trace c.args.assertion c.nth_cell-cell.result id held) ∙ sym c.is_violated.ensures ∙ w.if-is_violated.true in
-            gather_one (id_in c.args.table.now) (is_violated_by c.args.assertion h) (map Some (violating c.args.assertion h)) (ids c.args.table.now.table) c.loop-number.cells.items c.loop-number.number c.nth_cell-cell.result id at held passes (c.loop-number.invariant.gathered h stand trace);
+            let passes : is_violated_by c.args.assertion h id ≡ true =
+            sym (violated-agrees c.args.table.now c.args.roles.now (g.T.HeapCounts.counts c.args.traced.now) h stand trace c.args.assertion c.nth_cell-cell.result id held)
+            ∙ sym c.is_violated.ensures ∙ w.if-is_violated.true in
+            gather_one (id_in c.args.table.now) (is_violated_by c.args.assertion h) (map Some (violating c.args.assertion h))
+            (ids c.args.table.now.table) c.loop-number.cells.items c.loop-number.number c.nth_cell-cell.result id at held passes
+            (c.loop-number.invariant.gathered h stand trace);
         few = omega (arith, c.loop-number.invariant.few, length-append c.loop-number.cells.items (c.nth_cell-cell.result ∷ []));
       })
       | else-is_violated w ↦ rw w.cells-is (record {
         gathered = λ h stand trace.
-            let (id, held, at) = nth_id c.args.table.now c.loop-number.number c.nth_cell-cell.result c.live-number-end.result c.nth_cell-cell.ensures.cell c.loop-number-test.true c.live-number-end.ensures.count in
-            let fails : is_violated_by c.args.assertion h id ≡ false = sym (violated-agrees c.args.table.now c.args.roles.now (g.T.HeapCounts.counts c.args.traced.now) h stand trace c.args.assertion c.nth_cell-cell.result id held) ∙ sym c.is_violated.ensures ∙ w.if-is_violated.false in
-            pass_one (id_in c.args.table.now) (is_violated_by c.args.assertion h) (map Some (violating c.args.assertion h)) (ids c.args.table.now.table) c.loop-number.cells.items c.loop-number.number id at fails (c.loop-number.invariant.gathered h stand trace);
+            let fails : is_violated_by c.args.assertion h id ≡ false =
+            sym (violated-agrees c.args.table.now c.args.roles.now (g.T.HeapCounts.counts c.args.traced.now) h stand trace c.args.assertion c.nth_cell-cell.result id held)
+            ∙ sym c.is_violated.ensures ∙ w.if-is_violated.false in
+            pass_one (id_in c.args.table.now) (is_violated_by c.args.assertion h) (map Some (violating c.args.assertion h))
+            (ids c.args.table.now.table) c.loop-number.cells.items c.loop-number.number id at fails (c.loop-number.invariant.gathered h stand trace);
         few = omega (arith, c.loop-number.invariant.few);
       })
     ]
