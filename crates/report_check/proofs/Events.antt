@@ -14,7 +14,8 @@ use Rattle.audit_program.specs.Audits.{AuditState, audit_meaning, behind_next, n
 use Rattle.audit_program.proofs.Effects.{takes-applied, takes-due, takes-refused}
 
 -- a collection, where the run doesn't halt behind it
-pub collect-due : (s s' : AuditState) (e : Event) (text : Vec ℕ Global) → meant.halts s.rules.react (next_of s ∷ []) ≡ false → e ≡ Collect → text.items ≡ collection_text (next_of s) → s' ≡ behind_next s → audit_meaning.takes s e ≡ goes_on text.items s'
+pub collect-due : (s s' : AuditState) (e : Event) (text : Vec ℕ Global) → meant.halts s.rules.react (next_of s ∷ []) ≡ false → e ≡ Collect →
+    text.items ≡ collection_text (next_of s) → s' ≡ behind_next s → audit_meaning.takes s e ≡ goes_on text.items s'
 collect-due s s' e text on is text_is after =
     ap (audit_meaning.takes s) is ∙ takes-due s (Ok (GoesOn text)) (on, text_is) ∙ ap (goes_on text.items) (sym after)
 

@@ -13,7 +13,8 @@ keeps-same None = tt
 keeps-same (Some bytes) = refl
 
 -- a check whose comparison was written
-pub written-checked : (paths : ℕ) (old new : World) (compared : Compared) (answer : Status) → TellsOfReports paths old.trace.bytes old.report.bytes compared → Writes compared old.sink new.sink answer → IsChecked paths old new answer
+pub written-checked : (paths : ℕ) (old new : World) (compared : Compared) (answer : Status) →
+    TellsOfReports paths old.trace.bytes old.report.bytes compared → Writes compared old.sink new.sink answer → IsChecked paths old new answer
 written-checked paths old new Equal Clean tells writes = ⊎_elim (λ whole. (tells, whole.1)) (λ part. absurd (let e = part.0 in cc)) writes
 written-checked paths old new (Differs n) Clean tells writes = ⊎_elim (λ whole. absurd (let e = whole.0 in cc)) (λ part. absurd (let e = part.0 in cc)) writes
 written-checked paths old new Equal Violated tells writes = ⊎_elim (λ whole. absurd (let e = whole.0 in cc)) (λ part. absurd (let e = part.0 in cc)) writes

@@ -9,7 +9,7 @@ ghost use Rattle.trace_reader.specs.Cutter.{fresh_cutter};
 ghost use Rattle.text_comparison.specs.Comparing.{fresh_comparison};
 
 use crate::checking::Checking;
-use crate::line::{Flow, compare_end, compare_fault, compare_line};
+use crate::line::{Check, Flow};
 use crate::outcome::CheckError;
 use graph_meaning::Refusal;
 use heap_base::{LONGEST_TRACE, Source};
@@ -28,50 +28,49 @@ pub(crate) fn compare_reports<A: Source, B: Source>(
     ensures tells { IfOk result (TellsOfReports paths (A.left trace.old) (B.left report.old)) }
     ensures cause { result ≡ Err ReadFault → Rose (A.faults trace.old) (A.faults trace.new) ⊎ Rose (B.faults report.old) (B.faults report.new) }
 {
-    let mut cutter = LineCutter::make(alloc, LONGEST_TRACE)?;
-    let mut comparison = Comparison::make(alloc)?;
-    let mut checking = Checking::make(alloc, paths)?;
-    compare_lines(&mut checking, &mut cutter, &mut comparison, trace, report)
+    let cutter = LineCutter::make(alloc, LONGEST_TRACE)?;
+    let comparison = Comparison::make(alloc)?;
+    let checking = Checking::make(alloc, paths)?;
+    let mut check = Check {
+        cutter,
+        checking,
+        comparison,
+    };
+    compare_lines(&mut check, trace, report)
 }
 
 // Runs the trace line by line.
 fn compare_lines<A: Source, B: Source>(
-    checking: &mut Checking,
-    cutter: &mut LineCutter,
-    comparison: &mut Comparison,
+    check: &mut Check,
     trace: &mut A,
     report: &mut B,
 ) -> Result<Compared, CheckError>
-    requires cutter { cutter.old ≡ fresh_cutter LONGEST_TRACE }
-    requires comparison { comparison.old ≡ fresh_comparison }
-    requires none { checking.old.collections ≡ 0 }
-    ensures tells { IfOk result (TellsOfRun (state_in checking.old) (A.left trace.old) (B.left report.old)) }
+    requires cutter { check.old.cutter ≡ fresh_cutter LONGEST_TRACE }
+    requires comparison { check.old.comparison ≡ fresh_comparison }
+    requires none { check.old.checking.collections ≡ 0 }
+    ensures tells { IfOk result (TellsOfRun (state_in check.old.checking) (A.left trace.old) (B.left report.old)) }
     ensures cause { result ≡ Err ReadFault → Rose (A.faults trace.old) (A.faults trace.new) ⊎ Rose (B.faults report.old) (B.faults report.new) }
 {
     let mut lines = 0;
     'trace: loop {
-        match cutter.next(trace) {
+        match check.cutter.next(trace) {
             Ok(Some(number)) => {
-                match compare_line(checking, cutter.line(), number, comparison, report) {
+                match check.compare_line(number, report) {
                     Ok(Flow::GoesOn) => lines = number,
                     Ok(Flow::Ends(compared)) => return Ok(compared),
                     Err(error) => return Err(error),
                 }
             }
-            Ok(None) => return compare_end(checking, comparison, report),
+            Ok(None) => return check.compare_end(report),
             Err(CutError::ReadFault) => return Err(CheckError::ReadFault),
-            Err(CutError::LineTooLong) => return compare_fault(
-                checking.alloc,
+            Err(CutError::LineTooLong) => return check.compare_fault(
                 lines + 1,
                 Refusal::LineTooLong,
-                comparison,
                 report,
             ),
-            Err(CutError::TraceTooLong) => return compare_fault(
-                checking.alloc,
+            Err(CutError::TraceTooLong) => return check.compare_fault(
                 lines + 1,
                 Refusal::TraceTooLong,
-                comparison,
                 report,
             ),
         }

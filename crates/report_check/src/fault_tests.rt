@@ -32,6 +32,8 @@ const OTHER_REPORT: &[u8] = b"gc 1 live 5 traced 5 freed 1\nend gcs 1 violations
 
 const WORDS: &[&str] = &["gccheck", "trace.jsonl", "report.txt"];
 
+const TOO_FEW_WORDS: &[&str] = &["gccheck", "trace.jsonl"];
+
 /// A device that counts the calls that were made of it, and those that failed.
 #[derive(Drop)]
 struct Counted<D> {
@@ -98,15 +100,14 @@ struct Checked {
     failed: [u64; 3],
 }
 
-/// Checks a report, with reads of 97 and 13 bytes and writes of 5.
+/// Checks a report on the trace, with reads of 97 and 13 bytes and writes of 5.
 fn check(
     alloc: Global,
     words: &[&str],
-    trace: &[u8],
     report: &[u8],
     faults: &Faults<'_>,
 ) -> Result<Checked, OutOfMemory> {
-    let mut trace = Counted::over(MemSource::make(alloc, trace, 97, faults.trace)?);
+    let mut trace = Counted::over(MemSource::make(alloc, TRACE, 97, faults.trace)?);
     let mut report = Counted::over(MemSource::make(alloc, report, 13, faults.report)?);
     let mut sink = Counted::over(MemSink::make(alloc, 64, 5, faults.sink)?);
     let status = check_run(alloc, words, &mut trace, &mut report, &mut sink);
@@ -132,11 +133,11 @@ const NO_FAULTS: Faults<'static> = Faults {
 
 #[test]
 fn no_call_fails(rt: HostRuntime) -> Result<(), Fail> {
-    let seen = check(rt.alloc(), WORDS, TRACE, REPORT, &NO_FAULTS)?;
+    let seen = check(rt.alloc(), WORDS, REPORT, &NO_FAULTS)?;
     expect(&rt, &seen, Status::Clean, "report equal\n");
     assert_eq!(rt; seen.calls, [7, 5, 3]);
     assert_eq!(rt; seen.failed, [0, 0, 0]);
-    let seen = check(rt.alloc(), WORDS, TRACE, OTHER_REPORT, &NO_FAULTS)?;
+    let seen = check(rt.alloc(), WORDS, OTHER_REPORT, &NO_FAULTS)?;
     expect(&rt, &seen, Status::Violated, "report differs at byte 28\n");
     // neither is read on behind the collection's text
     assert_eq!(rt; seen.calls, [6, 3, 6]);
@@ -144,33 +145,31 @@ fn no_call_fails(rt: HostRuntime) -> Result<(), Fail> {
     Ok(())
 }
 
-/// Nothing is written, and the trace is read no more.
+/// Checks the equal report, where these reads fail of the trace, and these of the report.
+fn check_reads<'a>(
+    alloc: Global,
+    trace: &'a [u64],
+    report: &'a [u64],
+) -> Result<Checked, OutOfMemory> {
+    let faults = Faults {
+        trace,
+        report,
+        ..NO_FAULTS
+    };
+    check(alloc, WORDS, REPORT, &faults)
+}
+
+/// Nothing is written, and what failed is read no more.
 #[test]
-fn each_read_of_the_trace_fails_in_turn(rt: HostRuntime) -> Result<(), Fail> {
+fn each_read_fails_in_turn(rt: HostRuntime) -> Result<(), Fail> {
     for read in 1..=7 {
-        let fails = [read];
-        let faults = Faults {
-            trace: &fails,
-            ..NO_FAULTS
-        };
-        let seen = check(rt.alloc(), WORDS, TRACE, REPORT, &faults)?;
+        let seen = check_reads(rt.alloc(), &[read], &[])?;
         expect(&rt, &seen, Status::ReadFault, "");
         assert_eq!(rt; seen.calls[0], read);
         assert_eq!(rt; seen.failed, [1, 0, 0]);
     }
-    Ok(())
-}
-
-/// Nothing is written, and the report is read no more.
-#[test]
-fn each_read_of_the_report_fails_in_turn(rt: HostRuntime) -> Result<(), Fail> {
     for read in 1..=5 {
-        let fails = [read];
-        let faults = Faults {
-            report: &fails,
-            ..NO_FAULTS
-        };
-        let seen = check(rt.alloc(), WORDS, TRACE, REPORT, &faults)?;
+        let seen = check_reads(rt.alloc(), &[], &[read])?;
         expect(&rt, &seen, Status::ReadFault, "");
         assert_eq!(rt; seen.calls[1], read);
         assert_eq!(rt; seen.failed, [0, 1, 0]);
@@ -197,7 +196,7 @@ fn each_write_fails_in_turn(rt: HostRuntime) -> Result<(), Fail> {
             sink: &fails,
             ..NO_FAULTS
         };
-        let seen = check(rt.alloc(), WORDS, TRACE, report, &faults)?;
+        let seen = check(rt.alloc(), WORDS, report, &faults)?;
         expect(&rt, &seen, Status::WriteFault, written);
         assert_eq!(rt; seen.calls[2], write);
         assert_eq!(rt; seen.failed, [0, 0, 1]);
@@ -213,7 +212,7 @@ fn several_calls_fail(rt: HostRuntime) -> Result<(), Fail> {
         report: &[1],
         sink: &[1],
     };
-    let seen = check(rt.alloc(), WORDS, TRACE, REPORT, &all)?;
+    let seen = check(rt.alloc(), WORDS, REPORT, &all)?;
     expect(&rt, &seen, Status::ReadFault, "");
     assert_eq!(rt; seen.failed, [1, 0, 0]);
     let late = Faults {
@@ -221,16 +220,22 @@ fn several_calls_fail(rt: HostRuntime) -> Result<(), Fail> {
         report: &[4],
         ..NO_FAULTS
     };
-    let seen = check(rt.alloc(), WORDS, TRACE, OTHER_REPORT, &late)?;
+    let seen = check(rt.alloc(), WORDS, OTHER_REPORT, &late)?;
     expect(&rt, &seen, Status::Violated, "report differs at byte 28\n");
     assert_eq!(rt; seen.failed, [0, 0, 0]);
     Ok(())
 }
 
-/// Refused words leave both unread. The usage line has 32 bytes, so there are 7 writes.
+/// The first read of the trace and that of the report would fail.
+const UNREADABLE: Faults<'static> = Faults {
+    trace: &[1],
+    report: &[1],
+    ..NO_FAULTS
+};
+
+/// The usage line has 32 bytes, so there are 7 writes.
 #[test]
 fn each_write_of_the_usage_line_fails_in_turn(rt: HostRuntime) -> Result<(), Fail> {
-    let usage = "usage: gccheck TRACE REPORT [P]\n";
     for (write, written) in [
         (1, ""),
         (2, "usage"),
@@ -242,33 +247,21 @@ fn each_write_of_the_usage_line_fails_in_turn(rt: HostRuntime) -> Result<(), Fai
     ] {
         let fails = [write];
         let faults = Faults {
-            trace: &[1],
-            report: &[1],
             sink: &fails,
+            ..UNREADABLE
         };
-        let seen = check(
-            rt.alloc(),
-            &["gccheck", "trace.jsonl"],
-            TRACE,
-            REPORT,
-            &faults,
-        )?;
+        let seen = check(rt.alloc(), TOO_FEW_WORDS, REPORT, &faults)?;
         expect(&rt, &seen, Status::WriteFault, written);
         assert_eq!(rt; seen.calls, [0, 0, write]);
         assert_eq!(rt; seen.failed, [0, 0, 1]);
     }
-    let faults = Faults {
-        trace: &[1],
-        report: &[1],
-        ..NO_FAULTS
-    };
-    let seen = check(
-        rt.alloc(),
-        &["gccheck", "trace.jsonl"],
-        TRACE,
-        REPORT,
-        &faults,
-    )?;
+    Ok(())
+}
+
+#[test]
+fn refused_words_leave_both_unread(rt: HostRuntime) -> Result<(), Fail> {
+    let seen = check(rt.alloc(), TOO_FEW_WORDS, REPORT, &UNREADABLE)?;
+    let usage = "usage: gccheck TRACE REPORT [P]\n";
     expect(&rt, &seen, Status::Usage, usage);
     assert_eq!(rt; seen.calls, [0, 0, 7]);
     assert_eq!(rt; seen.failed, [0, 0, 0]);

@@ -17,8 +17,8 @@ use crate::outcome::CheckError;
 use graph_meaning::Refusal;
 use heap_base::Source;
 use report::fault_text;
-use std::alloc::Global;
 use text_comparison::{Compared, Comparison};
+use trace_reader::LineCutter;
 
 /// Whether a check goes on behind a line, or how the reports compare.
 #[derive(Drop)]
@@ -27,24 +27,58 @@ pub enum Flow {
     Ends(Compared),
 }
 
-/// Takes the line with this number, and compares what it makes due.
-pub(crate) fn compare_line<B: Source>(
-    checking: &mut Checking,
-    line: &[u8],
-    number: u64,
-    comparison: &mut Comparison,
-    report: &mut B,
-) -> Result<Flow, CheckError>
-    requires few { checking.old.collections < LONGEST_TRACE }
-    ensures compares { (start : Option (List ℕ)) (before : List ℕ) → IsEqualSoFar start (B.left report.old) comparison.old before →
-        IfOk result (ComparesLine (takes_item audit_meaning (state_in checking.old) (item_of_line line.now)) number (state_in checking.new) start (B.left report.new) comparison.new before) }
-    ensures few { checking.new.collections ≤ checking.old.collections + 1 }
-    ensures later { B.faults report.old ≤ B.faults report.new }
-    ensures cause { result ≡ Err ReadFault → Rose (B.faults report.old) (B.faults report.new) }
-{
-    match checking.take_line(line, number)? {
-        Due::GoesOn(text) => compare_text(&text, comparison, report),
-        Due::Ends(text) => Ok(Flow::Ends(comparison.take_last(report, &text)?)),
+/// The parts of a check: the cutter of its trace, the run, and the comparison of the texts that the run makes due.
+#[derive(Drop)]
+pub struct Check {
+    pub cutter: LineCutter,
+    pub checking: Checking,
+    pub comparison: Comparison,
+}
+
+impl Check {
+    /// Takes the line that was cut, which has this number, and compares what it makes due.
+    pub(crate) fn compare_line<B: Source>(
+        &mut self,
+        number: u64,
+        report: &mut B,
+    ) -> Result<Flow, CheckError>
+        requires few { self.old.checking.collections < LONGEST_TRACE }
+        ensures compares { (start : Option (List ℕ)) (before : List ℕ) → IsEqualSoFar start (B.left report.old) self.old.comparison before →
+            IfOk result (ComparesLine (takes_item audit_meaning (state_in self.old.checking) (item_of_line self.old.cutter.line)) number (state_in self.new.checking) start (B.left report.new) self.new.comparison before) }
+        ensures cutter { self.new.cutter ≡ self.old.cutter }
+        ensures few { self.new.checking.collections ≤ self.old.checking.collections + 1 }
+        ensures later { B.faults report.old ≤ B.faults report.new }
+        ensures cause { result ≡ Err ReadFault → Rose (B.faults report.old) (B.faults report.new) }
+    {
+        match self.checking.take_line(self.cutter.line(), number)? {
+            Due::GoesOn(text) => compare_text(&text, &mut self.comparison, report),
+            Due::Ends(text) => Ok(Flow::Ends(self.comparison.take_last(report, &text)?)),
+        }
+    }
+
+    /// Compares the last text, where the trace ends.
+    pub(crate) fn compare_end<B: Source>(&mut self, report: &mut B) -> Result<Compared, CheckError>
+        ensures tells { (start : Option (List ℕ)) (before : List ℕ) → IsEqualSoFar start (B.left report.old) self.old.comparison before →
+            IfOk result (Tells start (before ++ (end_of (state_in self.old.checking).totals).text)) }
+        ensures cause { result ≡ Err ReadFault → Rose (B.faults report.old) (B.faults report.new) }
+    {
+        let text = self.checking.end_text()?;
+        Ok(self.comparison.take_last(report, &text)?)
+    }
+
+    /// Compares the last text, where the line with this number is refused.
+    pub(crate) fn compare_fault<B: Source>(
+        &mut self,
+        line: u64,
+        refusal: Refusal,
+        report: &mut B,
+    ) -> Result<Compared, CheckError>
+        ensures tells { (start : Option (List ℕ)) (before : List ℕ) → IsEqualSoFar start (B.left report.old) self.old.comparison before →
+            IfOk result (Tells start (before ++ fault_text line refusal)) }
+        ensures cause { result ≡ Err ReadFault → Rose (B.faults report.old) (B.faults report.new) }
+    {
+        let text = fault_text(self.checking.alloc, line, &refusal)?;
+        Ok(self.comparison.take_last(report, &text)?)
     }
 }
 
@@ -63,34 +97,4 @@ fn compare_text<B: Source>(
         Compared::Equal => Ok(Flow::GoesOn),
         differs => Ok(Flow::Ends(differs)),
     }
-}
-
-/// Compares the last text, where the trace ends.
-pub(crate) fn compare_end<B: Source>(
-    checking: &Checking,
-    comparison: &mut Comparison,
-    report: &mut B,
-) -> Result<Compared, CheckError>
-    ensures tells { (start : Option (List ℕ)) (before : List ℕ) → IsEqualSoFar start (B.left report.old) comparison.old before →
-        IfOk result (Tells start (before ++ (end_of (state_in checking.now).totals).text)) }
-    ensures cause { result ≡ Err ReadFault → Rose (B.faults report.old) (B.faults report.new) }
-{
-    let text = checking.end_text()?;
-    Ok(comparison.take_last(report, &text)?)
-}
-
-/// Compares the last text, where the line with this number is refused.
-pub(crate) fn compare_fault<B: Source>(
-    alloc: Global,
-    line: u64,
-    refusal: Refusal,
-    comparison: &mut Comparison,
-    report: &mut B,
-) -> Result<Compared, CheckError>
-    ensures tells { (start : Option (List ℕ)) (before : List ℕ) → IsEqualSoFar start (B.left report.old) comparison.old before →
-        IfOk result (Tells start (before ++ fault_text line refusal)) }
-    ensures cause { result ≡ Err ReadFault → Rose (B.faults report.old) (B.faults report.new) }
-{
-    let text = fault_text(alloc, line, &refusal)?;
-    Ok(comparison.take_last(report, &text)?)
 }
