@@ -1,5 +1,6 @@
 -- What has been read stays within bounds, whatever lines are taken.
-use Rattle.std.proofs.Common.{◌≡◌, ℕ, ◌+◌, ◌-◌, ◌<◌, ◌≤◌, ◌&&◌, ◌||◌, true, Bool, cond, ltb, leb, List, [], ◌∷◌, ◌++◌, length, Option, None, Some, replicate, sym, refl, ap, ◌∙◌, subst, arith, All, AllPairs, length-append, append-nil, rules}
+use Rattle.std.proofs.Common.{◌≡◌, ℕ, ◌+◌, ◌-◌, ◌<◌, ◌≤◌, ◌&&◌, ◌||◌, true, Bool, cond, ltb, leb, List, [], ◌∷◌, ◌++◌, length, Option, None, Some}
+use Rattle.std.proofs.Common.{replicate, sym, refl, ap, ◌∙◌, subst, arith, All, AllPairs, length-append, append-nil, rules}
 use Rattle.std.proofs.lemmas.Bool.{false≢true, ltb-true, leb-true, and_parts}
 use Rattle.std.proofs.lemmas.Option.{cond_some, none-some}
 use Rattle.std.proofs.lemmas.List.{map-append, length-replicate}
@@ -12,7 +13,9 @@ use Rattle.snapshot_text.specs.declared.line.Line.{Line}
 use Rattle.snapshot_text.specs.declared.line.Line.TheVariants.{Head, Object, Slot, Root, End}
 use Rattle.snapshot_text.specs.declared.stage.Stage.{Stage}
 use Rattle.snapshot_text.specs.declared.stage.Stage.TheVariants.{Empty, Begun, InObject, InRoots, Ended}
-use Rattle.snapshot_text.specs.Table.{Reading, nothing_read, whole_object, open_objects, objects_read, may_add, with_object, may_fill, with_slot, take_slot, may_root, with_root, ended, is_empty, is_before_roots, is_under_way, is_ended, take_line, take_said}
+use Rattle.snapshot_text.specs.Table.{Reading, nothing_read, whole_object, open_objects, objects_read, may_add, with_object, may_fill, with_slot}
+use Rattle.snapshot_text.specs.Table.{take_slot, may_root, with_root, ended, is_empty, is_before_roots, is_under_way, is_ended, take_line}
+use Rattle.snapshot_text.specs.Table.{take_said}
 use Rattle.snapshot_text.specs.Dangling.{object_ids}
 use Rattle.snapshot_text.specs.Bounds.{IsWithin, IsBounded}
 
@@ -47,7 +50,9 @@ taken_where condition r s is = cond_some condition r s is
 object_bounded : (r : Reading) (id slots : ℕ) (kind : List ℕ) → may_add r id slots kind ≡ true → IsBounded r → IsBounded (with_object r id slots kind)
 unfolding may_add
 object_bounded r id slots kind may is =
-    let a = and_parts (is_before_roots r.stage && ltb r.greatest id && ltb (length (objects_read r)) MOST_OBJECTS && leb (r.slots + slots) MOST_SLOTS) (is_seen r.kinds kind || ltb (length r.kinds) MOST_KINDS) may in
+    let a =
+    and_parts (is_before_roots r.stage && ltb r.greatest id && ltb (length (objects_read r)) MOST_OBJECTS && leb (r.slots + slots) MOST_SLOTS)
+    (is_seen r.kinds kind || ltb (length r.kinds) MOST_KINDS) may in
     let b = and_parts (is_before_roots r.stage && ltb r.greatest id && ltb (length (objects_read r)) MOST_OBJECTS) (leb (r.slots + slots) MOST_SLOTS) a.0 in
     let c = and_parts (is_before_roots r.stage && ltb r.greatest id) (ltb (length (objects_read r)) MOST_OBJECTS) b.0 in
     let d = and_parts (is_before_roots r.stage) (ltb r.greatest id) c.0 in
@@ -63,7 +68,10 @@ object_bounded r id slots kind may is =
       few_slots = room;
       few_roots = is.few_roots;
       rising = subst (AllPairs (λ x y. x < y)) (sym ids) (all_pairs_push (λ x y. x < y) (object_ids (objects_read r)) id is.rising (λ k d within. let low = is.within k d within in omega arith));
-      within = subst (All (λ x. x ≤ id)) (sym ids) (All-push (λ x. x ≤ id) (object_ids (objects_read r)) id (All-weaker (λ x. x ≤ r.greatest) (λ x. x ≤ id) (λ x low. omega arith) (object_ids (objects_read r)) is.within) (omega arith));
+      within =
+          subst (All (λ x. x ≤ id)) (sym ids)
+          (All-push (λ x. x ≤ id) (object_ids (objects_read r)) id
+          (All-weaker (λ x. x ≤ r.greatest) (λ x. x ≤ id) (λ x low. omega arith) (object_ids (objects_read r)) is.within) (omega arith));
     }
 
 slot_bounded : (r : Reading) (slot to : ℕ) (stage : Stage) (s : Reading) → r.stage ≡ stage → take_slot r slot to stage ≡ Some s → IsBounded r → IsBounded s
@@ -75,7 +83,12 @@ slot_bounded r slot to (InObject o) s at taken is =
     let below : slot < o.slots = ltb-true slot o.slots may.0 in
     let above : length o.filled ≤ slot = leb-true (length o.filled) slot may.1 in
     let count : length ((o.filled ++ replicate (slot - length o.filled) None) ++ Some to ∷ []) ≡ slot + 1 =
-    omega (arith, length-append (o.filled ++ replicate (slot - length o.filled) None) (Some to ∷ []), length-append o.filled (replicate (slot - length o.filled) None), length-replicate {A = Option ℕ} (slot - length o.filled) None) in
+    omega (
+      arith,
+      length-append (o.filled ++ replicate (slot - length o.filled) None) (Some to ∷ []),
+      length-append o.filled (replicate (slot - length o.filled) None),
+      length-replicate {A = Option ℕ} (slot - length o.filled) None,
+    ) in
     let same : object_ids (objects_read r) ≡ object_ids (r.objects ++ whole_object o ∷ []) = ap (λ (t : Stage). object_ids (r.objects ++ open_objects t)) at in
     let now : object_ids (r.objects ++ whole_object (with_slot o slot to) ∷ []) ≡ object_ids (r.objects ++ whole_object o ∷ []) =
     map-append (λ (o : ObjectView). o.id) r.objects (whole_object (with_slot o slot to) ∷ []) ∙ sym (map-append (λ (o : ObjectView). o.id) r.objects (whole_object o ∷ [])) in
@@ -96,7 +109,8 @@ may_root-few r name may = ltb-true (length r.roots) MOST_ROOTS (and_parts _ _ ma
 
 head_bounded : (r : Reading) (stage : Stage) → r.stage ≡ stage → is_empty stage ≡ true → IsBounded r → IsBounded (record r { stage = Begun })
 head_bounded r Empty at empty is =
-    keeps_objects r (record r { stage = Begun }) is (ap (λ (t : Stage). object_ids (r.objects ++ open_objects t)) (sym at)) (ap (λ (t : Stage). length (r.objects ++ open_objects t)) (sym at)) refl refl is.few_roots tt
+    keeps_objects r (record r { stage = Begun }) is (ap (λ (t : Stage). object_ids (r.objects ++ open_objects t)) (sym at))
+    (ap (λ (t : Stage). length (r.objects ++ open_objects t)) (sym at)) refl refl is.few_roots tt
 head_bounded r Begun at empty is = absurd (false≢true empty)
 head_bounded r (InObject o) at empty is = absurd (false≢true empty)
 head_bounded r InRoots at empty is = absurd (false≢true empty)

@@ -1,5 +1,7 @@
 -- Where a search for references to objects that aren't there goes on.
-use Rattle.std.proofs.Common.{◌≡◌, ℕ, ◌+◌, ◌<◌, ◌≤◌, eqb, true, false, List, [], ◌∷◌, ◌++◌, length, take, drop, get_or, map, Option, None, Some, Result, Ok, Err, sym, refl, ap, ◌∙◌, subst, arith, add-one, append_assoc, drop-cons, slice_get, AllPairs, MatchResult, IfOk, suc, inl, inr, ⊎_elim, ◌⊎◌}
+use Rattle.std.proofs.Common.{◌≡◌, ℕ, ◌+◌, ◌<◌, ◌≤◌, eqb, true, false, List, [], ◌∷◌, ◌++◌, length, take, drop, get_or, map, Option, None, Some}
+use Rattle.std.proofs.Common.{Result, Ok, Err, sym, refl, ap, ◌∙◌, subst, arith, add-one, append_assoc, drop-cons, slice_get, AllPairs, MatchResult}
+use Rattle.std.proofs.Common.{IfOk, suc, inl, inr, ⊎_elim, ◌⊎◌}
 use Rattle.std.specs.Bool.{⊤}
 use Rattle.std.specs.List.{flat_map}
 use Rattle.std.specs.Ordering.{nat_cmp}
@@ -110,7 +112,8 @@ in_view ids v =
     dangling-nothing ids 1 Head (lines_within v.objects v.roots ++ End ∷ []) refl
     ∙ ap (dangling_from ids 2) (append_assoc (flat_map object_lines v.objects) (map root_line v.roots) (End ∷ []))
 
-pub finds_in_roots : (ids : List ℕ) (v : HeapView) (line : ℕ) (r : Result ⊤ DanglingReference) → ((rest : List Line) → dangling_from ids 2 (flat_map object_lines v.objects ++ rest) ≡ dangling_from ids line rest)
+pub finds_in_roots : (ids : List ℕ) (v : HeapView) (line : ℕ) (r : Result ⊤ DanglingReference) →
+    ((rest : List Line) → dangling_from ids 2 (flat_map object_lines v.objects ++ rest) ≡ dangling_from ids line rest)
     → Finds r (dangling_from ids line (map root_line v.roots ++ End ∷ [])) → Finds r (dangling_from ids 1 (lines_of v))
 finds_in_roots ids v line (Ok all) passed found = in_view ids v ∙ passed (map root_line v.roots ++ End ∷ []) ∙ found
 finds_in_roots ids v line (Err d) passed found = in_view ids v ∙ passed (map root_line v.roots ++ End ∷ []) ∙ found

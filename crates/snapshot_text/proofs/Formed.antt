@@ -1,5 +1,6 @@
 -- A lawful view is well formed.
-use Rattle.std.proofs.Common.{◌≡◌, ℕ, ◌+◌, ◌-◌, ◌≤◌, Bool, true, false, IsTrue, cond, List, [], ◌∷◌, ◌++◌, length, map, replicate, Option, None, Some, IfSome, Result, Ok, All, sym, refl, ap, ◌∙◌, subst, arith, append-nil, length-append, slice_get, suc}
+use Rattle.std.proofs.Common.{◌≡◌, ℕ, ◌+◌, ◌-◌, ◌≤◌, Bool, true, false, IsTrue, cond, List, [], ◌∷◌, ◌++◌, length, map, replicate, Option, None}
+use Rattle.std.proofs.Common.{Some, IfSome, Result, Ok, All, sym, refl, ap, ◌∙◌, subst, arith, append-nil, length-append, slice_get, suc}
 use Rattle.std.specs.Prelude.{sum_by}
 use Rattle.std.specs.List.{flat_map}
 use Rattle.std.specs.List.Sorted.{IsStrictlySortedBy}
@@ -28,7 +29,8 @@ use Rattle.snapshot_text.specs.Bounds.{IsWithin, IsBounded}
 use Rattle.snapshot_text.specs.Dangling.{object_ids, target_in, dangling_at, dangling_from, first_of, first_dangling}
 use Rattle.snapshot_text.specs.Formed.{IsWellFormed, LawfulIsWellFormed, kinds_of}
 use Rattle.snapshot_text.specs.Reading.{Refusal, unless_dangling, view_read}
-use Rattle.snapshot_text.specs.Table.{Reading, nothing_read, whole_object, open_objects, objects_read, is_empty, is_ended, is_under_way, may_add, with_object, may_fill, with_slot, take_slot, last_name, may_root, with_root, ended, take_line}
+use Rattle.snapshot_text.specs.Table.{Reading, nothing_read, whole_object, open_objects, objects_read, is_empty, is_ended, is_under_way, may_add}
+use Rattle.snapshot_text.specs.Table.{with_object, may_fill, with_slot, take_slot, last_name, may_root, with_root, ended, take_line}
 use Rattle.snapshot_text.specs.Text.{lines_of, lines_within, object_lines, slot_lines, root_line}
 use Rattle.snapshot_text.proofs.Bounded.{bounded_nothing, bounded_more, ended_objects, ended_few, ended_rising}
 use Rattle.snapshot_text.proofs.Legal.{Legal, IsLegalObject, legal_nothing, legal_more}
@@ -97,17 +99,23 @@ last_more r q roots =
     ∙ sym (ap (λ i. option_map_or (λ (e : List ℕ × ℕ). e.0) (slice_get (q ∷ roots) i) []) later)
 
 -- a name above the last
-sorted_more : (roots : List (List ℕ × ℕ)) (name : List ℕ) → IsStrictlySortedBy name_cmp (keys_of roots) → is_lt (name_cmp (last_name roots) name) ≡ true → IsStrictlySortedBy name_cmp (keys_of roots ++ name ∷ []) × All (λ y. name_cmp y name ≡ Less) (keys_of roots)
+sorted_more : (roots : List (List ℕ × ℕ)) (name : List ℕ) → IsStrictlySortedBy name_cmp (keys_of roots) →
+    is_lt (name_cmp (last_name roots) name) ≡ true →
+    IsStrictlySortedBy name_cmp (keys_of roots ++ name ∷ []) × All (λ y. name_cmp y name ≡ Less) (keys_of roots)
 sorted_more [] name sorted above = (sorted_cons name [] (All-nil _) sorted_nil, All-nil _)
 sorted_more (r ∷ []) name sorted above =
-    let less : name_cmp r.0 name ≡ Less = less_from (name_cmp r.0 name) above in
-    (sorted_cons r.0 (name ∷ []) (All-cons (λ y. name_cmp r.0 y ≡ Less) name [] less (All-nil _)) (sorted_cons name [] (All-nil _) sorted_nil), All-cons (λ y. name_cmp y name ≡ Less) r.0 [] less (All-nil _))
+    let less : name_cmp r.0 name ≡ Less = less_from (name_cmp r.0 name) above in (
+      sorted_cons r.0 (name ∷ []) (All-cons (λ y. name_cmp r.0 y ≡ Less) name [] less (All-nil _)) (sorted_cons name [] (All-nil _) sorted_nil),
+      All-cons (λ y. name_cmp y name ≡ Less) r.0 [] less (All-nil _),
+    )
 sorted_more (r ∷ q ∷ roots) name sorted above =
     let later = sorted_more (q ∷ roots) name (sorted_tail name_cmp r.0 (keys_of (q ∷ roots)) sorted) (ap (λ (n : List ℕ). is_lt (name_cmp n name)) (sym (last_more r q roots)) ∙ above) in
     let first = below_all r.0 (keys_of (q ∷ roots)) sorted in
     let next : name_cmp q.0 name ≡ Less = All-head (λ y. name_cmp y name ≡ Less) q.0 (keys_of roots) later.1 in
-    let less : name_cmp r.0 name ≡ Less = nat_list_cmp_total.trans r.0 q.0 name (All-head (λ y. name_cmp r.0 y ≡ Less) q.0 (keys_of roots) first) next in
-    (sorted_cons r.0 (keys_of (q ∷ roots) ++ name ∷ []) (All-push (λ y. name_cmp r.0 y ≡ Less) (keys_of (q ∷ roots)) name first less) later.0, All-cons (λ y. name_cmp y name ≡ Less) r.0 (keys_of (q ∷ roots)) less later.1)
+    let less : name_cmp r.0 name ≡ Less = nat_list_cmp_total.trans r.0 q.0 name (All-head (λ y. name_cmp r.0 y ≡ Less) q.0 (keys_of roots) first) next in (
+      sorted_cons r.0 (keys_of (q ∷ roots) ++ name ∷ []) (All-push (λ y. name_cmp r.0 y ≡ Less) (keys_of (q ∷ roots)) name first less) later.0,
+      All-cons (λ y. name_cmp y name ≡ Less) r.0 (keys_of (q ∷ roots)) less later.1,
+    )
 
 -- ---- each line
 
@@ -118,7 +126,8 @@ empty_count (InObject o) is = absurd (false≢true is)
 empty_count InRoots is = absurd (false≢true is)
 empty_count Ended is = absurd (false≢true is)
 
-slot_keeps : (r : Reading) (slot to : ℕ) (stage : Stage) (s : Reading) → r.stage ≡ stage → take_slot r slot to stage ≡ Some s → r.slots ≡ slot_total r.objects + open_count r.stage → IsStrictlySortedBy name_cmp (keys_of r.roots)
+slot_keeps : (r : Reading) (slot to : ℕ) (stage : Stage) (s : Reading) → r.stage ≡ stage → take_slot r slot to stage ≡ Some s →
+    r.slots ≡ slot_total r.objects + open_count r.stage → IsStrictlySortedBy name_cmp (keys_of r.roots)
     → (s.slots ≡ slot_total s.objects + open_count s.stage) × IsStrictlySortedBy name_cmp (keys_of s.roots)
 slot_keeps r slot to Empty s at taken counted names = absurd (none-some s taken)
 slot_keeps r slot to Begun s at taken counted names = absurd (none-some s taken)

@@ -13,7 +13,8 @@ use Rattle.snapshot_text.specs.declared.line.Line.TheVariants.{Head, Object, Slo
 use Rattle.snapshot_text.specs.declared.stage.Stage.{Stage}
 use Rattle.snapshot_text.specs.declared.stage.Stage.TheVariants.{Empty, Begun, InObject, InRoots, Ended}
 use Rattle.snapshot_text.specs.Formed.{IsId, IsName, kinds_of}
-use Rattle.snapshot_text.specs.Table.{Reading, nothing_read, whole_object, open_objects, objects_read, is_empty, is_under_way, may_add, with_object, may_fill, with_slot, take_slot, may_root, with_root, ended, take_line}
+use Rattle.snapshot_text.specs.Table.{Reading, nothing_read, whole_object, open_objects, objects_read, is_empty, is_under_way, may_add, with_object}
+use Rattle.snapshot_text.specs.Table.{may_fill, with_slot, take_slot, may_root, with_root, ended, take_line}
 use Rattle.snapshot_text.proofs.Spoken.{HasNames, line_in-named}
 use Rattle.snapshot_text.proofs.Texts.{IsSaid}
 

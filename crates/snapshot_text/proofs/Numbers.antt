@@ -28,7 +28,8 @@ number_in-decimal n below =
     let value : digits_value 10 (decimal n) ≡ n = (decimal_is_IsNumeral n small).1 in
     let same : bytes_eq (decimal (digits_value 10 (decimal n))) (decimal n) ≡ true = (bytes_eq-Decides (decimal (digits_value 10 (decimal n))) (decimal n)).1 (ap decimal value) in
     let low : ltb (digits_value 10 (decimal n)) (2 ^ 32) ≡ true = lt-ltb (digits_value 10 (decimal n)) (2 ^ 32) (subst (λ k. k < 2 ^ 32) (sym value) below) in
-    cond-true (ltb (digits_value 10 (decimal n)) (2 ^ 32) && bytes_eq (decimal (digits_value 10 (decimal n))) (decimal n)) (Some (digits_value 10 (decimal n))) None (and_from _ _ low same) ∙ ap (λ k. Some k) value
+    cond-true (ltb (digits_value 10 (decimal n)) (2 ^ 32) && bytes_eq (decimal (digits_value 10 (decimal n))) (decimal n)) (Some (digits_value 10 (decimal n))) None (and_from _ _ low same)
+    ∙ ap (λ k. Some k) value
 
 -- what `parse` read, where that is written as the text is
 pub number_in-parsed : (text : List ℕ) (n : ℕ) → n < 2 ^ 32 → decimal n ≡ text → Some n ≡ number_in text

@@ -1,5 +1,6 @@
 -- The lines that were taken are the lines of the view.
-use Rattle.std.proofs.Common.{◌≡◌, ℕ, ◌+◌, ◌-◌, ◌≤◌, true, ltb, leb, List, [], ◌∷◌, ◌++◌, length, map, replicate, Option, None, Some, sym, refl, ap, ◌∙◌, subst, arith, append_assoc, append-nil, length-append, zero, suc}
+use Rattle.std.proofs.Common.{◌≡◌, ℕ, ◌+◌, ◌-◌, ◌≤◌, true, ltb, leb, List, [], ◌∷◌, ◌++◌, length, map, replicate, Option, None, Some, sym, refl, ap}
+use Rattle.std.proofs.Common.{◌∙◌, subst, arith, append_assoc, append-nil, length-append, zero, suc}
 use Rattle.std.proofs.lemmas.Bool.{false≢true, leb-true, ltb-true, and_parts}
 use Rattle.std.proofs.lemmas.Option.{cond_some, none-some}
 use Rattle.std.proofs.lemmas.List.{map-append, length-replicate}
@@ -12,7 +13,8 @@ use Rattle.snapshot_text.specs.declared.stage.OpenObject.{OpenObject}
 use Rattle.snapshot_text.specs.declared.stage.Stage.{Stage}
 use Rattle.snapshot_text.specs.declared.stage.Stage.TheVariants.{Empty, Begun, InObject, InRoots, Ended}
 use Rattle.snapshot_text.specs.Text.{slot_lines, object_lines, root_line, lines_within}
-use Rattle.snapshot_text.specs.Table.{Reading, whole_object, open_objects, objects_read, is_empty, is_before_roots, is_under_way, may_add, with_object, may_fill, with_slot, take_slot, may_root, with_root, ended, take_line}
+use Rattle.snapshot_text.specs.Table.{Reading, whole_object, open_objects, objects_read, is_empty, is_before_roots, is_under_way, may_add}
+use Rattle.snapshot_text.specs.Table.{with_object, may_fill, with_slot, take_slot, may_root, with_root, ended, take_line}
 use Rattle.snapshot_text.specs.Taken.{open_lines, AreLinesAt, AreLines}
 use Rattle.snapshot_text.proofs.Writing.{slot_lines-append}
 
@@ -23,14 +25,16 @@ empty_lines slot (suc n) = empty_lines (slot + 1) n
 
 whole_lines : (o : OpenObject) → length o.filled ≤ o.slots → object_lines (whole_object o) ≡ open_lines o
 whole_lines o within =
-    let count : length (o.filled ++ replicate (o.slots - length o.filled) None) ≡ o.slots = omega (arith, length-append o.filled (replicate (o.slots - length o.filled) None), length-replicate {A = Option ℕ} (o.slots - length o.filled) None) in
+    let count : length (o.filled ++ replicate (o.slots - length o.filled) None) ≡ o.slots =
+    omega (arith, length-append o.filled (replicate (o.slots - length o.filled) None), length-replicate {A = Option ℕ} (o.slots - length o.filled) None) in
     let slots : slot_lines 0 (o.filled ++ replicate (o.slots - length o.filled) None) ≡ slot_lines 0 o.filled =
     slot_lines-append 0 o.filled (replicate (o.slots - length o.filled) None)
     ∙ ap (λ (ls : List Line). slot_lines 0 o.filled ++ ls) (empty_lines (0 + length o.filled) (o.slots - length o.filled)) ∙ append-nil (slot_lines 0 o.filled) in
     ap (λ n. Object o.id n o.kind ∷ slot_lines 0 (o.filled ++ replicate (o.slots - length o.filled) None)) count ∙ ap (λ (ls : List Line). Object o.id o.slots o.kind ∷ ls) slots
 
 -- the same lines, where nothing is open any longer
-closed : (stage : Stage) (objects : List ObjectView) (roots : List (List ℕ × ℕ)) (lines : List Line) → is_under_way stage ≡ true → AreLinesAt stage objects roots lines → lines ≡ Head ∷ lines_within (objects ++ open_objects stage) roots
+closed : (stage : Stage) (objects : List ObjectView) (roots : List (List ℕ × ℕ)) (lines : List Line) → is_under_way stage ≡ true →
+    AreLinesAt stage objects roots lines → lines ≡ Head ∷ lines_within (objects ++ open_objects stage) roots
 closed Empty objects roots lines way are = absurd (false≢true way)
 closed Begun objects roots lines way are =
     are.0 ∙ sym (ap (λ (xs : List ObjectView). Head ∷ lines_within (xs ++ []) roots) are.1 ∙ ap (λ (rs : List (List ℕ × ℕ)). Head ∷ lines_within [] rs) are.2)
@@ -64,16 +68,20 @@ head_line r (InObject o) lines empty are = absurd (false≢true empty)
 head_line r InRoots lines empty are = absurd (false≢true empty)
 head_line r Ended lines empty are = absurd (false≢true empty)
 
-object_line : (r : Reading) (id slots : ℕ) (kind : List ℕ) (lines : List Line) → is_before_roots r.stage ≡ true → AreLines r lines → AreLines (with_object r id slots kind) (lines ++ Object id slots kind ∷ [])
+object_line : (r : Reading) (id slots : ℕ) (kind : List ℕ) (lines : List Line) → is_before_roots r.stage ≡ true → AreLines r lines →
+    AreLines (with_object r id slots kind) (lines ++ Object id slots kind ∷ [])
 object_line r id slots kind lines before are =
     let none = no_roots r.stage r.objects r.roots lines before are in
     let all = closed r.stage r.objects r.roots lines (under_way r.stage before) are in (
-      ap (λ (ls : List Line). ls ++ Object id slots kind ∷ []) (all ∙ ap (λ (rs : List (List ℕ × ℕ)). Head ∷ lines_within (objects_read r) rs) none ∙ ap (λ (ls : List Line). Head ∷ ls) (append-nil (flat_map object_lines (objects_read r)))),
+      ap (λ (ls : List Line). ls ++ Object id slots kind ∷ [])
+          (all ∙ ap (λ (rs : List (List ℕ × ℕ)). Head ∷ lines_within (objects_read r) rs) none
+          ∙ ap (λ (ls : List Line). Head ∷ ls) (append-nil (flat_map object_lines (objects_read r)))),
       omega arith,
       none,
     )
 
-slot_taken : (r : Reading) (slot to : ℕ) (stage : Stage) (s : Reading) (lines : List Line) → take_slot r slot to stage ≡ Some s → AreLinesAt stage r.objects r.roots lines → AreLines s (lines ++ Slot slot to ∷ [])
+slot_taken : (r : Reading) (slot to : ℕ) (stage : Stage) (s : Reading) (lines : List Line) → take_slot r slot to stage ≡ Some s →
+    AreLinesAt stage r.objects r.roots lines → AreLines s (lines ++ Slot slot to ∷ [])
 slot_taken r slot to Empty s lines taken are = absurd (none-some s taken)
 slot_taken r slot to Begun s lines taken are = absurd (none-some s taken)
 slot_taken r slot to (InObject o) s lines taken are =
@@ -92,7 +100,9 @@ slot_taken r slot to (InObject o) s lines taken are =
     let below = ltb-true slot o.slots may.0 in
     subst (λ (x : Reading). AreLines x (lines ++ Slot slot to ∷ [])) parts.1 (
       ap (λ (ls : List Line). ls ++ Slot slot to ∷ []) are.0
-          ∙ ap (λ (ls : List Line). Head ∷ ls) (append_assoc (flat_map object_lines r.objects) (open_lines o) (Slot slot to ∷ []) ∙ ap (λ (ls : List Line). flat_map object_lines r.objects ++ Object o.id o.slots o.kind ∷ ls) (sym grown)),
+          ∙ ap (λ (ls : List Line). Head ∷ ls)
+          (append_assoc (flat_map object_lines r.objects) (open_lines o) (Slot slot to ∷ [])
+          ∙ ap (λ (ls : List Line). flat_map object_lines r.objects ++ Object o.id o.slots o.kind ∷ ls) (sym grown)),
       omega (arith, below, count, length-append front (Some to ∷ [])),
       are.2,
     )

@@ -1,5 +1,6 @@
 -- A line that says something is written as that is written.
-use Rattle.std.proofs.Common.{◌≡◌, ℕ, ◌+◌, ◌<◌, ◌^◌, eqb, true, false, Bool, cond, ltb, IsTrue, IsUtf8, List, [], ◌∷◌, ◌++◌, length, drop, Option, None, Some, refl, ap, ◌∙◌, subst, arith, append_assoc, length-append, get_or, zero, suc}
+use Rattle.std.proofs.Common.{◌≡◌, ℕ, ◌+◌, ◌<◌, ◌^◌, eqb, true, false, Bool, cond, ltb, IsTrue, IsUtf8, List, [], ◌∷◌, ◌++◌, length, drop, Option}
+use Rattle.std.proofs.Common.{None, Some, refl, ap, ◌∙◌, subst, arith, append_assoc, length-append, get_or, zero, suc}
 use Rattle.std.specs.Bool.{⊤}
 use Rattle.std.specs.Prelude.{codes, decimal}
 use Rattle.std.specs.List.{position_or_len, before_first, after_first}
@@ -70,18 +71,45 @@ six a b c d e f = simp append_assoc
 four : (a b c d : List ℕ) → a ++ (b ++ (c ++ d)) ≡ a ++ b ++ c ++ d
 four a b c d = simp append_assoc
 
-object_in-is : (text : List ℕ) (l : Line) → object_in text ≡ Some l → codes "object " ++ text ≡ line_text l
+-- the parts of an object's line
+record ObjectParts (text : List ℕ) (l : Line) : Type 0 where
+  first : ℕ × List ℕ
+  second : ℕ × List ℕ
+  id : ℕ
+  kind : List ℕ
+  numbers : numbered text ≡ Some first
+  slots : numbered first.1 ≡ Some second
+  is_id : id_from first.0 ≡ Some id
+  is_kind : only_if is_name second.1 ≡ Some kind
+  line : Object id second.0 kind ≡ l
+
+object_parts : (text : List ℕ) (l : Line) → object_in text ≡ Some l → ObjectParts text l
 unfolding object_in
-object_in-is text l is =
+object_parts text l is =
     bind_some (numbered text) (λ first. numbered first.1 >>= (λ second. id_from first.0 >>= (λ id. only_if is_name second.1 >>= (λ kind. Some (Object id second.0 kind))))) l is (λ first a more.
     bind_some (numbered first.1) (λ second. id_from first.0 >>= (λ id. only_if is_name second.1 >>= (λ kind. Some (Object id second.0 kind)))) l more (λ second b more.
     bind_some (id_from first.0) (λ id. only_if is_name second.1 >>= (λ kind. Some (Object id second.0 kind))) l more (λ id c more.
-    bind_some (only_if is_name second.1) (λ kind. Some (Object id second.0 kind)) l more (λ kind d last.
-    ap (λ (t : List ℕ). codes "object " ++ t) (numbered-is text first a
-    ∙ ap (λ n. decimal n ++ (codes " " ++ first.1)) (id_from-is first.0 id c)
-    ∙ ap (λ (t : List ℕ). decimal id ++ (codes " " ++ t)) (numbered-is first.1 second b ∙ ap (λ (k : List ℕ). decimal second.0 ++ (codes " " ++ k)) (only_if-is second.1 kind d)))
-    ∙ six (codes "object ") (decimal id) (codes " ") (decimal second.0) (codes " ") kind
-    ∙ ap line_text (same_Some (Object id second.0 kind) l last)))))
+    bind_some (only_if is_name second.1) (λ kind. Some (Object id second.0 kind)) l more (λ kind d last. record {
+      first = first;
+      second = second;
+      id = id;
+      kind = kind;
+      numbers = a;
+      slots = b;
+      is_id = c;
+      is_kind = d;
+      line = same_Some (Object id second.0 kind) l last;
+    }))))
+
+object_in-is : (text : List ℕ) (l : Line) → object_in text ≡ Some l → codes "object " ++ text ≡ line_text l
+object_in-is text l is =
+    let p = object_parts text l is in
+    ap (λ (t : List ℕ). codes "object " ++ t) (numbered-is text p.first p.numbers
+    ∙ ap (λ n. decimal n ++ (codes " " ++ p.first.1)) (id_from-is p.first.0 p.id p.is_id)
+    ∙ ap (λ (t : List ℕ). decimal p.id ++ (codes " " ++ t))
+    (numbered-is p.first.1 p.second p.slots ∙ ap (λ (k : List ℕ). decimal p.second.0 ++ (codes " " ++ k)) (only_if-is p.second.1 p.kind p.is_kind)))
+    ∙ six (codes "object ") (decimal p.id) (codes " ") (decimal p.second.0) (codes " ") p.kind
+    ∙ ap line_text p.line
 
 slot_in-is : (text : List ℕ) (l : Line) → slot_in text ≡ Some l → codes "slot " ++ text ≡ line_text l
 unfolding slot_in
@@ -172,13 +200,9 @@ IsLegal (Root to name) = IsId to × IsTrue (is_name name)
 IsLegal End = ⊤
 
 object_in-legal : (text : List ℕ) (l : Line) → object_in text ≡ Some l → IsLegal l
-unfolding object_in
 object_in-legal text l is =
-    bind_some (numbered text) (λ first. numbered first.1 >>= (λ second. id_from first.0 >>= (λ id. only_if is_name second.1 >>= (λ kind. Some (Object id second.0 kind))))) l is (λ first a more.
-    bind_some (numbered first.1) (λ second. id_from first.0 >>= (λ id. only_if is_name second.1 >>= (λ kind. Some (Object id second.0 kind)))) l more (λ second b more.
-    bind_some (id_from first.0) (λ id. only_if is_name second.1 >>= (λ kind. Some (Object id second.0 kind))) l more (λ id c more.
-    bind_some (only_if is_name second.1) (λ kind. Some (Object id second.0 kind)) l more (λ kind d last.
-    subst IsLegal (same_Some (Object id second.0 kind) l last) (id_from-IsId first.0 id (numbered-below text first a) c, kept_name second.1 kind d)))))
+    let p = object_parts text l is in
+    subst IsLegal p.line (id_from-IsId p.first.0 p.id (numbered-below text p.first p.numbers) p.is_id, kept_name p.second.1 p.kind p.is_kind)
 
 slot_in-legal : (text : List ℕ) (l : Line) → slot_in text ≡ Some l → IsLegal l
 unfolding slot_in

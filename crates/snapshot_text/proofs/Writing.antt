@@ -29,7 +29,8 @@ more_lines text xs ys zs is =
     append_assoc text (flat_map line_bytes xs) (flat_map line_bytes ys)
     ∙ ap (λ (t : List ℕ). text ++ t) (sym (flat_map-append line_bytes xs ys) ∙ ap (flat_map line_bytes) (sym is))
 
-pub next_object : (objects : List ObjectView) (i : ℕ) (o : ObjectView) → slice_get objects i ≡ Some o → flat_map object_lines (take (i + 1) objects) ≡ flat_map object_lines (take i objects) ++ object_lines o
+pub next_object : (objects : List ObjectView) (i : ℕ) (o : ObjectView) → slice_get objects i ≡ Some o →
+    flat_map object_lines (take (i + 1) objects) ≡ flat_map object_lines (take i objects) ++ object_lines o
 next_object objects i o is =
     ap (flat_map object_lines) (take_next objects i o is) ∙ flat_map-append object_lines (take i objects) (o ∷ [])
     ∙ ap (λ (ls : List Line). flat_map object_lines (take i objects) ++ ls) (append-nil (object_lines o))

@@ -11,7 +11,8 @@ take_next xs i x is =
     let same : get_or xs i x ≡ x = get_or_from_slice_get xs i x x is in
     rw (take_more xs i x within, same) refl
 
-pub flat_map_take_next : {X A : Type 0} (f : X → List A) (before : List A) (xs : List X) (i : ℕ) (x : X) → slice_get xs i ≡ Some x → (before ++ flat_map f (take i xs)) ++ f x ≡ before ++ flat_map f (take (i + 1) xs)
+pub flat_map_take_next : {X A : Type 0} (f : X → List A) (before : List A) (xs : List X) (i : ℕ) (x : X) → slice_get xs i ≡ Some x →
+    (before ++ flat_map f (take i xs)) ++ f x ≡ before ++ flat_map f (take (i + 1) xs)
 flat_map_take_next f before xs i x is = rw (take_next xs i x is) (flat_map_more f before (take i xs) x)
 
 slot_lines-append : (at slot : ℕ) (xs ys : List (Option ℕ)) → slot_lines at slot (xs ++ ys) ≡ slot_lines at slot xs ++ slot_lines at (slot + length xs) ys

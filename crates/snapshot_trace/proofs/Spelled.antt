@@ -5,18 +5,21 @@ use Rattle.json.specs.Print.{quoted}
 use Rattle.serde_json.proofs.OnLiterals.{serde_json_on_literals}
 use Rattle.snapshot_trace.specs.Trace.{data_line, alloc_data, store_data, root_data}
 
-pub store_spelled : (at slot to : ℕ) → data_line (store_data at slot to) ≡ codes "{\"at\":" ++ decimal at ++ codes ",\"op\":\"store\",\"slot\":" ++ decimal slot ++ codes ",\"to\":" ++ decimal to ++ codes "}\n"
+pub store_spelled : (at slot to : ℕ) →
+    data_line (store_data at slot to) ≡ codes "{\"at\":" ++ decimal at ++ codes ",\"op\":\"store\",\"slot\":" ++ decimal slot ++ codes ",\"to\":" ++ decimal to ++ codes "}\n"
 unfolding data_line serde_json_on_literals
 store_spelled at slot to = simp append_assoc
 
 nested : (a b c d e f g : List ℕ) → a ++ b ++ c ++ d ++ e ++ f ++ g ≡ a ++ (b ++ (c ++ (d ++ (e ++ (f ++ g)))))
 nested a b c d e f g = simp append_assoc
 
-alloc_nested : (id slots : ℕ) (kind : List ℕ) → data_line (alloc_data id slots kind) ≡ codes "{\"id\":" ++ (decimal id ++ (codes ",\"op\":\"alloc\",\"slots\":" ++ (decimal slots ++ (codes ",\"type\":" ++ (quoted kind ++ codes "}\n")))))
+alloc_nested : (id slots : ℕ) (kind : List ℕ) →
+    data_line (alloc_data id slots kind) ≡ codes "{\"id\":" ++ (decimal id ++ (codes ",\"op\":\"alloc\",\"slots\":" ++ (decimal slots ++ (codes ",\"type\":" ++ (quoted kind ++ codes "}\n")))))
 unfolding data_line serde_json_on_literals
 alloc_nested id slots kind = simp append_assoc
 
-pub alloc_spelled : (id slots : ℕ) (kind : List ℕ) → data_line (alloc_data id slots kind) ≡ codes "{\"id\":" ++ decimal id ++ codes ",\"op\":\"alloc\",\"slots\":" ++ decimal slots ++ codes ",\"type\":" ++ quoted kind ++ codes "}\n"
+pub alloc_spelled : (id slots : ℕ) (kind : List ℕ) →
+    data_line (alloc_data id slots kind) ≡ codes "{\"id\":" ++ decimal id ++ codes ",\"op\":\"alloc\",\"slots\":" ++ decimal slots ++ codes ",\"type\":" ++ quoted kind ++ codes "}\n"
 alloc_spelled id slots kind =
     alloc_nested id slots kind ∙ sym (nested (codes "{\"id\":") (decimal id) (codes ",\"op\":\"alloc\",\"slots\":") (decimal slots) (codes ",\"type\":") (quoted kind) (codes "}\n"))
 

@@ -9,7 +9,8 @@ use Rattle.snapshot_text.proofs.dangling.dangling_in_roots.Goals as goal
 pub returns-in-Err : goal.returns-in-Err
 returns-in-Err c =
     c.loop-place.invariant.found ∙ at_root c.args.ids.now c.loop-place.next c.args.roots.now c.loop-place.place c.at.result.now c.at.ensures
-    ∙ dangling-here c.args.ids.now c.loop-place.next (root_line c.at.result.now) (map root_line (drop (c.loop-place.place + 1) c.args.roots.now) ++ End ∷ []) (c.in-Err.found.line, c.in-Err.found.to) c.in-Err.ensures.passes
+    ∙ dangling-here c.args.ids.now c.loop-place.next (root_line c.at.result.now)
+    (map root_line (drop (c.loop-place.place + 1) c.args.roots.now) ++ End ∷ []) (c.in-Err.found.line, c.in-Err.found.to) c.in-Err.ensures.passes
 
 pub loop-place-preserved : goal.loop-place-preserved
 loop-place-preserved c =
