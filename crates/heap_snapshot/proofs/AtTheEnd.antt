@@ -54,18 +54,19 @@ writes_at_the_end items = run_silent empty_heap 0 items
 
 -- ---- where a read failed
 
-nothing_appended : (old new : Option (List ℕ)) (text : List ℕ) → text ≡ [] → Appends old new text → Keeps old new
-nothing_appended None new text none appends = tt
-nothing_appended (Some xs) None text none appends = absurd appends
-nothing_appended (Some xs) (Some ys) text none appends = appends ∙ ap (λ (t : List ℕ). xs ++ t) none ∙ append-nil xs
+nothing_appended : (old new : Option (List ℕ)) {text : List ℕ} → text ≡ [] → Appends old new text → Keeps old new
+nothing_appended None new none appends = tt
+nothing_appended (Some xs) None none appends = absurd appends
+nothing_appended (Some xs) (Some ys) none appends = appends ∙ ap (λ (t : List ℕ). xs ++ t) none ∙ append-nil xs
 
-pub unwritten_from_trace : (old new : Outside) (status : Status) → Ended LONGEST_TRACE (report_by snapshot_meaning empty_heap) old new status → status ≡ ReadFault → Keeps old.sink.bytes new.sink.bytes
-unwritten_from_trace old new status ended failed =
-    let cut = (subst (λ (s : Status). Ended LONGEST_TRACE (report_by snapshot_meaning empty_heap) old new s) failed ended).1 in
-    nothing_appended old.sink.bytes new.sink.bytes _ (writes_at_the_end (items_of LONGEST_TRACE (whole_lines cut.bytes))) cut.part
+module _ (old new : Outside) {status : Status} (failed : status ≡ ReadFault) where
+  pub unwritten_from_trace : Ended LONGEST_TRACE (report_by snapshot_meaning empty_heap) old new status → Keeps old.sink.bytes new.sink.bytes
+  unwritten_from_trace ended =
+      let cut = (subst (λ (s : Status). Ended LONGEST_TRACE (report_by snapshot_meaning empty_heap) old new s) failed ended).1 in
+      nothing_appended old.sink.bytes new.sink.bytes (writes_at_the_end (items_of LONGEST_TRACE (whole_lines cut.bytes))) cut.part
 
-pub unwritten_to_trace : (old new : Outside) (status : Status) → Converted old new status → status ≡ ReadFault → Keeps old.sink.bytes new.sink.bytes
-unwritten_to_trace old new status converted failed = (subst (λ (s : Status). Converted old new s) failed converted).1
+  pub unwritten_to_trace : Converted old new status → Keeps old.sink.bytes new.sink.bytes
+  unwritten_to_trace converted = (subst (λ (s : Status). Converted old new s) failed converted).1
 
-pub unwritten_usage : (usage : List ℕ) (old new : Outside) (status : Status) → RefusesWords usage old new status → status ≡ ReadFault → Keeps old.sink.bytes new.sink.bytes
-unwritten_usage usage old new status refuses failed = absurd (subst (λ (s : Status). RefusesWords usage old new s) failed refuses)
+  pub unwritten_usage : (usage : List ℕ) → RefusesWords usage old new status → Keeps old.sink.bytes new.sink.bytes
+  unwritten_usage usage refuses = absurd (subst (λ (s : Status). RefusesWords usage old new s) failed refuses)

@@ -7,7 +7,7 @@ use Rattle.std.proofs.lemmas.Bool.{cases_lt, cond-true, lt-ltb}
 use Rattle.heap_base.specs.Sinks.{AppendsPart}
 use Rattle.heap_base.specs.Streams.{Stream}
 use Rattle.heap_base.specs.declared.status.Status.{Status}
-use Rattle.heap_base.specs.declared.status.Status.TheVariants.{Clean, Violated, TraceFault, ReadFault, WriteFault, NoMemory, Usage}
+use Rattle.heap_base.specs.declared.status.Status.TheVariants.{Clean, TraceFault}
 use Rattle.graph_meaning.specs.declared.views.HeapView.{HeapView}
 use Rattle.snapshot_text.specs.declared.read.TheConstants.{LONGEST_SNAPSHOT}
 use Rattle.snapshot_text.specs.declared.refusal.SnapWhy.TheVariants.{TooLong}
@@ -21,7 +21,8 @@ unfolding snapshot_in
 same_reading text more long =
     let le : LONGEST_SNAPSHOT ≤ length text = omega arith in
     let long_all : LONGEST_SNAPSHOT < length (text ++ more) = omega (arith, length-append text more) in
-    let all : snapshot_in (text ++ more) ≡ refused (line_behind (take LONGEST_SNAPSHOT (text ++ more))) TooLong = cond-true (ltb LONGEST_SNAPSHOT (length (text ++ more))) _ _ (lt-ltb LONGEST_SNAPSHOT (length (text ++ more)) long_all) in
+    let all : snapshot_in (text ++ more) ≡ refused (line_behind (take LONGEST_SNAPSHOT (text ++ more))) TooLong =
+    cond-true (ltb LONGEST_SNAPSHOT (length (text ++ more))) _ _ (lt-ltb LONGEST_SNAPSHOT (length (text ++ more)) long_all) in
     let some : snapshot_in text ≡ refused (line_behind (take LONGEST_SNAPSHOT text)) TooLong = cond-true (ltb LONGEST_SNAPSHOT (length text)) _ _ (lt-ltb LONGEST_SNAPSHOT (length text) long) in
     all ∙ ap (λ (t : List ℕ). refused (line_behind t) TooLong) (take-append-le LONGEST_SNAPSHOT text more le) ∙ sym some
 
@@ -50,11 +51,6 @@ all_of (Some left) (Some rest) text read =
     let whole : text ++ rest ≡ text = ap (λ (t : List ℕ). text ++ t) (read.whole short) ∙ append-nil text in
     (text, record { told = read.consumed ∙ whole; same = refl; short = λ _. refl })) (cases_lt LONGEST_SNAPSHOT (length text))
 
--- what is read leads to one of two statuses
-never : (read : Result HeapView Refusal) (status : Status) → status_by read ≡ status → (Clean ≡ status → ⊥) → (TraceFault ≡ status → ⊥) → ⊥
-never (Ok v) status is clean fault = clean is
-never (Err r) status is clean fault = fault is
-
 module _ (old new : Outside) (text bytes : List ℕ) (read : IsRead old.source.bytes new.source.bytes text) (all : IsAll old.source.bytes text bytes) where
   same_text : text_of text ≡ text_of bytes
   same_text = ap text_by (sym all.same)
@@ -65,33 +61,36 @@ module _ (old new : Outside) (text bytes : List ℕ) (read : IsRead old.source.b
   whole_part : AppendsPart old.sink.bytes new.sink.bytes (text_of text) → WritesPart old new
   whole_part part = record { bytes = bytes; snapshot = all.told; part = subst (λ (t : List ℕ). AppendsPart old.sink.bytes new.sink.bytes t) same_text part }
 
-  written : (status : Status) → status_of text ≡ status → Appends old.sink.bytes new.sink.bytes (text_of text) → Converted old new status
-  written Clean is appends = record {
+  written : (found : Result HeapView Refusal) → snapshot_in text ≡ found → Appends old.sink.bytes new.sink.bytes (text_of text) → Converted old new (status_by found)
+  written (Ok v) is appends = record {
     bytes = bytes;
     snapshot = all.told;
-    read = subst (Consumes old.source.bytes new.source.bytes) (sym (all.short (short_if_clean text is))) read.consumed;
-    taken = same_status ∙ is;
+    read = subst (Consumes old.source.bytes new.source.bytes) (sym (all.short (short_if_clean text (ap status_by is)))) read.consumed;
+    taken = same_status ∙ ap status_by is;
     text = subst (λ (t : List ℕ). Appends old.sink.bytes new.sink.bytes t) same_text appends;
   }
-  written TraceFault is appends = record {
+  written (Err r) is appends = record {
     bytes = bytes;
     snapshot = all.told;
-    refused = same_status ∙ is;
+    refused = same_status ∙ ap status_by is;
     text = subst (λ (t : List ℕ). Appends old.sink.bytes new.sink.bytes t) same_text appends;
   }
-  written Violated is appends = never (snapshot_in text) Violated is (λ x. cc) (λ x. cc)
-  written ReadFault is appends = absurd (never (snapshot_in text) ReadFault is (λ x. cc) (λ x. cc))
-  written WriteFault is appends = absurd (never (snapshot_in text) WriteFault is (λ x. cc) (λ x. cc))
-  written NoMemory is appends = absurd (never (snapshot_in text) NoMemory is (λ x. cc) (λ x. cc))
-  written Usage is appends = absurd (never (snapshot_in text) Usage is (λ x. cc) (λ x. cc))
 
 -- what was read, and then written once
-pub converted : (old new : Outside) (text : List ℕ) (status : Status) → IsRead old.source.bytes new.source.bytes text → WritesOnce (text_of text) (status_of text) old.sink new.sink status → Converted old new status
-converted old new text status read writes =
-    let all = all_of old.source.bytes new.source.bytes text read in
+converted : (old new : Outside) (text : List ℕ) (answer : Status) → IsRead old.source.bytes new.source.bytes text →
+    WritesOnce (text_of text) (status_of text) old.sink new.sink answer → Converted old new answer
+converted old new text answer read writes =
+    let (bytes, all) = all_of old.source.bytes new.source.bytes text read in
     ⊎_elim
-    (λ done. subst (Converted old new) (sym done.0) (written old new text all.0 read all.1 (status_of text) refl done.1))
-    (λ failed. subst (Converted old new) (sym failed.0) (failed.1, whole_part old new text all.0 read all.1 failed.2)) writes
+    (λ done. subst (Converted old new) (sym done.0) (written old new text bytes read all (snapshot_in text) refl done.1))
+    (λ failed. subst (Converted old new) (sym failed.0) (failed.1, whole_part old new text bytes read all failed.2)) writes
+
+-- the same, of a text and a status that are those of what was read
+module _ (old new : Outside) (text : List ℕ) {written : List ℕ} {status answer : Status} (read : IsRead old.source.bytes new.source.bytes text) where
+  pub converted_by : written ≡ text_of text → status ≡ status_of text → WritesOnce written status old.sink new.sink answer → Converted old new answer
+  converted_by is_text is_status writes =
+      let with_text = subst (λ (t : List ℕ). WritesOnce t status old.sink new.sink answer) is_text writes in
+      converted old new text answer read (subst (λ (s : Status). WritesOnce (text_of text) s old.sink new.sink answer) is_status with_text)
 
 some_bytes : (left : Option (List ℕ)) → (bytes : List ℕ) × IfSome left (λ told. told ≡ bytes)
 some_bytes None = ([], tt)
@@ -110,12 +109,3 @@ nothing_converted old new same =
 pub keeps_same : (held : Option (List ℕ)) → Keeps held held
 keeps_same None = tt
 keeps_same (Some xs) = refl
-
--- the same, of a text and a status that are those of the bytes
-pub converted_by : (old new : Outside) (text text' written : List ℕ) (status answer : Status) → IsRead old.source.bytes new.source.bytes text → text' ≡ text → written ≡ text_of text' → status ≡ status_of text'
-    → WritesOnce written status old.sink new.sink answer → Converted old new answer
-converted_by old new text text' written status answer read same is_text is_status writes =
-    let what : written ≡ text_of text = is_text ∙ ap text_of same in
-    let how : status ≡ status_of text = is_status ∙ ap status_of same in
-    let with_text : WritesOnce (text_of text) status old.sink new.sink answer = subst (λ (t : List ℕ). WritesOnce t status old.sink new.sink answer) what writes in
-    converted old new text answer read (subst (λ (s : Status). WritesOnce (text_of text) s old.sink new.sink answer) how with_text)

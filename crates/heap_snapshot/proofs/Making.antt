@@ -41,10 +41,13 @@ pub alloc_answers : (t u : Table) (id : ℕ) (kind : List ℕ) (slots thread : �
     → Answers (step (heap_of t) (Alloc id kind slots thread)) r (heap_of u)
 unfolding step
 alloc_answers t u id kind slots thread r is same =
-    subst (λ (rs : List (List (List ℕ))). Answers (heap_unless (alloc_refusal t id kind slots) (record (heap_of t) { table = with_object t id kind slots; regions = rs })) r (heap_of u)) (sym (no_member thread id))
+    subst (λ (rs : List (List (List ℕ))). Answers
+    (heap_unless (alloc_refusal t id kind slots) (record (heap_of t) { table = with_object t id kind slots; regions = rs })) r (heap_of u))
+    (sym (no_member thread id))
     (answers (alloc_refusal t id kind slots) r (heap_of (with_object t id kind slots)) (heap_of u) is (on_heap r u (with_object t id kind slots) same))
 
-pub store_answers : (t u : Table) (at slot : ℕ) (to : Option ℕ) → store_refusal t at slot to ≡ None → u ≡ with_changed_slot t at slot (slot_holding to) → step (heap_of t) (Store at slot to) ≡ Ok (heap_of u)
+pub store_answers : (t u : Table) (at slot : ℕ) (to : Option ℕ) → store_refusal t at slot to ≡ None →
+    u ≡ with_changed_slot t at slot (slot_holding to) → step (heap_of t) (Store at slot to) ≡ Ok (heap_of u)
 unfolding step
 store_answers t u at slot to none same =
     ap (λ (o : Option Refusal). heap_unless o (heap_of (with_changed_slot t at slot (slot_holding to)))) none ∙ ap (λ (x : Table). Ok (heap_of x)) (sym same)
@@ -53,7 +56,8 @@ pub store_refuses : (t : Table) (at slot : ℕ) (to : Option ℕ) (x : Refusal) 
 unfolding step
 store_refuses t at slot to x is = ap (λ (o : Option Refusal). heap_unless o (heap_of (with_changed_slot t at slot (slot_holding to)))) is
 
-pub root_answers : (t u : Table) (name : List ℕ) (to : Option ℕ) (r : Result ⊤ Stop) → RefusesBy r (root_refusal t name to) → OnOk r (u ≡ with_root t name to) → Answers (step (heap_of t) (Root name to)) r (heap_of u)
+pub root_answers : (t u : Table) (name : List ℕ) (to : Option ℕ) (r : Result ⊤ Stop) → RefusesBy r (root_refusal t name to) →
+    OnOk r (u ≡ with_root t name to) → Answers (step (heap_of t) (Root name to)) r (heap_of u)
 unfolding step
 root_answers t u name to r is same =
     answers (root_refusal t name to) r (heap_of (with_root t name to)) (heap_of u) is (on_heap r u (with_root t name to) same)

@@ -9,19 +9,19 @@ use Rattle.heap_snapshot.specs.ToTrace.{IsRead}
 pub begins : (start : Option (List ℕ)) (text : List ℕ) → text ≡ [] → Consumes start start text
 begins start text none = subst (Consumes start start) (sym none) (Consumes-nil start)
 
-pub goes_on : (start before after : Option (List ℕ)) (old new took : List ℕ) (count : ℕ) → Consumes start before old → Adds old new before after count took → Consumes start after new
-goes_on start before after old new took count consumed adds =
-    subst (Consumes start after) (sym adds.held) (Consumes-trans start before after old took consumed adds.consumes)
-
 at_end : (after : Option (List ℕ)) → IsAtEnd after → IfSome after (λ left. left ≡ [])
 at_end None is = tt
 at_end (Some left) is = is
 
-pub ends : (start before after : Option (List ℕ)) (old new took : List ℕ) (count : ℕ) → Consumes start before old → Adds old new before after count took → count ≡ 0 → IsRead start after new
-ends start before after old new took count consumed adds none = record {
-  consumed = goes_on start before after old new took count consumed adds;
-  whole = λ _. at_end after (adds.at_end none);
-}
+-- one piece more behind what was read
+module _ (start : Option (List ℕ)) {before after : Option (List ℕ)} {old new took : List ℕ} {count : ℕ}
+    (adds : Adds old new before after count took) (consumed : Consumes start before old) where
+  pub goes_on : Consumes start after new
+  goes_on = subst (Consumes start after) (sym adds.held) (Consumes-trans start before after old took consumed adds.consumes)
+
+  -- and it is empty
+  pub ends : count ≡ 0 → IsRead start after new
+  ends none = record { consumed = goes_on; whole = λ _. at_end after (adds.at_end none) }
 
 pub is_long : (start after : Option (List ℕ)) (text : List ℕ) → Consumes start after text → LONGEST_SNAPSHOT < length text → IsRead start after text
 is_long start after text consumed long = record { consumed = consumed; whole = λ short. absurd (omega arith) }

@@ -1,5 +1,7 @@
 -- The operations of a well-formed view make a heap with this view.
-use Rattle.std.proofs.Common.{◌≡◌, ◌≢◌, ℕ, ◌+◌, ◌<◌, ◌≤◌, Bool, true, false, not, ◌&&◌, cond, eqb, ltb, leb, IsTrue, List, [], ◌∷◌, ◌++◌, length, map, fold, replicate, get_or, slice_set, Option, None, Some, IfSome, Result, Ok, Err, All, AllPairs, sym, refl, ap, ◌∙◌, subst, arith, suc, append_assoc, append-nil, length-append}
+use Rattle.std.proofs.Common.{◌≡◌, ◌≢◌, ℕ, ◌+◌, ◌<◌, ◌≤◌, Bool, true, false, not, ◌&&◌, cond, eqb, ltb, leb, IsTrue, List, [], ◌∷◌, ◌++◌, length}
+use Rattle.std.proofs.Common.{map, fold, replicate, get_or, slice_set, Option, None, Some, IfSome, Result, Ok, Err, All, AllPairs, sym, refl, ap}
+use Rattle.std.proofs.Common.{◌∙◌, subst, arith, suc, append_assoc, append-nil, length-append}
 use Rattle.std.specs.List.{flat_map}
 use Rattle.std.specs.List.Sorted.{IsStrictlySortedBy}
 use Rattle.std.specs.Map.{keys_of}
@@ -23,7 +25,8 @@ use Rattle.graph_meaning.specs.declared.views.HeapView.{HeapView}
 use Rattle.graph_meaning.specs.declared.views.ObjectView.{ObjectView}
 use Rattle.graph_meaning.specs.Heap.{Slot, Object, Table, Heap, empty_slot, empty_heap, name_cmp, object_at, is_live, ids, slot_count, is_seen, edge_of}
 use Rattle.graph_meaning.specs.Reach.{has_id}
-use Rattle.graph_meaning.specs.Step.{first_refusal, refusal_where, not_live, kind_refusal, alloc_refusal, slots_of, store_refusal, is_root, root_refusal, with_kind, with_object, with_slot, with_changed_slot, slot_holding, with_root, heap_unless, step}
+use Rattle.graph_meaning.specs.Step.{first_refusal, refusal_where, not_live, kind_refusal, alloc_refusal, slots_of, store_refusal, is_root}
+use Rattle.graph_meaning.specs.Step.{root_refusal, with_kind, with_object, with_slot, with_changed_slot, slot_holding, with_root, heap_unless, step}
 use Rattle.graph_meaning.specs.Views.{object_view, heap_view}
 use Rattle.graph_meaning.proofs.HeapLemmas.{has_id-ids}
 use Rattle.trace_reader.specs.Meaning.{event, ◌>>=◌}
@@ -50,7 +53,8 @@ then_events : (h next : Heap) (xs ys : List Event) → run_of h xs ≡ Ok next �
 then_events h next [] ys is = ap (λ (k : Heap). run_of k ys) (same_heap h next is)
 then_events h next (x ∷ xs) ys is = go (step h x) (λ k ran. then_events k next xs ys ran) is
   where
-    go : (r : Result Heap Refusal) → ((k : Heap) → run_of k xs ≡ Ok next → run_of k (xs ++ ys) ≡ run_of next ys) → (r >>= (λ n. run_of n xs)) ≡ Ok next → (r >>= (λ n. run_of n (xs ++ ys))) ≡ run_of next ys
+    go : (r : Result Heap Refusal) → ((k : Heap) → run_of k xs ≡ Ok next → run_of k (xs ++ ys) ≡ run_of next ys) →
+        (r >>= (λ n. run_of n xs)) ≡ Ok next → (r >>= (λ n. run_of n (xs ++ ys))) ≡ run_of next ys
     go (Ok k) later ran = later k ran
     go (Err e) later ran = absurd (cc)
 
@@ -101,7 +105,8 @@ seen kinds o = with_kind kinds o.kind
 abbrev table_of : List ObjectView → ℕ → Table
 table_of objects greatest = record { objects = map empty_object objects; roots = []; greatest = greatest; kinds = kinds_of objects }
 
-slot_count-empty : (before : ℕ) (objects : List ObjectView) → fold (λ (n : ℕ) (o : Object). n + length o.slots) before (map empty_object objects) ≡ fold (λ (n : ℕ) (o : ObjectView). n + length o.slots) before objects
+slot_count-empty : (before : ℕ) (objects : List ObjectView) →
+    fold (λ (n : ℕ) (o : Object). n + length o.slots) before (map empty_object objects) ≡ fold (λ (n : ℕ) (o : ObjectView). n + length o.slots) before objects
 slot_count-empty before [] = refl
 slot_count-empty before (o ∷ objects) =
     ap (λ n. fold (λ (m : ℕ) (x : Object). m + length x.slots) (before + n) (map empty_object objects)) (length-replicate {A = Slot} (length o.slots) empty_slot)
@@ -127,15 +132,23 @@ kind_allowed t kind few = go (is_seen t.kinds kind) few
         let room : length t.kinds < MOST_KINDS = omega (arith, few, length-append t.kinds (kind ∷ [])) in
         ap (λ (b : Bool). refusal_where b TooManyTypes) (lt-leb MOST_KINDS (length t.kinds) room)
 
-alloc_allowed : (t : Table) (id : ℕ) (kind : List ℕ) (slots : ℕ) → t.greatest < id → length t.objects < MOST_OBJECTS → slot_count t + slots ≤ MOST_SLOTS → length (with_kind t.kinds kind) ≤ MOST_KINDS → alloc_refusal t id kind slots ≡ None
+-- the object may be allocated in the table
+record HasRoomFor (t : Table) (o : ObjectView) : Type 0 where
+  above : t.greatest < o.id
+  few : length t.objects < MOST_OBJECTS
+  room : slot_count t + length o.slots ≤ MOST_SLOTS
+  kinds : length (with_kind t.kinds o.kind) ≤ MOST_KINDS
+
+alloc_allowed : (t : Table) (o : ObjectView) → HasRoomFor t o → alloc_refusal t o.id o.kind (length o.slots) ≡ None
 unfolding alloc_refusal
-alloc_allowed t id kind slots above few room kinds =
+alloc_allowed t o has =
     let objects : Option Refusal = refusal_where (leb MOST_OBJECTS (length t.objects)) TooManyObjects in
-    let many : Option Refusal = refusal_where (ltb MOST_SLOTS (slot_count t + slots)) TooManySlots in
-    ap (λ (b : Bool). first_refusal (refusal_where b (IdNotRising id)) (first_refusal objects (first_refusal many (kind_refusal t kind)))) (lt-leb id t.greatest above)
-    ∙ ap (λ (b : Bool). first_refusal (refusal_where b TooManyObjects) (first_refusal many (kind_refusal t kind))) (lt-leb MOST_OBJECTS (length t.objects) few)
-    ∙ ap (λ (b : Bool). first_refusal (refusal_where b TooManySlots) (kind_refusal t kind)) (le-ltb MOST_SLOTS (slot_count t + slots) room)
-    ∙ kind_allowed t kind kinds
+    let many : Option Refusal = refusal_where (ltb MOST_SLOTS (slot_count t + length o.slots)) TooManySlots in
+    let kinds : Option Refusal = kind_refusal t o.kind in
+    ap (λ (b : Bool). first_refusal (refusal_where b (IdNotRising o.id)) (first_refusal objects (first_refusal many kinds))) (lt-leb o.id t.greatest has.above)
+    ∙ ap (λ (b : Bool). first_refusal (refusal_where b TooManyObjects) (first_refusal many kinds)) (lt-leb MOST_OBJECTS (length t.objects) has.few)
+    ∙ ap (λ (b : Bool). first_refusal (refusal_where b TooManySlots) kinds) (le-ltb MOST_SLOTS (slot_count t + length o.slots) has.room)
+    ∙ kind_allowed t o.kind has.kinds
 
 table_of-push : (done : List ObjectView) (o : ObjectView) (greatest : ℕ) → table_of (done ++ o ∷ []) o.id ≡ with_object (table_of done greatest) o.id o.kind (length o.slots)
 unfolding with_object
@@ -143,17 +156,11 @@ table_of-push done o greatest =
     ap (λ (xs : List Object). record { objects = xs; roots = []; greatest = o.id; kinds = kinds_of (done ++ o ∷ []) }) (map-append empty_object done (o ∷ []))
     ∙ ap (λ (ks : List (List ℕ)). record { objects = map empty_object done ++ empty_object o ∷ []; roots = []; greatest = o.id; kinds = ks }) (fold_push seen [] done o)
 
-alloc_one : (done : List ObjectView) (o : ObjectView) (greatest : ℕ) → greatest < o.id → length done < MOST_OBJECTS → slot_total (done ++ o ∷ []) ≤ MOST_SLOTS → length (kinds_of (done ++ o ∷ [])) ≤ MOST_KINDS
+alloc_one : (done : List ObjectView) (o : ObjectView) (greatest : ℕ) → HasRoomFor (table_of done greatest) o
     → step (heap_of (table_of done greatest)) (alloc_of o) ≡ Ok (heap_of (table_of (done ++ o ∷ []) o.id))
-alloc_one done o greatest above few room kinds =
-    let t : Table = table_of done greatest in
-    let u : Table = table_of (done ++ o ∷ []) o.id in
-    let total : slot_count t ≡ slot_total done = slot_count-empty 0 done in
-    let sum : slot_total (done ++ o ∷ []) ≡ slot_total done + length o.slots = sum_by-append (λ (x : ObjectView). length x.slots) done (o ∷ []) ∙ omega arith in
-    let known : length (with_kind t.kinds o.kind) ≤ MOST_KINDS = subst (λ (ks : List (List ℕ)). length ks ≤ MOST_KINDS) (fold_push seen [] done o) kinds in
-    alloc_answers t u o.id o.kind (length o.slots) 0 (Ok tt)
-    (alloc_allowed t o.id o.kind (length o.slots) above (omega (arith, few, length-map done empty_object)) (omega (arith, room, total, sum)) known)
-    (table_of-push done o greatest)
+alloc_one done o greatest has =
+    alloc_answers (table_of done greatest) (table_of (done ++ o ∷ []) o.id) o.id o.kind (length o.slots) 0 (Ok tt)
+    (alloc_allowed (table_of done greatest) o has) (table_of-push done o greatest)
 
 abbrev Rising : List ObjectView → Type 0
 Rising objects = AllPairs (λ (x y : ℕ). x < y) (object_ids objects)
@@ -164,22 +171,49 @@ rising_head o rest rising k d within = rising 0 (suc k) d (omega arith) (omega a
 rising_tail : (o : ObjectView) (rest : List ObjectView) → Rising (o ∷ rest) → Rising rest
 rising_tail o rest rising i j d below within = rising (suc i) (suc j) d (omega arith) (omega arith)
 
-alloc_all : (done rest : List ObjectView) (greatest : ℕ) → length done + length rest ≤ MOST_OBJECTS → slot_total (done ++ rest) ≤ MOST_SLOTS → length (kinds_of (done ++ rest)) ≤ MOST_KINDS → All (λ (id : ℕ). greatest < id) (object_ids rest) → Rising rest
-    → (last : ℕ) × (run_of (heap_of (table_of done greatest)) (map alloc_of rest) ≡ Ok (heap_of (table_of (done ++ rest) last)))
-alloc_all done [] greatest few room kinds above rising = (greatest, ap (λ (xs : List ObjectView). Ok (heap_of (table_of xs greatest))) (sym (append-nil done)))
-alloc_all done (o ∷ rest) greatest few room kinds above rising =
+-- these objects may be allocated behind those that were, whose greatest id is this one
+record MayFollow (done rest : List ObjectView) (greatest : ℕ) : Type 0 where
+  few : length done + length rest ≤ MOST_OBJECTS
+  room : slot_total (done ++ rest) ≤ MOST_SLOTS
+  kinds : length (kinds_of (done ++ rest)) ≤ MOST_KINDS
+  above : All (λ (id : ℕ). greatest < id) (object_ids rest)
+  rising : Rising rest
+
+first_has_room : (done : List ObjectView) (o : ObjectView) (rest : List ObjectView) (greatest : ℕ) → MayFollow done (o ∷ rest) greatest → HasRoomFor (table_of done greatest) o
+first_has_room done o rest greatest may =
     let now : List ObjectView = done ++ o ∷ [] in
     let all : now ++ rest ≡ done ++ o ∷ rest = append_assoc done (o ∷ []) rest in
-    let count : length now ≡ length done + 1 = length-append done (o ∷ []) in
-    let room_all : slot_total (now ++ rest) ≤ MOST_SLOTS = subst (λ (xs : List ObjectView). slot_total xs ≤ MOST_SLOTS) (sym all) room in
-    let kinds_all : length (kinds_of (now ++ rest)) ≤ MOST_KINDS = subst (λ (xs : List ObjectView). length (kinds_of xs) ≤ MOST_KINDS) (sym all) kinds in
+    let total : slot_count (table_of done greatest) ≡ slot_total done = slot_count-empty 0 done in
+    let sum : slot_total now ≡ slot_total done + length o.slots = sum_by-append (λ (x : ObjectView). length x.slots) done (o ∷ []) ∙ omega arith in
     let split : slot_total (now ++ rest) ≡ slot_total now + slot_total rest = sum_by-append (λ (x : ObjectView). length x.slots) now rest in
-    let room_now : slot_total now ≤ MOST_SLOTS = omega (arith, room_all, split) in
+    let room : slot_total (now ++ rest) ≤ MOST_SLOTS = subst (λ (xs : List ObjectView). slot_total xs ≤ MOST_SLOTS) (sym all) may.room in
+    let kinds : length (kinds_of (now ++ rest)) ≤ MOST_KINDS = subst (λ (xs : List ObjectView). length (kinds_of xs) ≤ MOST_KINDS) (sym all) may.kinds in
     let more : length (kinds_of now) ≤ length (fold seen (kinds_of now) rest) = more_kinds (kinds_of now) rest in
     let kinds_split : length (kinds_of (now ++ rest)) ≡ length (fold seen (kinds_of now) rest) = ap (λ (ks : List (List ℕ)). length ks) (fold-append seen [] now rest) in
-    let kinds_now : length (kinds_of now) ≤ MOST_KINDS = omega (arith, kinds_all, more, kinds_split) in
-    let one = alloc_one done o greatest (All-head (λ (id : ℕ). greatest < id) o.id (object_ids rest) above) (omega (arith, few)) room_now kinds_now in
-    let later = alloc_all now rest o.id (omega (arith, few, count)) room_all kinds_all (rising_head o rest rising) (rising_tail o rest rising) in (
+    let kinds_now : length (kinds_of now) ≤ MOST_KINDS = omega (arith, kinds, more, kinds_split) in
+    let few = may.few in
+    record {
+      above = All-head (λ (id : ℕ). greatest < id) o.id (object_ids rest) may.above;
+      few = omega (arith, few, length-map done empty_object);
+      room = omega (arith, room, split, total, sum);
+      kinds = subst (λ (ks : List (List ℕ)). length ks ≤ MOST_KINDS) (fold_push seen [] done o) kinds_now;
+    }
+
+alloc_all : (done rest : List ObjectView) (greatest : ℕ) → MayFollow done rest greatest
+    → (last : ℕ) × (run_of (heap_of (table_of done greatest)) (map alloc_of rest) ≡ Ok (heap_of (table_of (done ++ rest) last)))
+alloc_all done [] greatest may = (greatest, ap (λ (xs : List ObjectView). Ok (heap_of (table_of xs greatest))) (sym (append-nil done)))
+alloc_all done (o ∷ rest) greatest may =
+    let now : List ObjectView = done ++ o ∷ [] in
+    let all : now ++ rest ≡ done ++ o ∷ rest = append_assoc done (o ∷ []) rest in
+    let few = may.few in
+    let one = alloc_one done o greatest (first_has_room done o rest greatest may) in
+    let later = alloc_all now rest o.id (record {
+      few = omega (arith, few, length-append done (o ∷ []));
+      room = subst (λ (xs : List ObjectView). slot_total xs ≤ MOST_SLOTS) (sym all) may.room;
+      kinds = subst (λ (xs : List ObjectView). length (kinds_of xs) ≤ MOST_KINDS) (sym all) may.kinds;
+      above = rising_head o rest may.rising;
+      rising = rising_tail o rest may.rising;
+    }) in (
       later.0,
       then_event (heap_of (table_of done greatest)) (heap_of (table_of now o.id)) (alloc_of o) (map alloc_of rest) one ∙ later.1
           ∙ ap (λ (xs : List ObjectView). Ok (heap_of (table_of xs later.0))) all,
@@ -197,11 +231,12 @@ object_between (x ∷ before) after o apart =
     ∙ object_between before after o (All-tail (λ (x : Object). x.id ≢ o.id) x before apart)
 
 -- a change to a slot of an object changes no other
-others_kept : (id slot : ℕ) (change : Slot → Slot) (objects : List Object) → Apart id objects → map (with_slot id slot change) objects ≡ objects
-others_kept id slot change [] apart = refl
-others_kept id slot change (x ∷ objects) apart =
-    ap (λ (y : Object). y ∷ map (with_slot id slot change) objects) (cond-false (eqb x.id id) _ x (ne_eqb x.id id (All-head (λ (x : Object). x.id ≢ id) x objects apart)))
-    ∙ ap (λ (ys : List Object). x ∷ ys) (others_kept id slot change objects (All-tail (λ (x : Object). x.id ≢ id) x objects apart))
+module _ (id slot : ℕ) (change : Slot → Slot) where
+  others_kept : (objects : List Object) → Apart id objects → map (with_slot id slot change) objects ≡ objects
+  others_kept [] apart = refl
+  others_kept (x ∷ objects) apart =
+      ap (λ (y : Object). y ∷ map (with_slot id slot change) objects) (cond-false (eqb x.id id) _ x (ne_eqb x.id id (All-head (λ (x : Object). x.id ≢ id) x objects apart)))
+      ∙ ap (λ (ys : List Object). x ∷ ys) (others_kept objects (All-tail (λ (x : Object). x.id ≢ id) x objects apart))
 
 set_behind : (done rest : List Slot) (x y : Slot) → slice_set (done ++ x ∷ rest) (length done) y ≡ done ++ y ∷ rest
 set_behind [] rest x y = refl
@@ -242,7 +277,8 @@ module _ (t : Table) (before after : List Object) (o : ObjectView) (apart : Apar
       ∙ ap (λ (xs : List Object). before ++ object_with o (done ++ slot_holding to x ∷ rest) ∷ xs) (others_kept o.id (length done) (slot_holding to) after apart_after) in
       ap (λ (xs : List Object). with_objects t xs) (sym all)
 
-  store_one : (done rest : List Slot) (x : Slot) (to : ℕ) → is_live (place (done ++ x ∷ rest)) to ≡ true → step (heap_of (place (done ++ x ∷ rest))) (Store o.id (length done) (Some to)) ≡ Ok (heap_of (place (done ++ slot_holding (Some to) x ∷ rest)))
+  store_one : (done rest : List Slot) (x : Slot) (to : ℕ) → is_live (place (done ++ x ∷ rest)) to ≡ true →
+      step (heap_of (place (done ++ x ∷ rest))) (Store o.id (length done) (Some to)) ≡ Ok (heap_of (place (done ++ slot_holding (Some to) x ∷ rest)))
   store_one done rest x to live =
       let slots : List Slot = done ++ x ∷ rest in
       let within : length done < length slots = omega (arith, length-append done (x ∷ rest)) in
@@ -259,7 +295,9 @@ module _ (t : Table) (before after : List Object) (o : ObjectView) (apart : Apar
         sym (has_id-ids (place slots) to) ∙ ap (λ (xs : List ℕ). has_id xs to) (ids_placed slots ∙ same) ∙ there
 
     -- the same with one slot more behind those that are done
-    one_more : (done : List Slot) (x : Slot) (slots : List (Option ℕ)) → run_of (heap_of (place ((done ++ x ∷ []) ++ replicate (length slots) empty_slot))) (stores_from o.id (length (done ++ x ∷ [])) slots) ≡ Ok (heap_of (place ((done ++ x ∷ []) ++ map slot_of slots)))
+    one_more : (done : List Slot) (x : Slot) (slots : List (Option ℕ)) →
+        run_of (heap_of (place ((done ++ x ∷ []) ++ replicate (length slots) empty_slot))) (stores_from o.id (length (done ++ x ∷ [])) slots)
+        ≡ Ok (heap_of (place ((done ++ x ∷ []) ++ map slot_of slots)))
         → run_of (heap_of (place (done ++ x ∷ replicate (length slots) empty_slot))) (stores_from o.id (length done + 1) slots) ≡ Ok (heap_of (place (done ++ x ∷ map slot_of slots)))
     one_more done x slots is =
         let rest : List Slot = replicate (length slots) empty_slot in
@@ -278,7 +316,9 @@ module _ (t : Table) (before after : List Object) (o : ObjectView) (apart : Apar
         let there : IsTrue (has_id all to) = All-head (λ (held : Option ℕ). IfSome held (λ to. IsTrue (has_id all to))) (Some to) slots refer in
         then_event (heap_of (place (done ++ empty_slot ∷ rest))) (heap_of (place (done ++ slot_of (Some to) ∷ rest))) (Store o.id (length done) (Some to)) (stores_from o.id (length done + 1) slots)
         (store_one done rest empty_slot to (lives (done ++ empty_slot ∷ rest) to there))
-        ∙ one_more done (slot_of (Some to)) slots (slots_stored (done ++ slot_of (Some to) ∷ []) slots (All-tail (λ (held : Option ℕ). IfSome held (λ to. IsTrue (has_id all to))) (Some to) slots refer))
+        ∙ one_more done (slot_of (Some to)) slots
+        (slots_stored (done ++ slot_of (Some to) ∷ []) slots
+        (All-tail (λ (held : Option ℕ). IfSome held (λ to. IsTrue (has_id all to))) (Some to) slots refer))
 
 abbrev Refers : List ℕ → ObjectView → Type 0
 Refers all o = All (λ (held : Option ℕ). IfSome held (λ to. IsTrue (has_id all to))) o.slots
@@ -293,22 +333,45 @@ apart_emptied id (o ∷ rest) above =
     let less : id < o.id = All-head (λ (y : ℕ). id < y) o.id (object_ids rest) above in
     All-cons (λ (x : Object). x.id ≢ id) (empty_object o) (map empty_object rest) (λ same. absurd (omega arith)) (apart_emptied id rest (All-tail (λ (y : ℕ). id < y) o.id (object_ids rest) above))
 
-objects_stored : (t : Table) (all : List ℕ) (done : List Object) (rest : List ObjectView) → Below done rest → Rising rest → map id_of done ++ object_ids rest ≡ all → All (Refers all) rest
-    → run_of (heap_of (with_objects t (done ++ map empty_object rest))) (flat_map stores_of rest) ≡ Ok (heap_of (with_objects t (done ++ map full rest)))
-objects_stored t all done [] below rising same refer = refl
-objects_stored t all done (o ∷ rest) below rising same refer =
-    let now : List Object = done ++ full o ∷ [] in
-    let after : List Object = map empty_object rest in
-    let apart : Apart o.id done = All-weaker (λ (x : Object). All (λ (id : ℕ). x.id < id) (object_ids (o ∷ rest))) (λ (x : Object). x.id ≢ o.id) (λ x low is. let less : x.id < o.id = All-head (λ (id : ℕ). x.id < id) o.id (object_ids rest) low in absurd (omega arith)) done below in
-    let ids_same : map id_of done ++ o.id ∷ map id_of after ≡ all = ap (λ (xs : List ℕ). map id_of done ++ o.id ∷ xs) (ids-empty_object rest) ∙ same in
-    let stored = slots_stored t done after o apart (apart_emptied o.id rest (rising_head o rest rising)) all ids_same [] o.slots (All-head (Refers all) o rest refer) in
-    let below_now : Below now rest = All-push (λ (x : Object). All (λ (id : ℕ). x.id < id) (object_ids rest)) done (full o) (All-weaker (λ (x : Object). All (λ (id : ℕ). x.id < id) (object_ids (o ∷ rest))) (λ (x : Object). All (λ (id : ℕ). x.id < id) (object_ids rest)) (λ x low. All-tail (λ (id : ℕ). x.id < id) o.id (object_ids rest) low) done below) (rising_head o rest rising) in
-    let same_now : map id_of now ++ object_ids rest ≡ all = ap (λ (xs : List ℕ). xs ++ object_ids rest) (map-append id_of done (full o ∷ [])) ∙ append_assoc (map id_of done) (o.id ∷ []) (object_ids rest) ∙ same in
-    let later = objects_stored t all now rest below_now (rising_tail o rest rising) same_now (All-tail (Refers all) o rest refer) in
-    then_events (heap_of (with_objects t (done ++ empty_object o ∷ after))) (heap_of (with_objects t (done ++ full o ∷ after))) (stores_of o) (flat_map stores_of rest) stored
-    ∙ ap (λ (xs : List Object). run_of (heap_of (with_objects t xs)) (flat_map stores_of rest)) (sym (append_assoc done (full o ∷ []) after))
-    ∙ later
-    ∙ ap (λ (xs : List Object). Ok (heap_of (with_objects t xs))) (append_assoc done (full o ∷ []) (map full rest))
+module _ (t : Table) (all : List ℕ) where
+  -- behind the objects whose slots are stored stand these, and all that any slot refers to is there
+  record MayStore (done : List Object) (rest : List ObjectView) : Type 0 where
+    below : Below done rest
+    rising : Rising rest
+    same : map id_of done ++ object_ids rest ≡ all
+    refer : All (Refers all) rest
+
+  first_stored : (done : List Object) (o : ObjectView) (rest : List ObjectView) → MayStore done (o ∷ rest) → MayStore (done ++ full o ∷ []) rest
+  first_stored done o rest may = record {
+    below =
+        All-push (λ (x : Object). All (λ (id : ℕ). x.id < id) (object_ids rest)) done (full o)
+        (All-weaker (λ (x : Object). All (λ (id : ℕ). x.id < id) (object_ids (o ∷ rest))) (λ (x : Object). All (λ (id : ℕ). x.id < id) (object_ids rest))
+        (λ x low. All-tail (λ (id : ℕ). x.id < id) o.id (object_ids rest) low) done may.below)
+        (rising_head o rest may.rising);
+    rising = rising_tail o rest may.rising;
+    same =
+        ap (λ (xs : List ℕ). xs ++ object_ids rest) (map-append id_of done (full o ∷ []))
+        ∙ append_assoc (map id_of done) (o.id ∷ []) (object_ids rest)
+        ∙ may.same;
+    refer = All-tail (Refers all) o rest may.refer;
+  }
+
+  objects_stored : (done : List Object) (rest : List ObjectView) → MayStore done rest
+      → run_of (heap_of (with_objects t (done ++ map empty_object rest))) (flat_map stores_of rest) ≡ Ok (heap_of (with_objects t (done ++ map full rest)))
+  objects_stored done [] may = refl
+  objects_stored done (o ∷ rest) may =
+      let after : List Object = map empty_object rest in
+      let apart : Apart o.id done =
+      All-weaker (λ (x : Object). All (λ (id : ℕ). x.id < id) (object_ids (o ∷ rest))) (λ (x : Object). x.id ≢ o.id)
+      (λ x low is. let less : x.id < o.id = All-head (λ (id : ℕ). x.id < id) o.id (object_ids rest) low in absurd (omega arith)) done may.below in
+      let ids_same : map id_of done ++ o.id ∷ map id_of after ≡ all = ap (λ (xs : List ℕ). map id_of done ++ o.id ∷ xs) (ids-empty_object rest) ∙ may.same in
+      let refers = All-head (Refers all) o rest may.refer in
+      let stored = slots_stored t done after o apart (apart_emptied o.id rest (rising_head o rest may.rising)) all ids_same [] o.slots refers in
+      let later = objects_stored (done ++ full o ∷ []) rest (first_stored done o rest may) in
+      then_events (heap_of (with_objects t (done ++ empty_object o ∷ after))) (heap_of (with_objects t (done ++ full o ∷ after))) (stores_of o) (flat_map stores_of rest) stored
+      ∙ ap (λ (xs : List Object). run_of (heap_of (with_objects t xs)) (flat_map stores_of rest)) (sym (append_assoc done (full o ∷ []) after))
+      ∙ later
+      ∙ ap (λ (xs : List Object). Ok (heap_of (with_objects t xs))) (append_assoc done (full o ∷ []) (map full rest))
 
 -- ---- roots
 
@@ -345,14 +408,22 @@ root_one t roots name id live few below =
     ap (λ (o : Option Refusal). heap_unless o (heap_of (with_roots t (insert_entry name_cmp roots name id)))) (root_allowed (with_roots t roots) name id live few)
     ∙ ap (λ (rs : Roots). Ok (heap_of (with_roots t rs))) (insert_last roots name id below)
 
-roots_set : (t : Table) (done rest : Roots) → All (λ (r : List ℕ × ℕ). is_live t r.1 ≡ true) rest → length done + length rest ≤ MOST_ROOTS → All (λ (r : List ℕ × ℕ). All (λ (n : List ℕ). name_cmp r.0 n ≡ Less) (keys_of rest)) done → IsStrictlySortedBy name_cmp (keys_of rest)
+roots_set : (t : Table) (done rest : Roots) → All (λ (r : List ℕ × ℕ). is_live t r.1 ≡ true) rest → length done + length rest ≤ MOST_ROOTS →
+    All (λ (r : List ℕ × ℕ). All (λ (n : List ℕ). name_cmp r.0 n ≡ Less) (keys_of rest)) done → IsStrictlySortedBy name_cmp (keys_of rest)
     → run_of (heap_of (with_roots t done)) (map root_of rest) ≡ Ok (heap_of (with_roots t (done ++ rest)))
 roots_set t done [] live few below sorted = ap (λ (rs : Roots). Ok (heap_of (with_roots t rs))) (sym (append-nil done))
 roots_set t done (r ∷ rest) live few below sorted =
     let now : Roots = done ++ r ∷ [] in
-    let lower : All (λ (x : List ℕ × ℕ). name_cmp x.0 r.0 ≡ Less) done = All-weaker (λ (x : List ℕ × ℕ). All (λ (n : List ℕ). name_cmp x.0 n ≡ Less) (keys_of (r ∷ rest))) (λ (x : List ℕ × ℕ). name_cmp x.0 r.0 ≡ Less) (λ x low. All-head (λ (n : List ℕ). name_cmp x.0 n ≡ Less) r.0 (keys_of rest) low) done below in
-    let here : All (λ (n : List ℕ). name_cmp r.0 n ≡ Less) (keys_of rest) = All-from_recursion (λ (n : List ℕ). name_cmp r.0 n ≡ Less) (keys_of rest) (sorted_head name_cmp r.0 (keys_of rest) sorted) in
-    let below_now = All-push (λ (x : List ℕ × ℕ). All (λ (n : List ℕ). name_cmp x.0 n ≡ Less) (keys_of rest)) done r (All-weaker (λ (x : List ℕ × ℕ). All (λ (n : List ℕ). name_cmp x.0 n ≡ Less) (keys_of (r ∷ rest))) (λ (x : List ℕ × ℕ). All (λ (n : List ℕ). name_cmp x.0 n ≡ Less) (keys_of rest)) (λ x low. All-tail (λ (n : List ℕ). name_cmp x.0 n ≡ Less) r.0 (keys_of rest) low) done below) here in
+    let lower : All (λ (x : List ℕ × ℕ). name_cmp x.0 r.0 ≡ Less) done =
+    All-weaker (λ (x : List ℕ × ℕ). All (λ (n : List ℕ). name_cmp x.0 n ≡ Less) (keys_of (r ∷ rest)))
+    (λ (x : List ℕ × ℕ). name_cmp x.0 r.0 ≡ Less) (λ x low. All-head (λ (n : List ℕ). name_cmp x.0 n ≡ Less) r.0 (keys_of rest) low) done below in
+    let here : All (λ (n : List ℕ). name_cmp r.0 n ≡ Less) (keys_of rest) =
+    All-from_recursion (λ (n : List ℕ). name_cmp r.0 n ≡ Less) (keys_of rest) (sorted_head name_cmp r.0 (keys_of rest) sorted) in
+    let below_now =
+    All-push (λ (x : List ℕ × ℕ). All (λ (n : List ℕ). name_cmp x.0 n ≡ Less) (keys_of rest)) done r
+    (All-weaker (λ (x : List ℕ × ℕ). All (λ (n : List ℕ). name_cmp x.0 n ≡ Less) (keys_of (r ∷ rest)))
+    (λ (x : List ℕ × ℕ). All (λ (n : List ℕ). name_cmp x.0 n ≡ Less) (keys_of rest))
+    (λ x low. All-tail (λ (n : List ℕ). name_cmp x.0 n ≡ Less) r.0 (keys_of rest) low) done below) here in
     let count : length now ≡ length done + 1 = length-append done (r ∷ []) in
     then_event (heap_of (with_roots t done)) (heap_of (with_roots t now)) (root_of r) (map root_of rest)
     (root_one t done r.0 r.1 (All-head (λ (r : List ℕ × ℕ). is_live t r.1 ≡ true) r rest live) (omega (arith, few)) lower)
@@ -370,12 +441,19 @@ ids_above (o ∷ objects) legal =
 pub remakes_view : (v : HeapView) → IsWellFormed v → (h : Heap) × (heap_after empty_heap (map (λ e. event e) (events_of v)) ≡ Ok h) × (heap_view h.table ≡ v)
 remakes_view v formed =
     let all : List ℕ = object_ids v.objects in
-    let made = alloc_all [] v.objects 0 (omega (arith, formed.few_objects)) formed.few_slots formed.few_kinds (ids_above v.objects formed.objects) formed.ids in
+    let made = alloc_all [] v.objects 0 (record {
+      few = omega (arith, formed.few_objects);
+      room = formed.few_slots;
+      kinds = formed.few_kinds;
+      above = ids_above v.objects formed.objects;
+      rising = formed.ids;
+    }) in
     let t : Table = table_of v.objects made.0 in
     let u : Table = with_objects t (map full v.objects) in
-    let stored = objects_stored t all [] v.objects (All-nil _) formed.ids refl formed.slots in
+    let stored = objects_stored t all [] v.objects (record { below = All-nil _; rising = formed.ids; same = refl; refer = formed.slots }) in
     let live : All (λ (r : List ℕ × ℕ). is_live u r.1 ≡ true) v.roots =
-    All-weaker (λ (r : List ℕ × ℕ). IsTrue (has_id all r.1)) (λ (r : List ℕ × ℕ). is_live u r.1 ≡ true) (λ r there. sym (has_id-ids u r.1) ∙ ap (λ (xs : List ℕ). has_id xs r.1) (ids-full v.objects) ∙ there) v.roots formed.roots in
+    All-weaker (λ (r : List ℕ × ℕ). IsTrue (has_id all r.1)) (λ (r : List ℕ × ℕ). is_live u r.1 ≡ true)
+    (λ r there. sym (has_id-ids u r.1) ∙ ap (λ (xs : List ℕ). has_id xs r.1) (ids-full v.objects) ∙ there) v.roots formed.roots in
     let rooted = roots_set u [] v.roots live (omega (arith, formed.few_roots)) (All-nil _) formed.names in
     let allocs : List Event = map alloc_of v.objects in
     let stores : List Event = flat_map stores_of v.objects in (

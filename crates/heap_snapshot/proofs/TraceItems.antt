@@ -1,5 +1,6 @@
 -- The items of the trace of a view are its operations.
-use Rattle.std.proofs.Common.{◌≡◌, ℕ, ◌+◌, ◌*◌, ◌<◌, ◌≤◌, ◌^◌, ◌||◌, Bool, IsTrue, List, [], ◌∷◌, ◌++◌, length, map, Option, None, Some, IfSome, All, sym, ap, ◌∙◌, subst, arith, append_assoc, append-nil, length-append, inl, inr}
+use Rattle.std.proofs.Common.{◌≡◌, ℕ, ◌+◌, ◌*◌, ◌<◌, ◌≤◌, ◌^◌, ◌||◌, Bool, IsTrue, List, [], ◌∷◌, ◌++◌, length, map, Option, None, Some, IfSome}
+use Rattle.std.proofs.Common.{All, sym, ap, ◌∙◌, subst, arith, append_assoc, append-nil, length-append, inl, inr}
 use Rattle.std.specs.List.{flat_map}
 use Rattle.std.proofs.lemmas.Bool.{false≢true}
 use Rattle.std.proofs.lemmas.Bool.Decides.{eqb_tells}
@@ -24,7 +25,7 @@ use Rattle.snapshot_text.proofs.Legal.{IsLegalObject, IsLegalRoot}
 use Rattle.snapshot_trace.specs.Trace.{alloc_data, store_data, root_data, data_line, alloc_line, slot_lines, store_lines, root_line, trace_text}
 use Rattle.heap_snapshot.specs.HeapOfTrace.{alloc_of, stores_from, stores_of, root_of, events_of, heap_after, TraceHasEvents, TraceIsShort, RemakesHeap}
 use Rattle.heap_snapshot.proofs.Remaking.{remakes_view}
-use Rattle.heap_snapshot.proofs.TraceLines.{IsLineOf, alloc_is_line, store_is_line, root_is_line}
+use Rattle.heap_snapshot.proofs.TraceLines.{IsFitStore, IsLineOf, alloc_is_line, store_is_line, root_is_line}
 
 -- ---- texts that are read as operations
 
@@ -34,7 +35,8 @@ items events = map (λ e. event e) events
 -- wherever the text stands in a trace, its items are these operations
 abbrev HasItems : List ℕ → List Event → Type 0
 HasItems text events =
-    (limit before : ℕ) (rest : List ℕ) → before + length (text ++ rest) ≤ limit → items_from limit before (pieces (text ++ rest)) ≡ items events ++ items_from limit (before + length text) (pieces rest)
+    (limit before : ℕ) (rest : List ℕ) → before + length (text ++ rest) ≤ limit →
+    items_from limit before (pieces (text ++ rest)) ≡ items events ++ items_from limit (before + length text) (pieces rest)
 
 record Reads (text : List ℕ) (events : List Event) : Type 0 where
   has : HasItems text events
@@ -58,8 +60,8 @@ has-append text more xs ys first later limit before rest within =
     ∙ ap (λ (is : List Item). is ++ items_from limit (before + length text + length more) (pieces rest)) (sym (map-append (λ (e : Event). event e) xs ys))
     ∙ ap (λ n. items (xs ++ ys) ++ items_from limit n (pieces rest)) place
 
-reads-append : (text more : List ℕ) (xs ys : List Event) → Reads text xs → Reads more ys → Reads (text ++ more) (xs ++ ys)
-reads-append text more xs ys first later = record {
+reads-append : {text more : List ℕ} {xs ys : List Event} → Reads text xs → Reads more ys → Reads (text ++ more) (xs ++ ys)
+reads-append {text} {more} {xs} {ys} first later = record {
   has = has-append text more xs ys first.has later.has;
   short = omega (arith, first.short, later.short, length-append text more, length-append xs ys);
 }
@@ -84,11 +86,11 @@ reads-line line e is =
 alloc_reads : (o : ObjectView) → IsLegalObject o → length o.slots < 2 ^ 32 → Reads (alloc_line o) (alloc_of o ∷ [])
 unfolding data_line
 alloc_reads o legal few =
-    reads-line (compact_text (alloc_data o.id (length o.slots) o.kind)) (alloc_of o) (alloc_is_line o.id (length o.slots) o.kind legal.0 few legal.1)
+    reads-line (compact_text (alloc_data o.id (length o.slots) o.kind)) (alloc_of o) (alloc_is_line o.id (length o.slots) o.kind (record { legal_id = legal.0; few_slots = few; legal_kind = legal.1 }))
 
-store_reads : (at slot to : ℕ) → IsId at → slot < 2 ^ 32 → IsId to → Reads (data_line (store_data at slot to)) (Store at slot (Some to) ∷ [])
+store_reads : (at slot to : ℕ) → IsFitStore at slot to → Reads (data_line (store_data at slot to)) (Store at slot (Some to) ∷ [])
 unfolding data_line
-store_reads at slot to a b c = reads-line (compact_text (store_data at slot to)) (Store at slot (Some to)) (store_is_line at slot to a b c)
+store_reads at slot to fit = reads-line (compact_text (store_data at slot to)) (Store at slot (Some to)) (store_is_line at slot to fit)
 
 root_reads : (r : List ℕ × ℕ) → IsName r.0 → IsId r.1 → Reads (root_line r) (root_of r ∷ [])
 unfolding data_line
@@ -102,29 +104,30 @@ allocs_read : (objects : List ObjectView) → All IsLegalObject objects → slot
 allocs_read [] legal few = reads-nil
 allocs_read (o ∷ objects) legal few =
     let total : slot_total (o ∷ objects) ≡ length o.slots + slot_total objects = sum_by-cons (λ (o : ObjectView). length o.slots) o objects in
-    reads-append (alloc_line o) (flat_map alloc_line objects) (alloc_of o ∷ []) (map alloc_of objects) (alloc_reads o (All-head IsLegalObject o objects legal) (omega (arith, few, total)))
+    reads-append (alloc_reads o (All-head IsLegalObject o objects legal) (omega (arith, few, total)))
     (allocs_read objects (All-tail IsLegalObject o objects legal) (omega (arith, few, total)))
 
 slots_read : (at slot : ℕ) (slots : List (Option ℕ)) → IsId at → slot + length slots < 2 ^ 32 → All HoldsId slots → Reads (slot_lines at slot slots) (stores_from at slot slots)
 slots_read at slot [] a few hold = reads-nil
 slots_read at slot (None ∷ slots) a few hold = slots_read at (slot + 1) slots a (omega (arith, few)) (All-tail HoldsId None slots hold)
 slots_read at slot (Some to ∷ slots) a few hold =
-    reads-append (data_line (store_data at slot to)) (slot_lines at (slot + 1) slots) (Store at slot (Some to) ∷ []) (stores_from at (slot + 1) slots)
-    (store_reads at slot to a (omega (arith, few)) (All-head HoldsId (Some to) slots hold))
+    reads-append
+    (store_reads at slot to (record { legal_at = a; low_slot = omega (arith, few); legal_to = All-head HoldsId (Some to) slots hold }))
     (slots_read at (slot + 1) slots a (omega (arith, few)) (All-tail HoldsId (Some to) slots hold))
 
-stores_read : (objects : List ObjectView) → All IsLegalObject objects → slot_total objects ≤ MOST_SLOTS → All (λ (o : ObjectView). All HoldsId o.slots) objects → Reads (flat_map store_lines objects) (flat_map stores_of objects)
+stores_read : (objects : List ObjectView) → All IsLegalObject objects → slot_total objects ≤ MOST_SLOTS →
+    All (λ (o : ObjectView). All HoldsId o.slots) objects → Reads (flat_map store_lines objects) (flat_map stores_of objects)
 stores_read [] legal few hold = reads-nil
 stores_read (o ∷ objects) legal few hold =
     let total : slot_total (o ∷ objects) ≡ length o.slots + slot_total objects = sum_by-cons (λ (o : ObjectView). length o.slots) o objects in
-    reads-append (store_lines o) (flat_map store_lines objects) (stores_of o) (flat_map stores_of objects)
+    reads-append
     (slots_read o.id 0 o.slots (All-head IsLegalObject o objects legal).0 (omega (arith, few, total)) (All-head (λ (o : ObjectView). All HoldsId o.slots) o objects hold))
     (stores_read objects (All-tail IsLegalObject o objects legal) (omega (arith, few, total)) (All-tail (λ (o : ObjectView). All HoldsId o.slots) o objects hold))
 
 roots_read : (roots : List (List ℕ × ℕ)) → All IsLegalRoot roots → All (λ (r : List ℕ × ℕ). IsId r.1) roots → Reads (flat_map root_line roots) (map root_of roots)
 roots_read [] named held = reads-nil
 roots_read (r ∷ roots) named held =
-    reads-append (root_line r) (flat_map root_line roots) (root_of r ∷ []) (map root_of roots)
+    reads-append
     (root_reads r (All-head IsLegalRoot r roots named) (All-head (λ (r : List ℕ × ℕ). IsId r.1) r roots held))
     (roots_read roots (All-tail IsLegalRoot r roots named) (All-tail (λ (r : List ℕ × ℕ). IsId r.1) r roots held))
 
@@ -152,11 +155,13 @@ trace_reads v formed =
     let ids : List ℕ = object_ids v.objects in
     let all : All IsId ids = ids_legal v.objects formed.objects in
     let hold : All (λ (o : ObjectView). All HoldsId o.slots) v.objects =
-    All-weaker (λ (o : ObjectView). All (λ (held : Option ℕ). IfSome held (λ to. IsTrue (has_id ids to))) o.slots) (λ (o : ObjectView). All HoldsId o.slots) (λ o refer. All-weaker (λ (held : Option ℕ). IfSome held (λ to. IsTrue (has_id ids to))) HoldsId (holds_id ids all) o.slots refer) v.objects formed.slots in
-    let held : All (λ (r : List ℕ × ℕ). IsId r.1) v.roots = All-weaker (λ (r : List ℕ × ℕ). IsTrue (has_id ids r.1)) (λ (r : List ℕ × ℕ). IsId r.1) (λ r there. among ids r.1 all there) v.roots formed.roots in
-    reads-append (flat_map alloc_line v.objects ++ flat_map store_lines v.objects) (flat_map root_line v.roots) (map alloc_of v.objects ++ flat_map stores_of v.objects) (map root_of v.roots)
-    (reads-append (flat_map alloc_line v.objects) (flat_map store_lines v.objects) (map alloc_of v.objects) (flat_map stores_of v.objects)
-    (allocs_read v.objects formed.objects formed.few_slots) (stores_read v.objects formed.objects formed.few_slots hold))
+    All-weaker (λ (o : ObjectView). All (λ (held : Option ℕ). IfSome held (λ to. IsTrue (has_id ids to))) o.slots)
+    (λ (o : ObjectView). All HoldsId o.slots)
+    (λ o refer. All-weaker (λ (held : Option ℕ). IfSome held (λ to. IsTrue (has_id ids to))) HoldsId (holds_id ids all) o.slots refer) v.objects
+    formed.slots in
+    let held : All (λ (r : List ℕ × ℕ). IsId r.1) v.roots =
+    All-weaker (λ (r : List ℕ × ℕ). IsTrue (has_id ids r.1)) (λ (r : List ℕ × ℕ). IsId r.1) (λ r there. among ids r.1 all there) v.roots formed.roots in
+    reads-append (reads-append (allocs_read v.objects formed.objects formed.few_slots) (stores_read v.objects formed.objects formed.few_slots hold))
     (roots_read v.roots formed.root_names held)
 
 items_nil : (limit before : ℕ) → items_from limit before (pieces []) ≡ []
@@ -190,7 +195,17 @@ few_events v formed =
     let allocs : List Event = map alloc_of v.objects in
     let stores : List Event = flat_map stores_of v.objects in
     let roots : List Event = map root_of v.roots in
-    omega (arith, length-append (allocs ++ stores) roots, length-append allocs stores, length-map v.objects alloc_of, length-map v.roots root_of, few_stores_of v.objects, formed.few_objects, formed.few_slots, formed.few_roots)
+    omega (
+      arith,
+      length-append (allocs ++ stores) roots,
+      length-append allocs stores,
+      length-map v.objects alloc_of,
+      length-map v.roots root_of,
+      few_stores_of v.objects,
+      formed.few_objects,
+      formed.few_slots,
+      formed.few_roots,
+    )
 
 pub trace_is_short : TraceIsShort
 trace_is_short v lawful =

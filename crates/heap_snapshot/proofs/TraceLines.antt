@@ -1,5 +1,7 @@
 -- Each line of the trace of a view is read as its operation.
-use Rattle.std.proofs.Common.{◌≡◌, ◌≢◌, ℕ, ◌+◌, ◌*◌, ◌^◌, ◌<◌, ◌≤◌, Bool, true, not, ◌&&◌, eqb, ltb, leb, IsUtf8, List, [], ◌∷◌, ◌++◌, length, codes, decimal, Option, None, Some, option_map, option_and_then, Ok, sym, refl, ap, ◌∙◌, subst, arith, append_assoc, append-nil, length-append, inl, inr}
+use Rattle.std.proofs.Common.{◌≡◌, ◌≢◌, ℕ, ◌+◌, ◌*◌, ◌^◌, ◌<◌, ◌≤◌, Bool, true, not, ◌&&◌, eqb, ltb, leb, IsUtf8, List, [], ◌∷◌, ◌++◌, length}
+use Rattle.std.proofs.Common.{codes, decimal, Option, None, Some, option_map, option_and_then, Ok, sym, refl, ap, ◌∙◌, subst, arith, append_assoc}
+use Rattle.std.proofs.Common.{append-nil, length-append, inl, inr}
 use Rattle.std.specs.List.{list_all}
 use Rattle.std.specs.Char.{digit_value}
 use Rattle.std.specs.Str.Parse.{AllDigits}
@@ -17,7 +19,7 @@ use Rattle.json.proofs.Printed.Decimals.{IsNumber-decimal}
 use Rattle.json.proofs.Printed.Strings.{escape_byte_plain}
 use Rattle.json.proofs.Printed.Tokens.{tokens-print}
 use Rattle.json.proofs.Printed.Trees.{ArePrintable-json_tokens, value-json_tokens}
-use Rattle.json.proofs.Printed.Utf8.{IsUtf8-are_ascii, IsUtf8-quoted}
+use Rattle.json.proofs.Printed.Utf8.{are_ascii, IsUtf8-are_ascii, IsUtf8-quoted}
 use Rattle.serde_json.specs.Data.{unsigned, Data, string}
 use Rattle.serde_json.specs.Read.{read, number_of, of_json, max_depth}
 use Rattle.serde_json.specs.Written.{outline, compact_text}
@@ -30,7 +32,8 @@ use Rattle.graph_meaning.specs.declared.event.Event.{Event}
 use Rattle.graph_meaning.specs.declared.event.Event.TheVariants.{Alloc, Store, Root}
 use Rattle.graph_meaning.specs.declared.refusal.FieldName.TheVariants.{IdField, TypeField, SlotsField, AtField, SlotField, ToField, NameField}
 use Rattle.trace_reader.specs.Cuts.{HasNoNewline}
-use Rattle.trace_reader.specs.Meaning.{event, id_value, count_value, target_value, name_value, good_value, ◌>>=◌, event_in, operation, alloc_in, store_in, root_in, event_of_json, item_from, item_of_line}
+use Rattle.trace_reader.specs.Meaning.{event, id_value, count_value, target_value, name_value, good_value, ◌>>=◌, event_in, operation, alloc_in}
+use Rattle.trace_reader.specs.Meaning.{store_in, root_in, event_of_json, item_from, item_of_line}
 use Rattle.trace_reader.proofs.Json.{json_of_text}
 use Rattle.snapshot_text.specs.Formed.{IsId, IsName}
 use Rattle.snapshot_trace.specs.Trace.{whole, alloc_data, store_data, root_data}
@@ -43,8 +46,8 @@ pub record IsPart (most : ℕ) (text : List ℕ) : Type 0 where
   pub one_line : HasNoNewline text
   pub short : length text ≤ most
 
-part-append : (m n : ℕ) (xs ys : List ℕ) → IsPart m xs → IsPart n ys → IsPart (m + n) (xs ++ ys)
-part-append m n xs ys x y = record {
+part-append : {m n : ℕ} {xs ys : List ℕ} → IsPart m xs → IsPart n ys → IsPart (m + n) (xs ++ ys)
+part-append {m} {n} {xs} {ys} x y = record {
   utf8 = IsUtf8-append xs ys x.utf8 y.utf8;
   one_line = All-append (λ b. b ≢ 10) xs ys x.one_line y.one_line;
   short = omega (arith, x.short, y.short, length-append xs ys);
@@ -86,7 +89,8 @@ escaped b is =
           elim (eqb_tells b 92) as (λ _. HasNoNewline (escape_byte b) × (length (escape_byte b) ≤ 2)) [
             | inl backslash ↦ subst (λ (x : ℕ). HasNoNewline (escape_byte x) × (length (escape_byte x) ≤ 2)) (sym backslash.1) (plain-one_line (escape_byte 92) refl, omega arith)
             | inr no_backslash ↦ (
-                subst (λ (xs : List ℕ). HasNoNewline xs × (length xs ≤ 2)) (sym (escape_byte_plain b no_quote.1 no_backslash.1 low)) (All-cons (λ b. b ≢ 10) b [] (λ same. absurd (omega arith)) (All-nil (λ b. b ≢ 10)), omega arith)
+                subst (λ (xs : List ℕ). HasNoNewline xs × (length xs ≤ 2)) (sym (escape_byte_plain b no_quote.1 no_backslash.1 low))
+                (All-cons (λ b. b ≢ 10) b [] (λ same. absurd (omega arith)) (All-nil (λ b. b ≢ 10)), omega arith)
                 )
           ]
           )
@@ -115,11 +119,13 @@ name-part name is =
 
 -- ---- the compact texts, part by part
 
-alloc_parts : (id slots : ℕ) (kind : List ℕ) → compact_text (alloc_data id slots kind) ≡ codes "{\"id\":" ++ (decimal id ++ (codes ",\"op\":\"alloc\",\"slots\":" ++ (decimal slots ++ (codes ",\"type\":" ++ (quoted kind ++ codes "}")))))
+alloc_parts : (id slots : ℕ) (kind : List ℕ) →
+    compact_text (alloc_data id slots kind) ≡ codes "{\"id\":" ++ (decimal id ++ (codes ",\"op\":\"alloc\",\"slots\":" ++ (decimal slots ++ (codes ",\"type\":" ++ (quoted kind ++ codes "}")))))
 unfolding serde_json_on_literals
 alloc_parts id slots kind = simp append_assoc
 
-store_parts : (at slot to : ℕ) → compact_text (store_data at slot to) ≡ codes "{\"at\":" ++ (decimal at ++ (codes ",\"op\":\"store\",\"slot\":" ++ (decimal slot ++ (codes ",\"to\":" ++ (decimal to ++ codes "}")))))
+store_parts : (at slot to : ℕ) →
+    compact_text (store_data at slot to) ≡ codes "{\"at\":" ++ (decimal at ++ (codes ",\"op\":\"store\",\"slot\":" ++ (decimal slot ++ (codes ",\"to\":" ++ (decimal to ++ codes "}")))))
 unfolding serde_json_on_literals
 store_parts at slot to = simp append_assoc
 
@@ -127,37 +133,54 @@ root_parts : (name : List ℕ) (to : ℕ) → compact_text (root_data name to) �
 unfolding serde_json_on_literals
 root_parts name to = simp append_assoc
 
-literal : (text : List ℕ) → IsUtf8 text → is_plain text ≡ true → length text ≤ 40 → IsPart 40 text
-literal text utf8 plain short = record { utf8 = utf8; one_line = plain-one_line text plain; short = short }
+literal : (text : List ℕ) → are_ascii text ≡ true → is_plain text ≡ true → length text ≤ 40 → IsPart 40 text
+literal text ascii plain short = record { utf8 = IsUtf8-are_ascii text ascii; one_line = plain-one_line text plain; short = short }
 
 closing : IsPart 40 (codes "}")
-closing = literal (codes "}") (IsUtf8-are_ascii (codes "}") refl) refl (omega arith)
+closing = literal (codes "}") refl refl (omega arith)
 
-longer : (n : ℕ) (most : ℕ) (text : List ℕ) → n ≤ most → IsPart n text → IsPart most text
-longer n most text less is = record { utf8 = is.utf8; one_line = is.one_line; short = omega (arith, is.short) }
+longer : {n : ℕ} {text : List ℕ} (most : ℕ) → n ≤ most → IsPart n text → IsPart most text
+longer most less is = record { utf8 = is.utf8; one_line = is.one_line; short = omega (arith, is.short) }
 
 -- two numbers and a third value between literals
-three_values : (a b c : List ℕ) (m n : ℕ) (value : List ℕ) → IsPart 40 a → IsPart 40 b → IsPart 40 c → m < 2 ^ 32 → n < 2 ^ 32 → IsPart 514 value → IsPart 1000 (a ++ (decimal m ++ (b ++ (decimal n ++ (c ++ (value ++ codes "}"))))))
-three_values a b c m n value is_a is_b is_c below_m below_n is =
-    let third = part-append 40 554 c _ is_c (part-append 514 40 value (codes "}") is closing) in
-    let second = part-append 40 604 b _ is_b (part-append 10 594 (decimal n) _ (decimal-part n below_n) third) in
-    longer 694 1000 _ (omega arith) (part-append 40 654 a _ is_a (part-append 10 644 (decimal m) _ (decimal-part m below_m) second))
+three_values : {a b c value : List ℕ} (m n : ℕ) → (m < 2 ^ 32) × (n < 2 ^ 32) → IsPart 40 a × IsPart 40 b × IsPart 40 c → IsPart 514 value →
+    IsPart 1000 (a ++ (decimal m ++ (b ++ (decimal n ++ (c ++ (value ++ codes "}"))))))
+three_values m n below (is_a, is_b, is_c) is =
+    let third = part-append is_c (part-append is closing) in
+    let second = part-append is_b (part-append (decimal-part n below.1) third) in
+    longer 1000 (omega arith) (part-append is_a (part-append (decimal-part m below.0) second))
 
-alloc-part : (id slots : ℕ) (kind : List ℕ) → id < 2 ^ 32 → slots < 2 ^ 32 → IsName kind → IsPart 1000 (compact_text (alloc_data id slots kind))
-alloc-part id slots kind a b is =
+-- numbers and a name that an allocation may have
+pub record IsFitAlloc (id slots : ℕ) (kind : List ℕ) : Type 0 where
+  pub legal_id : IsId id
+  pub few_slots : slots < 2 ^ 32
+  pub legal_kind : IsName kind
+
+-- numbers that a store may have
+pub record IsFitStore (at slot to : ℕ) : Type 0 where
+  pub legal_at : IsId at
+  pub low_slot : slot < 2 ^ 32
+  pub legal_to : IsId to
+
+alloc-part : (id slots : ℕ) (kind : List ℕ) → IsFitAlloc id slots kind → IsPart 1000 (compact_text (alloc_data id slots kind))
+alloc-part id slots kind fit =
     subst (IsPart 1000) (sym (alloc_parts id slots kind))
-    (three_values (codes "{\"id\":") (codes ",\"op\":\"alloc\",\"slots\":") (codes ",\"type\":") id slots (quoted kind) (literal _ (IsUtf8-are_ascii _ refl) refl (omega arith)) (literal _ (IsUtf8-are_ascii _ refl) refl (omega arith)) (literal _ (IsUtf8-are_ascii _ refl) refl (omega arith)) a b (name-part kind is))
+    (three_values id slots (fit.legal_id.1, fit.few_slots)
+    (literal (codes "{\"id\":") refl refl (omega arith), literal (codes ",\"op\":\"alloc\",\"slots\":") refl refl (omega arith), literal (codes ",\"type\":") refl refl (omega arith))
+    (name-part kind fit.legal_kind))
 
-store-part : (at slot to : ℕ) → at < 2 ^ 32 → slot < 2 ^ 32 → to < 2 ^ 32 → IsPart 1000 (compact_text (store_data at slot to))
-store-part at slot to a b c =
+store-part : (at slot to : ℕ) → IsFitStore at slot to → IsPart 1000 (compact_text (store_data at slot to))
+store-part at slot to fit =
     subst (IsPart 1000) (sym (store_parts at slot to))
-    (three_values (codes "{\"at\":") (codes ",\"op\":\"store\",\"slot\":") (codes ",\"to\":") at slot (decimal to) (literal _ (IsUtf8-are_ascii _ refl) refl (omega arith)) (literal _ (IsUtf8-are_ascii _ refl) refl (omega arith)) (literal _ (IsUtf8-are_ascii _ refl) refl (omega arith)) a b (longer 10 514 (decimal to) (omega arith) (decimal-part to c)))
+    (three_values at slot (fit.legal_at.1, fit.low_slot)
+    (literal (codes "{\"at\":") refl refl (omega arith), literal (codes ",\"op\":\"store\",\"slot\":") refl refl (omega arith), literal (codes ",\"to\":") refl refl (omega arith))
+    (longer 514 (omega arith) (decimal-part to fit.legal_to.1)))
 
 root-part : (name : List ℕ) (to : ℕ) → IsName name → to < 2 ^ 32 → IsPart 1000 (compact_text (root_data name to))
 root-part name to is c =
-    let last = part-append 40 50 (codes ",\"op\":\"root\",\"to\":") _ (literal _ (IsUtf8-are_ascii _ refl) refl (omega arith)) (part-append 10 40 (decimal to) (codes "}") (decimal-part to c) closing) in
+    let last = part-append (literal (codes ",\"op\":\"root\",\"to\":") refl refl (omega arith)) (part-append (decimal-part to c) closing) in
     subst (IsPart 1000) (sym (root_parts name to))
-    (longer 644 1000 _ (omega arith) (part-append 40 604 (codes "{\"name\":") _ (literal _ (IsUtf8-are_ascii _ refl) refl (omega arith)) (part-append 514 90 (quoted name) _ (name-part name is) last)))
+    (longer 1000 (omega arith) (part-append (literal (codes "{\"name\":") refl refl (omega arith)) (part-append (name-part name is) last)))
 
 -- ---- they are read back
 
@@ -170,14 +193,19 @@ module _ (d : Data) (value : of_json (outline d) ≡ Some d) (numbers : tree.Has
       (ap (json.value max_depth) same ∙ value-json_tokens (outline d) max_depth [] shallow)
       ∙ value
 
-alloc_read : (id slots : ℕ) (kind : List ℕ) → id < 2 ^ 64 → slots < 2 ^ 64 → read (compact_text (alloc_data id slots kind)) ≡ Some (alloc_data id slots kind)
-alloc_read id slots kind a b =
+alloc_read : (id slots : ℕ) (kind : List ℕ) → IsFitAlloc id slots kind → read (compact_text (alloc_data id slots kind)) ≡ Some (alloc_data id slots kind)
+alloc_read id slots kind fit =
+    let a : id < 2 ^ 64 = omega (arith, fit.legal_id.1) in
+    let b : slots < 2 ^ 64 = omega (arith, fit.few_slots) in
     let one : number_of (decimal id) ≡ Some (unsigned id) = number_of-decimal id a in
     let two : number_of (decimal slots) ≡ Some (unsigned slots) = number_of-decimal slots b in
     read_text (alloc_data id slots kind) (rw (one, two) refl) (IsNumber-decimal id a, (tt, (IsNumber-decimal slots b, (tt, tt)))) (omega arith)
 
-store_read : (at slot to : ℕ) → at < 2 ^ 64 → slot < 2 ^ 64 → to < 2 ^ 64 → read (compact_text (store_data at slot to)) ≡ Some (store_data at slot to)
-store_read at slot to a b c =
+store_read : (at slot to : ℕ) → IsFitStore at slot to → read (compact_text (store_data at slot to)) ≡ Some (store_data at slot to)
+store_read at slot to fit =
+    let a : at < 2 ^ 64 = omega (arith, fit.legal_at.1) in
+    let b : slot < 2 ^ 64 = omega (arith, fit.low_slot) in
+    let c : to < 2 ^ 64 = omega (arith, fit.legal_to.1) in
     let one : number_of (decimal at) ≡ Some (unsigned at) = number_of-decimal at a in
     let two : number_of (decimal slot) ≡ Some (unsigned slot) = number_of-decimal slot b in
     let three : number_of (decimal to) ≡ Some (unsigned to) = number_of-decimal to c in
@@ -204,19 +232,23 @@ name_is name is = cond-true (is_name name) (Some name) None is.0
 target_is : (n : ℕ) → IsId n → target_value (whole n) ≡ Some (Some n)
 target_is n is = ap (λ (o : Option ℕ). option_map (λ (x : ℕ). Some x) o) (id_is n is)
 
-alloc_means : (id slots : ℕ) (kind : List ℕ) → IsId id → slots < 2 ^ 32 → IsName kind → event_in (alloc_data id slots kind) ≡ Ok (Alloc id kind slots 0)
+alloc_means : (id slots : ℕ) (kind : List ℕ) → IsFitAlloc id slots kind → event_in (alloc_data id slots kind) ≡ Ok (Alloc id kind slots 0)
 unfolding event_in operation alloc_in
-alloc_means id slots kind a b is =
-    ap (λ (i : Option ℕ). good_value IdField i >>= (λ i. good_value TypeField (name_value (string kind)) >>= (λ k. good_value SlotsField (count_value (whole slots)) >>= (λ n. Ok (Alloc i k n 0))))) (id_is id a)
-    ∙ ap (λ (k : Option (List ℕ)). good_value TypeField k >>= (λ k. good_value SlotsField (count_value (whole slots)) >>= (λ n. Ok (Alloc id k n 0)))) (name_is kind is)
-    ∙ ap (λ (n : Option ℕ). good_value SlotsField n >>= (λ n. Ok (Alloc id kind n 0))) (count_is slots b)
+alloc_means id slots kind fit =
+    ap (λ (i : Option ℕ). good_value IdField i >>=
+    (λ i. good_value TypeField (name_value (string kind)) >>= (λ k. good_value SlotsField (count_value (whole slots)) >>= (λ n. Ok (Alloc i k n 0)))))
+    (id_is id fit.legal_id)
+    ∙ ap (λ (k : Option (List ℕ)). good_value TypeField k >>= (λ k. good_value SlotsField (count_value (whole slots)) >>= (λ n. Ok (Alloc id k n 0)))) (name_is kind fit.legal_kind)
+    ∙ ap (λ (n : Option ℕ). good_value SlotsField n >>= (λ n. Ok (Alloc id kind n 0))) (count_is slots fit.few_slots)
 
-store_means : (at slot to : ℕ) → IsId at → slot < 2 ^ 32 → IsId to → event_in (store_data at slot to) ≡ Ok (Store at slot (Some to))
+store_means : (at slot to : ℕ) → IsFitStore at slot to → event_in (store_data at slot to) ≡ Ok (Store at slot (Some to))
 unfolding event_in operation store_in
-store_means at slot to a b c =
-    ap (λ (i : Option ℕ). good_value AtField i >>= (λ i. good_value SlotField (count_value (whole slot)) >>= (λ n. good_value ToField (target_value (whole to)) >>= (λ t. Ok (Store i n t))))) (id_is at a)
-    ∙ ap (λ (n : Option ℕ). good_value SlotField n >>= (λ n. good_value ToField (target_value (whole to)) >>= (λ t. Ok (Store at n t)))) (count_is slot b)
-    ∙ ap (λ (t : Option (Option ℕ)). good_value ToField t >>= (λ t. Ok (Store at slot t))) (target_is to c)
+store_means at slot to fit =
+    ap (λ (i : Option ℕ). good_value AtField i >>=
+    (λ i. good_value SlotField (count_value (whole slot)) >>= (λ n. good_value ToField (target_value (whole to)) >>= (λ t. Ok (Store i n t)))))
+    (id_is at fit.legal_at)
+    ∙ ap (λ (n : Option ℕ). good_value SlotField n >>= (λ n. good_value ToField (target_value (whole to)) >>= (λ t. Ok (Store at n t)))) (count_is slot fit.low_slot)
+    ∙ ap (λ (t : Option (Option ℕ)). good_value ToField t >>= (λ t. Ok (Store at slot t))) (target_is to fit.legal_to)
 
 root_means : (name : List ℕ) (to : ℕ) → IsName name → IsId to → event_in (root_data name to) ≡ Ok (Root name (Some to))
 unfolding event_in operation root_in
@@ -232,30 +264,31 @@ pub record IsLineOf (text : List ℕ) (e : Event) : Type 0 where
   pub short : length text ≤ 1000
   pub item : item_of_line text ≡ event e
 
--- a text that begins with a brace isn't blank
-item_of_text : (rest : List ℕ) (d : Data) (e : Event) → IsUtf8 (123 ∷ rest) → read (123 ∷ rest) ≡ Some d → event_in d ≡ Ok e → item_of_line (123 ∷ rest) ≡ event e
-unfolding item_of_line
-item_of_text rest d e utf8 is means =
-    ap (λ (o : Option Data). item_from (event_of_json o)) (json_of_text (123 ∷ rest) utf8 ∙ is) ∙ ap item_from means
+module _ (d : Data) (e : Event) (means : event_in d ≡ Ok e) where
+  -- a text that begins with a brace isn't blank
+  item_of_text : (rest : List ℕ) → IsUtf8 (123 ∷ rest) → read (123 ∷ rest) ≡ Some d → item_of_line (123 ∷ rest) ≡ event e
+  unfolding item_of_line
+  item_of_text rest utf8 is =
+      ap (λ (o : Option Data). item_from (event_of_json o)) (json_of_text (123 ∷ rest) utf8 ∙ is) ∙ ap item_from means
 
-line_of_data : (text : List ℕ) (d : Data) (e : Event) → ((rest : List ℕ) × (text ≡ 123 ∷ rest)) → IsPart 1000 text → read text ≡ Some d → event_in d ≡ Ok e → IsLineOf text e
-line_of_data text d e begins part is means = record {
-  one_line = part.one_line;
-  short = part.short;
-  item = subst (λ (t : List ℕ). IsUtf8 t → read t ≡ Some d → item_of_line t ≡ event e) (sym begins.1) (λ utf8 found. item_of_text begins.0 d e utf8 found means) part.utf8 is;
-}
+  line_of_data : (text : List ℕ) → ((rest : List ℕ) × (text ≡ 123 ∷ rest)) → IsPart 1000 text → read text ≡ Some d → IsLineOf text e
+  line_of_data text begins part is = record {
+    one_line = part.one_line;
+    short = part.short;
+    item = subst (λ (t : List ℕ). IsUtf8 t → read t ≡ Some d → item_of_line t ≡ event e) (sym begins.1) (item_of_text begins.0) part.utf8 is;
+  }
 
-pub alloc_is_line : (id slots : ℕ) (kind : List ℕ) → IsId id → slots < 2 ^ 32 → IsName kind → IsLineOf (compact_text (alloc_data id slots kind)) (Alloc id kind slots 0)
-alloc_is_line id slots kind a b is =
-    line_of_data (compact_text (alloc_data id slots kind)) (alloc_data id slots kind) (Alloc id kind slots 0) (_, refl) (alloc-part id slots kind a.1 b is)
-    (alloc_read id slots kind (omega (arith, a.1)) (omega (arith, b))) (alloc_means id slots kind a b is)
+pub alloc_is_line : (id slots : ℕ) (kind : List ℕ) → IsFitAlloc id slots kind → IsLineOf (compact_text (alloc_data id slots kind)) (Alloc id kind slots 0)
+alloc_is_line id slots kind fit =
+    line_of_data (alloc_data id slots kind) (Alloc id kind slots 0) (alloc_means id slots kind fit) (compact_text (alloc_data id slots kind)) (_, refl)
+    (alloc-part id slots kind fit) (alloc_read id slots kind fit)
 
-pub store_is_line : (at slot to : ℕ) → IsId at → slot < 2 ^ 32 → IsId to → IsLineOf (compact_text (store_data at slot to)) (Store at slot (Some to))
-store_is_line at slot to a b c =
-    line_of_data (compact_text (store_data at slot to)) (store_data at slot to) (Store at slot (Some to)) (_, refl) (store-part at slot to a.1 b c.1)
-    (store_read at slot to (omega (arith, a.1)) (omega (arith, b)) (omega (arith, c.1))) (store_means at slot to a b c)
+pub store_is_line : (at slot to : ℕ) → IsFitStore at slot to → IsLineOf (compact_text (store_data at slot to)) (Store at slot (Some to))
+store_is_line at slot to fit =
+    line_of_data (store_data at slot to) (Store at slot (Some to)) (store_means at slot to fit) (compact_text (store_data at slot to)) (_, refl)
+    (store-part at slot to fit) (store_read at slot to fit)
 
 pub root_is_line : (name : List ℕ) (to : ℕ) → IsName name → IsId to → IsLineOf (compact_text (root_data name to)) (Root name (Some to))
 root_is_line name to is c =
-    line_of_data (compact_text (root_data name to)) (root_data name to) (Root name (Some to)) (_, refl) (root-part name to is c.1)
-    (root_read name to (omega (arith, c.1))) (root_means name to is c)
+    line_of_data (root_data name to) (Root name (Some to)) (root_means name to is c) (compact_text (root_data name to)) (_, refl)
+    (root-part name to is c.1) (root_read name to (omega (arith, c.1)))

@@ -9,4 +9,5 @@ use Rattle.heap_snapshot.proofs.from_trace.take_event.Goals as goal
 pub returns-in-Alloc : goal.returns-in-Alloc
 returns-in-Alloc c =
     subst (λ (e : Event). Takes (takes (heap_of c.args.making.now.table.table) e) c.nothing_due.result (heap_of c.alloc_object.new.table.table)) (sym c.in-Alloc.is)
-    (c.nothing_due.ensures (step (heap_of c.args.making.now.table.table) (Alloc c.in-Alloc.id c.in-Alloc.kind c.in-Alloc.slots c.in-Alloc.thread)) (heap_of c.alloc_object.new.table.table) (c.alloc_object.ensures c.in-Alloc.thread))
+    (c.nothing_due.ensures (step (heap_of c.args.making.now.table.table) (Alloc c.in-Alloc.id c.in-Alloc.kind c.in-Alloc.slots c.in-Alloc.thread))
+    (heap_of c.alloc_object.new.table.table) (c.alloc_object.ensures c.in-Alloc.thread))

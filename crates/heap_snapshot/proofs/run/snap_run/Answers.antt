@@ -8,9 +8,9 @@ pub returns-in-None-clause-refused : goal.returns-in-None-clause-refused
 returns-in-None-clause-refused g c _ = c.refuse_words.ensures (stream_of g.S.Source.left g.S.Source.faults c.args.source.now)
 
 pub returns-in-Some-FromTrace-clause-unwritten : goal.returns-in-Some-FromTrace-clause-unwritten
-returns-in-Some-FromTrace-clause-unwritten g c failed = unwritten_from_trace _ _ _ c.from_trace.ensures failed
+returns-in-Some-FromTrace-clause-unwritten g c failed = unwritten_from_trace _ _ failed c.from_trace.ensures
 
 pub returns-in-None-clause-unwritten : goal.returns-in-None-clause-unwritten
 returns-in-None-clause-unwritten g c failed =
     let source = stream_of g.S.Source.left g.S.Source.faults c.args.source.now in
-    unwritten_usage usage_line (seen source _) (seen source _) _ (c.refuse_words.ensures source) failed
+    unwritten_usage (seen source _) (seen source _) failed usage_line (c.refuse_words.ensures source)

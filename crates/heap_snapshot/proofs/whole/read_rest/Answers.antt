@@ -10,12 +10,10 @@ loop-source-init g c = record {
 
 pub loop-source-preserved : goal.loop-source-preserved
 loop-source-preserved g c = record {
-  consumed = goes_on (g.S.Source.left c.args.source.now) (g.S.Source.left c.loop-source.source) (g.S.Source.left c.read_piece.new.source) c.loop-source.text.items c.read_piece.new.text.items
-      c.in-Ok.ensures.read.0 c.in-Ok.field-0 c.loop-source.invariant.consumed c.in-Ok.ensures.read.1;
+  consumed = goes_on (g.S.Source.left c.args.source.now) c.in-Ok.ensures.read.1 c.loop-source.invariant.consumed;
   later = let before = c.loop-source.invariant.later in let now = c.read_piece.ensures.later in omega (arith, before, now);
 }
 
 pub returns-in-Ok-eq0-clause-read : goal.returns-in-Ok-eq0-clause-read
 returns-in-Ok-eq0-clause-read g c =
-    ends (g.S.Source.left c.args.source.now) (g.S.Source.left c.loop-source.source) (g.S.Source.left c.read_piece.new.source) c.loop-source.text.items c.read_piece.new.text.items
-    c.in-Ok-eq0.ensures.read.0 c.in-Ok-eq0.field-0 c.loop-source.invariant.consumed c.in-Ok-eq0.ensures.read.1 c.in-Ok-eq0.field-0-test
+    ends (g.S.Source.left c.args.source.now) c.in-Ok-eq0.ensures.read.1 c.loop-source.invariant.consumed c.in-Ok-eq0.field-0-test
