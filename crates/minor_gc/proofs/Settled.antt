@@ -18,7 +18,6 @@ use Rattle.graph_meaning.proofs.Rising.{ids-with_only}
 use Rattle.object_table.specs.Placed.{Placed, id_in, slots_in, IsPlaced, IsSound, kept_ids, LeadsToKept, HoldKept, KeepsCells}
 use Rattle.object_table.proofs.Changes.{kept_has, has_kept}
 use Rattle.object_table.proofs.ObjectsByCell.{edges-cell}
-use Rattle.minor_gc.specs.declared.minor.Minor.{Minor}
 use Rattle.minor_gc.specs.Generations.{Generations, is_young, is_old, holds_young, remembered, after_collection, collection_with}
 use Rattle.minor_gc.specs.Marks.{Marks, is_marked}
 use Rattle.minor_gc.specs.Nurseries.{Parts, heap_of, young_count, NoneWeak, IsNursery}
@@ -62,11 +61,12 @@ unfolding with_only
 greatest-with_only kept t = refl
 
 -- no more objects stay than there were
-pub fewer_objects : (kept : List ℕ) (t : Table) → length (with_only kept t).objects ≤ length t.objects
-fewer_objects kept t =
+pub fewer_objects : (kept : List ℕ) (t u : Table) → u ≡ with_only kept t → length u.objects ≤ length t.objects
+fewer_objects kept t u is =
+    let same = ap (λ (t : Table). length t.objects) is in
     let left = length-map (with_only kept t).objects (λ o. o.id) in
     let all = length-map t.objects (λ o. o.id) in
-    omega (arith, left, ap length (ids-with_only kept t), length-filter_le (has_id kept) (ids t), all)
+    omega (arith, same, left, ap length (ids-with_only kept t), length-filter_le (has_id kept) (ids t), all)
 
 nth_has : (roots : List (List ℕ × ℕ)) (k : ℕ) (d : List ℕ × ℕ) → k < length roots → has_id (map (λ r. r.1) roots) (get_or roots k d).1 ≡ true
 nth_has [] k d h = absurd (omega arith)
@@ -247,7 +247,7 @@ module _ {n : Parts} {kept : List ℕ} {m : Marks} (by_marks : MarksKept n kept 
       each_count = leaves.each_count;
       counts = counts_then;
       remembered = leaves.remembered ∙ remembered_then;
-      room = omega (arith, ap (λ (t : Table). length t.objects) leaves.table, fewer_objects by_cell p.table, by_marks.before.nursery.room, leaves.room);
+      room = omega (arith, fewer_objects by_cell p.table t' leaves.table, by_marks.before.nursery.room, leaves.room);
     }
 
     table_is : t' ≡ with_only kept p.table
@@ -256,14 +256,14 @@ module _ {n : Parts} {kept : List ℕ} {m : Marks} (by_marks : MarksKept n kept 
     pub heap_is : heap_of after ≡ after_collection kept (heap_of n)
     heap_is = λ i. record { table = table_is i; old_up_to = (leaves.old ∙ by_marks.before.nursery.greatest) i }
 
-    -- what the collection says of itself
-    pub collection_is : (made : Minor) → made.live ≡ length p.table.objects → made.freed ≡ made.live - length t'.objects → made.remembered ≡ length n.remembered →
-        made ≡ collection_with kept (heap_of n)
-    collection_is made live freed listed =
-        let left = ap (λ (t : Table). length t.objects) table_is in
-        let less : made.live - length t'.objects ≡ length p.table.objects - length (with_only kept p.table).objects = λ i. live i - left i in
+    -- what the collection says of itself, by how many objects were live, how many are left, and how many were remembered
+    pub collection_is : (live left listed : ℕ) → live ≡ length p.table.objects → left ≡ length t'.objects → listed ≡ length n.remembered →
+        record { live = live; freed = live - left; remembered = listed } ≡ collection_with kept (heap_of n)
+    collection_is live left listed were are listed_is =
+        let less : live - left ≡ length p.table.objects - length (with_only kept p.table).objects =
+        λ i. were i - (are ∙ ap (λ (t : Table). length t.objects) table_is) i in
         λ i. record {
-          live = live i;
-          freed = (freed ∙ less) i;
-          remembered = (listed ∙ ap (λ l. length l) by_marks.before.nursery.remembered) i;
+          live = were i;
+          freed = less i;
+          remembered = (listed_is ∙ ap (λ l. length l) by_marks.before.nursery.remembered) i;
         }

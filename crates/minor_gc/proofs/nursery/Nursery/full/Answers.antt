@@ -1,7 +1,5 @@
-use Rattle.std.proofs.Common.{◌≡◌, ◌-◌, ◌≤◌, length, false, refl, ap, ◌∙◌, arith}
+use Rattle.std.proofs.Common.{◌≡◌, ◌≤◌, length, false, refl, ◌∙◌, arith}
 use Rattle.std.specs.Vec.{vec_capacity}
-use Rattle.graph_meaning.specs.Heap.{Table}
-use Rattle.object_table.specs.Placed.{kept_ids}
 use Rattle.minor_gc.specs.Generations.{kept_by_full}
 use Rattle.minor_gc.specs.Marks.{Marks}
 use Rattle.minor_gc.specs.Nurseries.{Parts, heap_of}
@@ -97,9 +95,7 @@ pub keep-requires-clause-closed : goal.keep-requires-clause-closed
 keep-requires-clause-closed c = rw c.deref-2.ensures.value (leads (kept c))
 
 pub overflow_sub-result : goal.overflow_sub-result
-overflow_sub-result c =
-    let left = ap (λ (t : Table). length t.objects) c.keep.ensures.kept in
-    omega (arith, c.live-live.ensures.count, c.live.ensures.count, left, fewer_objects (kept_ids c.self.inside.table.cells c.deref-2.result.now) c.self.inside.table.table)
+overflow_sub-result c = omega (arith, c.live-live.ensures.count, c.live.ensures.count, fewer_objects _ _ _ c.keep.ensures.kept)
 
 pub invariant_of-self : goal.invariant_of-self
 invariant_of-self c = settled (kept_then c) (leaves c)
@@ -109,6 +105,5 @@ returns-clause-heap c = rw (← c.self.view_is) (heap_is (kept_then c) (leaves c
 
 pub returns-clause-counts : goal.returns-clause-counts
 returns-clause-counts c =
-    let freed = ap (λ left. c.live-live.result - left) c.live.ensures.count in
     let listed : c.len-remembered.result ≡ length c.self.inside.remembered.items = omega (arith, c.len-remembered.ensures, c.self.inside.remembered.ok.0) in
-    rw (← c.self.view_is) (collection_is (kept_then c) (leaves c) _ c.live-live.ensures.count freed listed)
+    rw (← c.self.view_is) (collection_is (kept_then c) (leaves c) _ _ _ c.live-live.ensures.count c.live.ensures.count listed)
