@@ -42,7 +42,9 @@ violating-is Dead h refers ordered rise =
     same_rising (filter (has_id (traced_ids h)) h.dead) (filter (is_violated_by Dead h) (ids h.table))
     (AllPairs-filter (λ x y. x < y) (has_id (traced_ids h)) h.dead (Rise-sorted h.dead ordered.dead))
     (AllPairs-filter (λ x y. x < y) (is_violated_by Dead h) (ids h.table) rise.rising)
-    (λ y. has_id-filter (has_id (traced_ids h)) h.dead y ∙ ap (λ b. b && has_id h.dead y) (has_id-filter (is_traced h) (ids h.table) y) ∙ turned (is_traced h y) (has_id (ids h.table) y) (has_id h.dead y)
+    (λ y. has_id-filter (has_id (traced_ids h)) h.dead y
+    ∙ ap (λ b. b && has_id h.dead y) (has_id-filter (is_traced h) (ids h.table) y)
+    ∙ turned (is_traced h y) (has_id (ids h.table) y) (has_id h.dead y)
     ∙ sym (has_id-filter (is_violated_by Dead h) (ids h.table) y))
   where
     turned : (a b c : Bool) → ((a && b) && c) ≡ ((c && a) && b)
@@ -56,7 +58,8 @@ violating-is Unshared h refers ordered rise =
     same_rising (filter (λ id. nat_le 2 (reference_count h id)) h.unshared) (filter (is_violated_by Unshared h) (ids h.table))
     (AllPairs-filter (λ x y. x < y) (λ id. nat_le 2 (reference_count h id)) h.unshared (Rise-sorted h.unshared ordered.unshared))
     (AllPairs-filter (λ x y. x < y) (is_violated_by Unshared h) (ids h.table) rise.rising)
-    (λ y. has_id-filter (λ id. nat_le 2 (reference_count h id)) h.unshared y ∙ turned (nat_le 2 (reference_count h y)) (has_id h.unshared y) (has_id (ids h.table) y) (live_of h.table h.unshared y refers.unshared)
+    (λ y. has_id-filter (λ id. nat_le 2 (reference_count h id)) h.unshared y
+    ∙ turned (nat_le 2 (reference_count h y)) (has_id h.unshared y) (has_id (ids h.table) y) (live_of h.table h.unshared y refers.unshared)
     ∙ sym (has_id-filter (is_violated_by Unshared h) (ids h.table) y))
   where
     turned : (a b c : Bool) → (b ≡ true → c ≡ true) → (a && b) ≡ ((b && a) && c)

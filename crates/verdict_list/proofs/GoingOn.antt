@@ -36,7 +36,9 @@ pub first_more : (n : ℕ) (vs : List Verdict) (v : Verdict) → first_with_path
 unfolding first_with_paths
 first_more zero [] v = refl
 first_more zero (u ∷ vs) v = rw (past_zero (suc (length vs))) (ap (λ us. without_paths u ∷ us) (without_more vs v))
-first_more (suc n) [] v = rw (lt-ltb 0 (suc n) (omega arith)) (ap (λ us. v ∷ us ++ map without_paths (drop n [])) (take_all n [] (omega arith)) ∙ ap (λ us. v ∷ map without_paths us) (drop_all n [] (omega arith)))
+first_more (suc n) [] v =
+    rw (lt-ltb 0 (suc n) (omega arith))
+    (ap (λ us. v ∷ us ++ map without_paths (drop n [])) (take_all n [] (omega arith)) ∙ ap (λ us. v ∷ map without_paths us) (drop_all n [] (omega arith)))
 first_more (suc n) (u ∷ vs) v = rw (less_both (length vs) n) (ap (λ us. u ∷ us) (first_more n vs v))
 
 pub length-first : (n : ℕ) (vs : List Verdict) → length (first_with_paths n vs) ≡ length vs
