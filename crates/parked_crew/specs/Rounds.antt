@@ -21,51 +21,37 @@ pub data Stage : Type 0 where
   finished : Stage
   fetched : Stage
 
+-- What a stage shows: the two words; whether the worker has a seat, 1 or 0; and the roles of the caller and of the worker.
+pub record Appearance : Type 0 where
+  pub opening_word : ℕ
+  pub phase : ℕ
+  pub hired : ℕ
+  pub caller : Role
+  pub worker : Role
+
+abbrev pub appearance_at : Stage → Appearance
+appearance_at shut = record { opening_word = 0; phase = 0; hired = 0; caller = Nobody; worker = Nobody }
+appearance_at opened = record { opening_word = 1; phase = 0; hired = 0; caller = Unsent; worker = Nobody }
+appearance_at laid = record { opening_word = 1; phase = 1; hired = 0; caller = Sent true; worker = Nobody }
+appearance_at seated = record { opening_word = 1; phase = 1; hired = 1; caller = Sent false; worker = Fresh }
+appearance_at begun = record { opening_word = 1; phase = 2; hired = 1; caller = Sent false; worker = AtWork }
+appearance_at finished = record { opening_word = 1; phase = 3; hired = 1; caller = Sent false; worker = Ended }
+appearance_at fetched = record { opening_word = 1; phase = 3; hired = 1; caller = Served; worker = Ended }
+
 abbrev pub opening_word : Stage → ℕ
-opening_word shut = 0
-opening_word opened = 1
-opening_word laid = 1
-opening_word seated = 1
-opening_word begun = 1
-opening_word finished = 1
-opening_word fetched = 1
+opening_word st = (appearance_at st).opening_word
 
 abbrev pub phase : Stage → ℕ
-phase shut = 0
-phase opened = 0
-phase laid = 1
-phase seated = 1
-phase begun = 2
-phase finished = 3
-phase fetched = 3
+phase st = (appearance_at st).phase
 
--- 1 from when the worker has a seat
 abbrev pub hired : Stage → ℕ
-hired shut = 0
-hired opened = 0
-hired laid = 0
-hired seated = 1
-hired begun = 1
-hired finished = 1
-hired fetched = 1
+hired st = (appearance_at st).hired
 
 abbrev pub caller_role : Stage → Role
-caller_role shut = Nobody
-caller_role opened = Unsent
-caller_role laid = Sent true
-caller_role seated = Sent false
-caller_role begun = Sent false
-caller_role finished = Sent false
-caller_role fetched = Served
+caller_role st = (appearance_at st).caller
 
 abbrev pub worker_role : Stage → Role
-worker_role shut = Nobody
-worker_role opened = Nobody
-worker_role laid = Nobody
-worker_role seated = Fresh
-worker_role begun = AtWork
-worker_role finished = Ended
-worker_role fetched = Ended
+worker_role st = (appearance_at st).worker
 
 -- a seat of this role may be there at the stage
 abbrev pub MayBe : Role → Stage → Type 0
