@@ -1,4 +1,4 @@
-ghost use Rattle.std.specs.Prelude.{◌≡◌, ◌<◌, ◌==◌, length, AllPairs, fold, Some, IfOk, OnOk, OnErr, slice_set};
+ghost use Rattle.std.specs.Prelude.{◌≡◌, ◌<◌, ◌==◌, length, fold, Some, IfOk, OnOk, OnErr, slice_set};
 ghost use Rattle.std.specs.BTreeMap.{insert_entry};
 ghost use Rattle.std.specs.BTreeSet.{insert_key};
 ghost use Rattle.std.specs.Ordering.{nat_cmp};
@@ -64,10 +64,9 @@ impl AssertRegistry {
         Ok(())
     }
 
-    /// All these objects, whose ids rise, are asserted dead from now on. When out of memory, none of them is, and
+    /// All these objects are asserted dead from now on. When out of memory, none of them is, and
     /// nothing has changed.
     pub fn assert_dead_all(&mut self, ids: &[ObjId]) -> Result<(), OutOfMemory>
-        requires { AllPairs (λ x y. x < y) ids.now }
         ensures done { OnOk result (self.new ≡ record self.old { dead = fold (insert_key nat_cmp) self.old.dead ids.now }) }
         ensures err { OnErr result (self.new ≡ self.old) }
     {

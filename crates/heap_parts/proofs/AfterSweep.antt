@@ -18,9 +18,11 @@ use Rattle.graph_meaning.proofs.Membership.{has_id-Contains}
 use Rattle.graph_meaning.proofs.Tracing.{traced_from_root, traced_along, traced_node}
 use Rattle.object_table.specs.Placed.{IsPlaced, LeadsToKept, kept_ids}
 use Rattle.assert_registry.specs.Assertions.{Assertions, AreOfSeenTypes}
-use Rattle.sweep.specs.Parts.{Parts, ArePartsOf, AreTraced, SweepsHeap, assertions_on}
-use Rattle.heap_parts.specs.Parts.{AreParts, FlagTraced, IsWellFormed, heap_of, named_limits, placed_heap}
+use Rattle.sweep.specs.Parts.{Parts, ArePartsOf, AreTraced, SweepsHeap, assertions_on, regions_with}
+use Rattle.heap_parts.specs.Parts.{AreParts, AreUnasserted, FlagTraced, IsWellFormed, heap_of, named_limits, placed_heap}
+use Rattle.region_log.specs.Regions.{RegionTable}
 use Rattle.heap_parts.proofs.Stepping.{well_formed-collection}
+use Rattle.heap_parts.proofs.Unasserted.{agree-kept}
 
 -- ---- what edges lead to is live
 
@@ -155,8 +157,16 @@ module _ (s : Parts) (are : AreParts s) (placed : IsPlaced s.placed) (kept : Lis
     seen_left kind =
         subst (λ kinds. AreOfSeenTypes after.assertions.limits kinds) (sym same_kinds) (subst (λ limits. AreOfSeenTypes limits s.placed.table.kinds) (sym same_limits) are.seen) kind
 
-    pub parts_left : AreParts after
-    parts_left = record {
+    -- what is left in the regions and not asserted dead is unasserted
+    pub unasserted_left : after.regions ≡ regions_with stay s.regions → AreUnasserted after
+    unasserted_left regions =
+        subst (λ (a : Assertions). AreUnasserted (record after { assertions = a })) (sym assertions)
+        (subst (λ (r : RegionTable). AreUnasserted (record after { assertions = assertions_on stay s.assertions; regions = r })) (sym regions)
+        (agree-kept (has_id stay) s.assertions.dead s.regions.regions s.regions.unasserted are.unasserted))
+
+    pub parts_left : after.regions ≡ regions_with stay s.regions → AreParts after
+    parts_left regions = record {
       heap = subst IsWellFormed (plain_leaves_swept 0 h ∙ sym heap_left) (well_formed-collection (let rules : Rules = record { paths = 0; force = false } in rules) h are.heap);
       seen = λ kind. seen_left kind;
+      unasserted = unasserted_left regions;
     }

@@ -18,14 +18,15 @@ use Rattle.graph_meaning.proofs.Edges.{plain_leaves_swept}
 use Rattle.graph_meaning.proofs.HeapLemmas.{is_live-with_only}
 use Rattle.graph_meaning.proofs.Keeping.{has_id-traced_ids}
 use Rattle.graph_meaning.proofs.Membership.{has_id-filter}
-use Rattle.object_table.specs.Placed.{Placed, IsPlaced, KeepsCells, LeadsToKept, kept_ids, id_in}
+use Rattle.object_table.specs.Placed.{Placed, IsPlaced, KeepsCells, kept_ids, id_in}
 use Rattle.assert_registry.specs.Assertions.{Assertions, AreOfSeenTypes}
 use Rattle.assert_registry.specs.Laws.{StandFor}
-use Rattle.sweep.specs.Parts.{Parts, ArePartsOf, AreTraced, SweepsHeap, assertions_on}
+use Rattle.sweep.specs.Parts.{Parts, AreTraced, SweepsHeap, assertions_on, regions_with}
 use Rattle.object_table.proofs.ObjectsByCell.{held-within}
-use Rattle.heap_parts.specs.Parts.{AreDeadAndTraced, AreParts, FlagTraced, IsWellFormed, PlacedHeap, dead_below, heap_of, placed_heap, placed_in, named_limits}
+use Rattle.region_log.specs.Regions.{RegionTable}
+use Rattle.heap_parts.specs.Parts.{AreDeadAndTraced, AreParts, AreUnasserted, FlagTraced, IsWellFormed, PlacedHeap, dead_below, heap_of, placed_heap, placed_in, named_limits}
 use Rattle.heap_parts.proofs.Stepping.{well_formed-collection}
-use Rattle.heap_parts.proofs.AfterSweep.{has_id-kept_ids, kept_ids-cell, are_traced, traced_closed, parts_of_heap, heap_left, seen_left}
+use Rattle.heap_parts.proofs.AfterSweep.{has_id-kept_ids, kept_ids-cell, are_traced, heap_left, seen_left, unasserted_left}
 
 -- ---- the flags
 
@@ -154,7 +155,7 @@ module _ (s : Parts) (are : AreParts s) (placed : IsPlaced s.placed) (kept : Lis
   abbrev ids : List ℕ
   ids = kept_ids s.placed.cells kept
 
-  module _ (swept : Parts) (still : IsPlaced swept.placed) (freed : ℕ) (sweeps : SweepsHeap h swept freed) (table : swept.placed.table ≡ with_only ids s.placed.table) (keeps : KeepsCells s.placed swept.placed ids) (assertions : swept.assertions ≡ assertions_on ids s.assertions) (flags : List Bool) (to_clear : AreDeadAndTraced (placed_heap s) flags) where
+  module _ (swept : Parts) (still : IsPlaced swept.placed) (freed : ℕ) (sweeps : SweepsHeap h swept freed) (table : swept.placed.table ≡ with_only ids s.placed.table) (keeps : KeepsCells s.placed swept.placed ids) (assertions : swept.assertions ≡ assertions_on ids s.assertions) (regions : swept.regions ≡ regions_with ids s.regions) (flags : List Bool) (to_clear : AreDeadAndTraced (placed_heap s) flags) where
     left : heap_of swept ≡ after_sweep h
     left = heap_left s are placed kept tell swept freed sweeps table assertions
 
@@ -176,6 +177,7 @@ module _ (s : Parts) (are : AreParts s) (placed : IsPlaced s.placed) (kept : Lis
       parts = record {
         heap = subst IsWellFormed (sym (all_left by_force refl)) (well_formed-collection by_force h are.heap);
         seen = λ kind. subst (λ kinds. AreOfSeenTypes after.assertions.limits kinds) (sym (ap (λ (u : Table). u.kinds) cut)) (subst (λ (a : Assertions). AreOfSeenTypes a.limits swept.placed.table.kinds) (sym same_assertions) seen) kind;
+        unasserted = subst (λ (a : Assertions). AreUnasserted (record after { assertions = a })) (sym same_assertions) (subst (λ (r : RegionTable). AreUnasserted (record swept { regions = r })) (sym same_regions) (unasserted_left s are placed kept tell swept freed sweeps table assertions regions));
       };
       count = count ∙ ap (λ f. holders_of f swept.placed.table) gone_are ∙ ap (λ (l : Heap). holders_of (has_id (violating_dead h)) l.table) left;
     }

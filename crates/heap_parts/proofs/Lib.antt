@@ -3,3 +3,4 @@ pub mod Cleared
 pub mod Limits
 pub mod Operations
 pub mod Stepping
+pub mod Unasserted

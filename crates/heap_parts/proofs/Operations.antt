@@ -25,13 +25,14 @@ use Rattle.graph_meaning.proofs.Rising.{alloc_refusal-None}
 use Rattle.object_table.specs.Placed.{Placed}
 use Rattle.assert_registry.specs.Assertions.{Assertions, AreOfSeenTypes, with_room}
 use Rattle.assert_registry.proofs.ByName.{room_changes_no_limit}
-use Rattle.region_log.specs.Regions.{RegionTable, IsAbove, start_refusal, end_refusal, with_region, without_innermost, innermost}
+use Rattle.region_log.specs.Regions.{RegionTable, AreNested, IsAbove, start_refusal, end_refusal, with_region, without_innermost, without_innermost_ids, innermost}
 use Rattle.region_log.proofs.Above.{IsAbove-live}
 use Rattle.region_log.proofs.Steps.{step-start_region, step-assert_all_dead}
 use Rattle.sweep.specs.Parts.{Parts}
-use Rattle.heap_parts.specs.Parts.{IsWellFormed, AreParts, Steps, heap_of, placed_heap, named_limits}
+use Rattle.heap_parts.specs.Parts.{IsWellFormed, AreParts, AreUnasserted, Steps, heap_of, placed_heap, named_limits}
 use Rattle.heap_parts.proofs.Limits.{named-with_kind, named-with_room, named-set}
 use Rattle.heap_parts.proofs.Stepping.{steps-by, parts-after}
+use Rattle.heap_parts.proofs.Unasserted.{Agree, Within, agree-finish, agree-more, agree-note, agree-same, agree-start, all-inserted, inserted_agree, within-insert, within-inserted}
 
 -- ---- what `step` says of each operation
 
@@ -106,7 +107,7 @@ module _ {T : Type 0} (s : Parts) (are : AreParts s) (after : Placed) (result : 
       step (heap_of s) event ≡ heap_unless refusal (record (heap_of s) { table = t }) → t.kinds ≡ s.placed.table.kinds → RefusesBy result refusal → OnOk result (after.table ≡ t) → OnErr result (after ≡ s.placed) → Steps (placed_heap s) event result (placed_heap s') × AreParts s'
 
   steps-table : (event : Event) (refusal : Option Refusal) (t : Table) → table_change event refusal t
-  steps-table event refusal t means kinds refused leaves err = (steps, parts-after s s' event result steps are seen)
+  steps-table event refusal t means kinds refused leaves err = (steps, parts-after s s' event result steps are seen are.unasserted)
     where
       left : OnOk result (heap_of s' ≡ record (heap_of s) { table = t })
       left =
@@ -146,8 +147,8 @@ module _ {T : Type 0} (s : Parts) (are : AreParts s) (after : Assertions) (resul
   abbrev r' : Parts
   r' = record s { assertions = after }
 
-  steps-assertions : (event : Event) (refusal : Option Refusal) (a : Assertions) → step (heap_of s) event ≡ heap_unless refusal (heap_of (record s { assertions = a })) → a.limits ≡ s.assertions.limits → RefusesBy result refusal → OnOk result (after ≡ a) → OnErr result (after ≡ s.assertions) → Steps (placed_heap s) event result (placed_heap r') × AreParts r'
-  steps-assertions event refusal a means limits refused leaves err = (steps, parts-after s r' event result steps are seen)
+  steps-assertions : (event : Event) (refusal : Option Refusal) (a : Assertions) → step (heap_of s) event ≡ heap_unless refusal (heap_of (record s { assertions = a })) → a.limits ≡ s.assertions.limits → Within s.assertions.dead a.dead → RefusesBy result refusal → OnOk result (after ≡ a) → OnErr result (after ≡ s.assertions) → Steps (placed_heap s) event result (placed_heap r') × AreParts r'
+  steps-assertions event refusal a means limits within refused leaves err = (steps, parts-after s r' event result steps are seen (agree-more s.assertions.dead after.dead (still_within result leaves err) s.regions.regions s.regions.unasserted are.unasserted))
     where
       steps : Steps (placed_heap s) event result (placed_heap r')
       steps =
@@ -159,20 +160,24 @@ module _ {T : Type 0} (s : Parts) (are : AreParts s) (after : Assertions) (resul
       same_limits (Ok x) done undone = ap (λ (b : Assertions). b.limits) done ∙ limits
       same_limits (Err e) done undone = ap (λ (b : Assertions). b.limits) undone
 
+      still_within : (r : Result T Stop) → OnOk r (after ≡ a) → OnErr r (after ≡ s.assertions) → Within s.assertions.dead after.dead
+      still_within (Ok x) done undone = subst (λ (b : Assertions). Within s.assertions.dead b.dead) (sym done) within
+      still_within (Err e) done undone = subst (λ (b : Assertions). Within s.assertions.dead b.dead) (sym undone) (λ id there. there)
+
       seen : AreOfSeenTypes after.limits s.placed.table.kinds
       seen = subst (λ limits. AreOfSeenTypes limits s.placed.table.kinds) (sym (same_limits result leaves err)) are.seen
 
   pub steps-assert_dead : (id : ℕ) → RefusesBy result (not_live s.placed.table id) → OnOk result (after ≡ record s.assertions { dead = insert_key nat_cmp s.assertions.dead id }) → OnErr result (after ≡ s.assertions) → Steps (placed_heap s) (AssertDead id) result (placed_heap r') × AreParts r'
   steps-assert_dead id =
-      steps-assertions (AssertDead id) (not_live s.placed.table id) (record s.assertions { dead = insert_key nat_cmp s.assertions.dead id }) (step-assert_dead (heap_of s) id) refl
+      steps-assertions (AssertDead id) (not_live s.placed.table id) (record s.assertions { dead = insert_key nat_cmp s.assertions.dead id }) (step-assert_dead (heap_of s) id) refl (within-insert s.assertions.dead id)
 
   pub steps-assert_unshared : (id : ℕ) → RefusesBy result (not_live s.placed.table id) → OnOk result (after ≡ record s.assertions { unshared = insert_key nat_cmp s.assertions.unshared id }) → OnErr result (after ≡ s.assertions) → Steps (placed_heap s) (AssertUnshared id) result (placed_heap r') × AreParts r'
   steps-assert_unshared id =
-      steps-assertions (AssertUnshared id) (not_live s.placed.table id) (record s.assertions { unshared = insert_key nat_cmp s.assertions.unshared id }) (step-assert_unshared (heap_of s) id) refl
+      steps-assertions (AssertUnshared id) (not_live s.placed.table id) (record s.assertions { unshared = insert_key nat_cmp s.assertions.unshared id }) (step-assert_unshared (heap_of s) id) refl (λ other there. there)
 
   pub steps-assert_ownedby : (owner ownee : ℕ) → RefusesBy result (ownedby_refusal s.placed.table owner ownee) → OnOk result (after ≡ record s.assertions { owners = insert_entry nat_cmp s.assertions.owners ownee owner }) → OnErr result (after ≡ s.assertions) → Steps (placed_heap s) (AssertOwnedBy owner ownee) result (placed_heap r') × AreParts r'
   steps-assert_ownedby owner ownee =
-      steps-assertions (AssertOwnedBy owner ownee) (ownedby_refusal s.placed.table owner ownee) (record s.assertions { owners = insert_entry nat_cmp s.assertions.owners ownee owner }) (step-assert_ownedby (heap_of s) owner ownee) refl
+      steps-assertions (AssertOwnedBy owner ownee) (ownedby_refusal s.placed.table owner ownee) (record s.assertions { owners = insert_entry nat_cmp s.assertions.owners ownee owner }) (step-assert_ownedby (heap_of s) owner ownee) refl (λ other there. there)
 
 -- ---- the others
 
@@ -191,36 +196,65 @@ steps-alloc {T} s are after regions result id kind slots thread refused leaves e
     t = s.placed.table
 
 -- a region begins
-pub steps-start_region : {T : Type 0} (s : Parts) → AreParts s → (after : RegionTable) (result : Result T Stop) (thread : ℕ) → RefusesBy result (start_refusal s.regions.regions thread) → OnOk result (after.regions ≡ with_region s.regions.regions thread) → OnErr result (after ≡ s.regions) → Steps (placed_heap s) (StartRegion thread) result (placed_heap (record s { regions = after })) × AreParts (record s { regions = after })
+pub steps-start_region : {T : Type 0} (s : Parts) → AreParts s → (after : RegionTable) (result : Result T Stop) (thread : ℕ) → RefusesBy result (start_refusal s.regions.regions thread) → OnOk result ((after.regions ≡ with_region s.regions.regions thread) × (after.unasserted ≡ with_region s.regions.unasserted thread)) → OnErr result (after ≡ s.regions) → Steps (placed_heap s) (StartRegion thread) result (placed_heap (record s { regions = after })) × AreParts (record s { regions = after })
 steps-start_region {T} s are after result thread refused leaves err =
-    (steps, parts-after s (record s { regions = after }) (StartRegion thread) result steps are are.seen)
+    (steps, parts-after s (record s { regions = after }) (StartRegion thread) result steps are are.seen (agree result leaves err))
   where
     steps : Steps (placed_heap s) (StartRegion thread) result (placed_heap (record s { regions = after }))
     steps =
         steps-by (placed_heap s) (placed_heap (record s { regions = after })) (StartRegion thread) (start_refusal s.regions.regions thread) (record (heap_of s) { regions = with_region s.regions.regions thread }) (step-start_region (heap_of s) thread) result refused
-        (on_ok_weaker result (λ e. ap (λ rs. record (heap_of s) { regions = rs }) e) leaves)
+        (on_ok_weaker result (λ e. ap (λ rs. record (heap_of s) { regions = rs }) e.0) leaves)
         (on_err_weaker result (λ e. ap (λ (r : RegionTable). placed_heap (record s { regions = r })) e) err)
 
+    agree : (r : Result T Stop) → OnOk r ((after.regions ≡ with_region s.regions.regions thread) × (after.unasserted ≡ with_region s.regions.unasserted thread)) → OnErr r (after ≡ s.regions) → Agree s.assertions.dead after.regions after.unasserted
+    agree (Ok x) done undone =
+        agree-same s.assertions.dead done.0 done.1 (agree-start s.assertions.dead s.regions.regions s.regions.unasserted are.unasserted thread)
+    agree (Err e) done undone = subst (λ (r : RegionTable). Agree s.assertions.dead r.regions r.unasserted) (sym undone) are.unasserted
+
+-- What the end of a region leaves of the parts: what was unasserted in it is asserted dead, and it is open no longer.
+pub record EndsRegion (s : Parts) (thread : ℕ) (after : Parts) : Type 0 where
+  pub placed : after.placed ≡ s.placed
+  pub assertions : after.assertions ≡ record s.assertions { dead = fold (insert_key nat_cmp) s.assertions.dead (innermost s.regions.unasserted thread) }
+  pub regions : after.regions.regions ≡ without_innermost s.regions.regions thread
+  pub unasserted : after.regions.unasserted ≡ without_innermost_ids s.regions.unasserted thread
+  pub nested : AreNested (regions_of s.regions.unasserted thread)
+
 -- a region ends, and its objects are asserted dead
-pub steps-assert_all_dead : {T : Type 0} (s : Parts) → AreParts s → (assertions : Assertions) (regions : RegionTable) (result : Result T Stop) (thread : ℕ) → RefusesBy result (end_refusal s.regions.regions thread) → OnOk result ((assertions ≡ record s.assertions { dead = fold (insert_key nat_cmp) s.assertions.dead (innermost s.regions.regions thread) }) × (regions.regions ≡ without_innermost s.regions.regions thread)) → OnErr result ((assertions ≡ s.assertions) × (regions ≡ s.regions)) → Steps (placed_heap s) (AssertAllDead thread) result (placed_heap (record s { assertions = assertions; regions = regions })) × AreParts (record s { assertions = assertions; regions = regions })
-steps-assert_all_dead {T} s are assertions regions result thread refused leaves err =
-    (steps, parts-after s after (AssertAllDead thread) result steps are (subst (λ limits. AreOfSeenTypes limits s.placed.table.kinds) (sym (same_limits result leaves err)) are.seen))
+pub steps-assert_all_dead : {T : Type 0} (s : Parts) → AreParts s → (after : Parts) (result : Result T Stop) (thread : ℕ) → RefusesBy result (end_refusal s.regions.regions thread) → OnOk result (EndsRegion s thread after) → OnErr result (after ≡ s) → Steps (placed_heap s) (AssertAllDead thread) result (placed_heap after) × AreParts after
+steps-assert_all_dead {T} s are after result thread refused leaves err =
+    (steps, parts-after s after (AssertAllDead thread) result steps are (seen result leaves err) (agree result leaves err))
   where
-    after : Parts
-    after = record s { assertions = assertions; regions = regions }
+    dead : List ℕ
+    dead = fold (insert_key nat_cmp) s.assertions.dead (innermost s.regions.unasserted thread)
 
-    dead : Assertions
-    dead = record s.assertions { dead = fold (insert_key nat_cmp) s.assertions.dead (innermost s.regions.regions thread) }
+    -- what is asserted dead is all that is in the region
+    all_dead : dead ≡ fold (insert_key nat_cmp) s.assertions.dead (innermost s.regions.regions thread)
+    all_dead = inserted_agree s.assertions.dead are.heap.ordered.dead s.regions.regions s.regions.unasserted are.unasserted thread
 
-    steps : Steps (placed_heap s) (AssertAllDead thread) result (placed_heap (record s { assertions = assertions; regions = regions }))
+    steps : Steps (placed_heap s) (AssertAllDead thread) result (placed_heap after)
     steps =
-        steps-by (placed_heap s) (placed_heap (record s { assertions = assertions; regions = regions })) (AssertAllDead thread) (end_refusal s.regions.regions thread) (record (heap_of s) { regions = without_innermost s.regions.regions thread; dead = fold (insert_key nat_cmp) s.assertions.dead (innermost s.regions.regions thread) }) (step-assert_all_dead (heap_of s) thread) result refused
-        (on_ok_weaker result (λ e. λ i. record (heap_of (record s { assertions = e.0 i })) { regions = e.1 i }) leaves)
-        (on_err_weaker result (λ e. λ i. placed_heap (record s { assertions = e.0 i; regions = e.1 i })) err)
+        steps-by (placed_heap s) (placed_heap after) (AssertAllDead thread) (end_refusal s.regions.regions thread) (record (heap_of s) { regions = without_innermost s.regions.regions thread; dead = fold (insert_key nat_cmp) s.assertions.dead (innermost s.regions.regions thread) }) (step-assert_all_dead (heap_of s) thread) result refused
+        (on_ok_weaker result
+        (λ (e : EndsRegion s thread after).
+        (λ i. record (heap_of (record s { placed = e.placed i; assertions = e.assertions i })) { regions = e.regions i })
+        ∙ ap (λ ids. record (heap_of s) { regions = without_innermost s.regions.regions thread; dead = ids }) all_dead)
+        leaves)
+        (on_err_weaker result (λ e. ap placed_heap e) err)
 
-    same_limits : (r : Result T Stop) → OnOk r ((assertions ≡ dead) × (regions.regions ≡ without_innermost s.regions.regions thread)) → OnErr r ((assertions ≡ s.assertions) × (regions ≡ s.regions)) → assertions.limits ≡ s.assertions.limits
-    same_limits (Ok x) done undone = ap (λ (b : Assertions). b.limits) done.0
-    same_limits (Err e) done undone = ap (λ (b : Assertions). b.limits) undone.0
+    seen : (r : Result T Stop) → OnOk r (EndsRegion s thread after) → OnErr r (after ≡ s) → AreOfSeenTypes after.assertions.limits after.placed.table.kinds
+    seen (Ok x) e undone =
+        subst (λ (p : Placed). AreOfSeenTypes after.assertions.limits p.table.kinds) (sym e.placed)
+        (subst (λ (a : Assertions). AreOfSeenTypes a.limits s.placed.table.kinds) (sym e.assertions) are.seen)
+    seen (Err x) e undone = subst (λ (p : Parts). AreOfSeenTypes p.assertions.limits p.placed.table.kinds) (sym undone) are.seen
+
+    agree : (r : Result T Stop) → OnOk r (EndsRegion s thread after) → OnErr r (after ≡ s) → AreUnasserted after
+    agree (Ok x) e undone =
+        subst (λ (a : Assertions). Agree a.dead after.regions.regions after.regions.unasserted) (sym e.assertions)
+        (agree-same dead e.regions e.unasserted
+        (agree-finish dead s.regions.regions s.regions.unasserted
+        (agree-more s.assertions.dead dead (within-inserted (innermost s.regions.unasserted thread) s.assertions.dead) s.regions.regions s.regions.unasserted are.unasserted)
+        thread e.nested (all-inserted (innermost s.regions.unasserted thread) s.assertions.dead)))
+    agree (Err x) e undone = subst AreUnasserted (sym undone) are.unasserted
 
 -- ---- an owner and an ownee
 
@@ -253,11 +287,12 @@ new_id-above s are id kind slots thread none =
     IsAbove-live s.placed.table (regions_of s.regions.regions thread) id are.heap.rising (alloc_refusal-None s.placed.table id kind slots none) (regions-live s.placed.table s.regions.regions thread are.heap.refers.regions)
 
 -- the parts with a new object
-pub parts-alloc : (s : Parts) → AreParts s → (after : Placed) (regions : RegionTable) (id : ℕ) (kind : List ℕ) (slots thread : ℕ) → alloc_refusal s.placed.table id kind slots ≡ None → after.table ≡ with_object s.placed.table id kind slots → regions.regions ≡ with_member s.regions.regions thread id → AreParts (record s { placed = after; regions = regions })
-parts-alloc s are after regions id kind slots thread none added noted =
+pub parts-alloc : (s : Parts) → AreParts s → (after : Placed) (regions : RegionTable) (id : ℕ) (kind : List ℕ) (slots thread : ℕ) → alloc_refusal s.placed.table id kind slots ≡ None → after.table ≡ with_object s.placed.table id kind slots → regions.regions ≡ with_member s.regions.regions thread id → regions.unasserted ≡ with_member s.regions.unasserted thread id → AreParts (record s { placed = after; regions = regions })
+parts-alloc s are after regions id kind slots thread none added noted unasserted =
     parts-after s (record s { placed = after; regions = regions }) (Alloc id kind slots thread) (Ok tt)
     (steps-alloc {T = Unit {0}} s are after regions (Ok tt) id kind slots thread none (added, noted) tt) are
     (subst (AreOfSeenTypes s.assertions.limits) (sym (ap (λ (t : Table). t.kinds) added ∙ kinds-with_object s.placed.table id kind slots)) (seen-with_kind s.assertions.limits s.placed.table.kinds kind are.seen))
+    (agree-same s.assertions.dead noted unasserted (agree-note s.assertions.dead s.regions.regions s.regions.unasserted are.unasserted thread id))
 
 -- ---- a limit
 
@@ -305,6 +340,7 @@ module _ (s : Parts) (are : AreParts s) (kind : List ℕ) (limit : ℕ) where
       (record {
         heap = subst (λ named. IsWellFormed (record (heap_of s) { limits = named })) (sym (named-with_room t.kinds s.assertions.limits room)) are.heap;
         seen = seen-with_room s.assertions.limits room t.kinds are.seen;
+        unasserted = are.unasserted;
       }))
 
   module _ (after : Placed) (assertions : Assertions) (room number : ℕ) (none : refusal ≡ None) (seen : after.table ≡ record t { kinds = with_kind t.kinds kind }) (at : position (bytes_eq kind) after.table.kinds ≡ Some number) (set : assertions ≡ record s.assertions { limits = slice_set (with_room s.assertions.limits room) number (Some limit) }) (within : number < length (with_room s.assertions.limits room)) where
@@ -335,6 +371,7 @@ module _ (s : Parts) (are : AreParts s) (kind : List ℕ) (limit : ℕ) where
         (subst (AreOfSeenTypes assertions.limits) (sym same_kinds)
         (subst (λ limits. AreOfSeenTypes limits kinds) (sym (ap (λ (a : Assertions). a.limits) set))
         (seen-set (with_room s.assertions.limits room) number limit kinds (position-Some (bytes_eq kind) kinds number [] at_kinds).0 (seen-with_room s.assertions.limits room kinds (seen-with_kind s.assertions.limits t.kinds kind are.seen)))))
+        (subst (λ (a : Assertions). AreUnasserted (record s { assertions = a })) (sym set) are.unasserted)
 
 -- there is room for the limit of each type that was seen, and for one more
 pub room_for_kind : (limits : List (Option ℕ)) (kinds : List (List ℕ)) (kind : List ℕ) (number : ℕ) → position (bytes_eq kind) (with_kind kinds kind) ≡ Some number → number < length (with_room limits (length kinds + 1))

@@ -18,7 +18,7 @@ use Rattle.object_table.specs.Placed.{nothing_placed}
 use Rattle.assert_registry.specs.Assertions.{AreOfSeenTypes, no_assertions}
 use Rattle.region_log.specs.Regions.{no_open_regions}
 use Rattle.sweep.specs.Parts.{Parts}
-use Rattle.heap_parts.specs.Parts.{PlacedHeap, IsWellFormed, AreParts, Steps, placed_heap}
+use Rattle.heap_parts.specs.Parts.{PlacedHeap, IsWellFormed, AreParts, AreUnasserted, Steps, placed_heap}
 
 -- ---- what is true of a heap at any time
 
@@ -55,15 +55,16 @@ well_formed-after before after event (Err e) steps well =
     subst IsWellFormed (sym (ap (λ (h : PlacedHeap). h.heap) steps.err)) well
 
 -- after an operation the parts are those of a heap, where types with a limit were seen
-pub parts-after : {T : Type 0} (before after : Parts) (event : Event) (result : Result T Stop) → Steps (placed_heap before) event result (placed_heap after) → AreParts before → AreOfSeenTypes after.assertions.limits after.placed.table.kinds → AreParts after
-parts-after before after event result steps are seen = record {
+pub parts-after : {T : Type 0} (before after : Parts) (event : Event) (result : Result T Stop) → Steps (placed_heap before) event result (placed_heap after) → AreParts before → AreOfSeenTypes after.assertions.limits after.placed.table.kinds → AreUnasserted after → AreParts after
+parts-after before after event result steps are seen unasserted = record {
   heap = well_formed-after (placed_heap before) (placed_heap after) event result steps are.heap;
   seen = seen;
+  unasserted = unasserted;
 }
 
 -- the parts of the empty heap
 pub parts-nothing : AreParts (record { placed = nothing_placed; assertions = no_assertions; regions = no_open_regions })
-parts-nothing = record { heap = well_formed-empty; seen = λ kind some. absurd (false≢true some) }
+parts-nothing = record { heap = well_formed-empty; seen = λ kind some. absurd (false≢true some); unasserted = refl }
 
 -- ---- the steps of a call, where `step` is this
 

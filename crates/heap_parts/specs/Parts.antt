@@ -1,5 +1,5 @@
 -- The heap that a table, a registry and a log of regions stand for.
-use Rattle.std.specs.Prelude.{◌≡◌, ℕ, List, [], ◌∷◌, length, map, Bool, true, false, ◌&&◌, Option, None, Some, Result, Ok, OnOk, OnErr, slice_index_or}
+use Rattle.std.specs.Prelude.{◌≡◌, ℕ, List, [], ◌∷◌, length, map, filter, Bool, true, false, not, ◌&&◌, Option, None, Some, Result, Ok, OnOk, OnErr, slice_index_or}
 use Rattle.std.specs.BTreeMap.{insert_entry}
 use Rattle.std.specs.List.{range_with_len}
 use Rattle.std.specs.Result.{result_err}
@@ -56,10 +56,20 @@ pub record IsWellFormed (h : Heap) : Type 0 where
   pub ordered : IsOrdered h
   pub limits : IsWithinLimits h.table
 
--- The parts are those of such a heap, and each type with a limit was seen.
+-- of these ids, those that are not asserted dead
+abbrev pub without_dead : List ℕ → List ℕ → List ℕ
+without_dead dead ids = filter (λ id. not (has_id dead id)) ids
+
+-- What is in an open region and not asserted dead is unasserted in it: what an inner region had when it ended is asserted dead.
+abbrev pub AreUnasserted : Parts → Type 0
+AreUnasserted parts =
+    map (map (without_dead parts.assertions.dead)) parts.regions.regions ≡ map (map (without_dead parts.assertions.dead)) parts.regions.unasserted
+
+-- The parts are those of such a heap, each type with a limit was seen, and what regions have to assert is known.
 pub record AreParts (parts : Parts) : Type 0 where
   pub heap : IsWellFormed (heap_of parts)
   pub seen : AreOfSeenTypes parts.assertions.limits parts.placed.table.kinds
+  pub unasserted : AreUnasserted parts
 
 -- any operation but a collection
 abbrev pub is_operation : Event → Bool

@@ -14,13 +14,13 @@ impl HeapParts {
         self.regions.start(thread)
     }
 
-    /// The innermost region of the thread ends, and its objects are asserted dead. The region ends last, since that takes no
-    /// memory.
+    /// The innermost region of the thread ends, and its objects are asserted dead: those that were in a region inside it are so
+    /// already. The region ends last, since that takes no memory.
     pub(crate) fn assert_all_dead(&mut self, thread: ThreadNo) -> Result<(), Stop>
         ensures { Steps self.old (AssertAllDead thread) result self.new }
     {
-        let members = self.regions.members(thread)?;
-        self.registry.assert_dead_all(&members)?;
+        let unasserted = self.regions.unasserted(thread)?;
+        self.registry.assert_dead_all(unasserted)?;
         Ok(self.regions.finish(thread)?)
     }
 }

@@ -9,29 +9,33 @@ use Rattle.std.proofs.Math.ListN.{get_or-map, get_or-append, get_or-eq_default}
 use Rattle.heap_base.specs.declared.limits.TheConstants.{MOST_THREADS, MOST_REGIONS}
 use Rattle.graph_meaning.specs.Heap.{regions_of}
 use Rattle.graph_meaning.proofs.Membership.{map_agree}
-use Rattle.region_log.specs.Regions.{ThreadRegions, RegionTable, AreRegions, IsRegionTable, IsAbove, is_reserved, unused_thread, for_each_thread, region_table, AreThreads, no_open_regions}
+use Rattle.region_log.specs.Regions.{ThreadRegions, RegionTable, AreRegions, IsRegionTable, IsAbove, is_reserved, thread_with_ids, table_with_ids, unused_thread, for_each_thread, region_table, AreThreads, no_open_regions}
 use Rattle.region_log.proofs.Threads.{map-replicate, get_or-for_each_thread, set-for_each_thread, length-for_each_thread, map-for_each_thread, All-for_each_thread}
 
 -- ---- the table
 
 -- only the list with an element for each thread matters
 pub region_table-same : (ts us : List ThreadRegions) → for_each_thread unused_thread ts ≡ for_each_thread unused_thread us → region_table ts ≡ region_table us
-region_table-same ts us same = ap (λ (all : List ThreadRegions). record { regions = map (λ t. t.regions) all; reserved = map (λ t. t.reserved) all }) same
+region_table-same ts us same = ap (λ (all : List ThreadRegions). record { regions = map (λ t. t.regions) all; unasserted = map (λ t. t.unasserted) all; reserved = map (λ t. t.reserved) all }) same
 
 pub region_table-none : region_table [] ≡ no_open_regions
-region_table-none = λ i. record { regions = map-replicate (λ (t : ThreadRegions). t.regions) MOST_THREADS unused_thread i; reserved = map-replicate (λ (t : ThreadRegions). t.reserved) MOST_THREADS unused_thread i }
+region_table-none = λ i. record { regions = map-replicate (λ (t : ThreadRegions). t.regions) MOST_THREADS unused_thread i; unasserted = map-replicate (λ (t : ThreadRegions). t.unasserted) MOST_THREADS unused_thread i; reserved = map-replicate (λ (t : ThreadRegions). t.reserved) MOST_THREADS unused_thread i }
 
 pub regions_of-table : (ts : List ThreadRegions) (i : ℕ) → regions_of (region_table ts).regions i ≡ (let t : ThreadRegions = get_or ts i unused_thread in t.regions)
 regions_of-table ts i = get_or-map (λ (t : ThreadRegions). t.regions) (for_each_thread unused_thread ts) i unused_thread ∙ ap (λ (t : ThreadRegions). t.regions) (get_or-for_each_thread unused_thread ts i)
 
+unasserted_of-table : (ts : List ThreadRegions) (i : ℕ) → regions_of (region_table ts).unasserted i ≡ (let t : ThreadRegions = get_or ts i unused_thread in t.unasserted)
+unasserted_of-table ts i = get_or-map (λ (t : ThreadRegions). t.unasserted) (for_each_thread unused_thread ts) i unused_thread ∙ ap (λ (t : ThreadRegions). t.unasserted) (get_or-for_each_thread unused_thread ts i)
+
 pub is_reserved-table : (ts : List ThreadRegions) (i : ℕ) → is_reserved (region_table ts) i ≡ (let t : ThreadRegions = get_or ts i unused_thread in t.reserved)
 is_reserved-table ts i = get_or-map (λ (t : ThreadRegions). t.reserved) (for_each_thread unused_thread ts) i unused_thread ∙ ap (λ (t : ThreadRegions). t.reserved) (get_or-for_each_thread unused_thread ts i)
 
-pub region_table-set : (ts : List ThreadRegions) (i : ℕ) (t : ThreadRegions) → i < length ts → region_table (set ts i t) ≡ record { regions = set (region_table ts).regions i t.regions; reserved = set (region_table ts).reserved i t.reserved }
+pub region_table-set : (ts : List ThreadRegions) (i : ℕ) (t : ThreadRegions) → i < length ts → region_table (set ts i t) ≡ record { regions = set (region_table ts).regions i t.regions; unasserted = set (region_table ts).unasserted i t.unasserted; reserved = set (region_table ts).reserved i t.reserved }
 region_table-set ts i t here =
     let all = set-for_each_thread unused_thread ts i t here in
     λ j. record {
       regions = (ap (map (λ (u : ThreadRegions). u.regions)) (sym all) ∙ map-set (λ (u : ThreadRegions). u.regions) (for_each_thread unused_thread ts) i t) j;
+      unasserted = (ap (map (λ (u : ThreadRegions). u.unasserted)) (sym all) ∙ map-set (λ (u : ThreadRegions). u.unasserted) (for_each_thread unused_thread ts) i t) j;
       reserved = (ap (map (λ (u : ThreadRegions). u.reserved)) (sym all) ∙ map-set (λ (u : ThreadRegions). u.reserved) (for_each_thread unused_thread ts) i t) j;
     }
 
@@ -97,27 +101,42 @@ module _ (ts : List ThreadRegions) (old : RegionTable) (is : region_table ts ≡
   regions-at t d here same =
       ap (λ (u : ThreadRegions). u.regions) (same ∙ get_or_default ts n d unused_thread here) ∙ (sym (regions_of-table ts n) ∙ (λ j. regions_of (let o : RegionTable = is j in o.regions) (at j)))
 
+  pub unasserted-at : (t d : ThreadRegions) → n < length ts → t ≡ get_or ts n d → t.unasserted ≡ regions_of old.unasserted i
+  unasserted-at t d here same =
+      ap (λ (u : ThreadRegions). u.unasserted) (same ∙ get_or_default ts n d unused_thread here) ∙ (sym (unasserted_of-table ts n) ∙ (λ j. regions_of (let o : RegionTable = is j in o.unasserted) (at j)))
+
   pub reserved-at : (t d : ThreadRegions) → n < length ts → t ≡ get_or ts n d → t.reserved ≡ is_reserved old i
   reserved-at t d here same =
       ap (λ (u : ThreadRegions). u.reserved) (same ∙ get_or_default ts n d unused_thread here) ∙ (sym (is_reserved-table ts n) ∙ (λ j. is_reserved (is j) (at j)))
 
-  pub thread_changed : (t : ThreadRegions) (regions : List (List ℕ)) (reserved : Bool) → n < length ts → t.regions ≡ regions → t.reserved ≡ reserved → region_table (set ts n t) ≡ record { regions = set old.regions i regions; reserved = set old.reserved i reserved }
-  thread_changed t regions reserved here r s =
+  pub thread_changed : (t u : ThreadRegions) → n < length ts → t ≡ u → region_table (set ts n t) ≡ record { regions = set old.regions i u.regions; unasserted = set old.unasserted i u.unasserted; reserved = set old.reserved i u.reserved }
+  thread_changed t u here same =
       region_table-set ts n t here
       ∙ (λ j. record {
-        regions = set (let o : RegionTable = is j in o.regions) (at j) (r j);
-        reserved = set (let o : RegionTable = is j in o.reserved) (at j) (s j);
+        regions = set (let o : RegionTable = is j in o.regions) (at j) (let v : ThreadRegions = same j in v.regions);
+        unasserted = set (let o : RegionTable = is j in o.unasserted) (at j) (let v : ThreadRegions = same j in v.unasserted);
+        reserved = set (let o : RegionTable = is j in o.reserved) (at j) (let v : ThreadRegions = same j in v.reserved);
       })
 
+  -- the thread as the table has it
+  abbrev pub thread_in : ThreadRegions
+  thread_in = record { regions = regions_of old.regions i; unasserted = regions_of old.unasserted i; reserved = is_reserved old i }
+
+  pub thread-at : (t d : ThreadRegions) → n < length ts → t ≡ get_or ts n d → t ≡ thread_in
+  thread-at t d here same =
+      λ j. record { regions = regions-at t d here same j; unasserted = unasserted-at t d here same j; reserved = reserved-at t d here same j }
+
   -- where it stays reserved or not
-  pub regions_changed : (t : ThreadRegions) (regions : List (List ℕ)) → n < length ts → t.regions ≡ regions → t.reserved ≡ is_reserved old i → region_table (set ts n t) ≡ record old { regions = set old.regions i regions }
-  regions_changed t regions here r s =
-      thread_changed t regions (is_reserved old i) here r s ∙ (λ j. record { regions = set old.regions i regions; reserved = set-get_or old.reserved i false j })
+  pub regions_changed : (t : ThreadRegions) (regions unasserted : List (List ℕ)) → n < length ts → t ≡ record { regions = regions; unasserted = unasserted; reserved = is_reserved old i } → region_table (set ts n t) ≡ record old { regions = set old.regions i regions; unasserted = set old.unasserted i unasserted }
+  regions_changed t regions unasserted here same =
+      thread_changed t (record { regions = regions; unasserted = unasserted; reserved = is_reserved old i }) here same
+      ∙ (λ j. record { regions = set old.regions i regions; unasserted = set old.unasserted i unasserted; reserved = set-get_or old.reserved i false j })
 
   -- where its regions stay
-  pub reservation_changed : (t : ThreadRegions) (reserved : Bool) → n < length ts → t.regions ≡ regions_of old.regions i → t.reserved ≡ reserved → region_table (set ts n t) ≡ record old { reserved = set old.reserved i reserved }
-  reservation_changed t reserved here r s =
-      thread_changed t (regions_of old.regions i) reserved here r s ∙ (λ j. record { regions = set-get_or old.regions i [] j; reserved = set old.reserved i reserved })
+  pub reservation_changed : (t : ThreadRegions) (reserved : Bool) → n < length ts → t ≡ record thread_in { reserved = reserved } → region_table (set ts n t) ≡ record old { reserved = set old.reserved i reserved }
+  reservation_changed t reserved here same =
+      thread_changed t (record thread_in { reserved = reserved }) here same
+      ∙ (λ j. record { regions = set-get_or old.regions i [] j; unasserted = set-get_or old.unasserted i [] j; reserved = set old.reserved i reserved })
 
   -- a reserved thread has its place, and so has one with an open region
   pub place_of_reserved : IsTrue (is_reserved old i) → n < length ts
@@ -143,22 +162,19 @@ reserved_then ts n i at here t reserved =
 
 -- ---- the table without some ids
 
--- the thread with these ids alone in its regions
-abbrev pub kept_thread : (ℕ → Bool) → ThreadRegions → ThreadRegions
-kept_thread p t = record t { regions = map (filter p) t.regions }
-
-pub region_table-kept : (p : ℕ → Bool) (ts : List ThreadRegions) → region_table (map (kept_thread p) ts) ≡ record (region_table ts) { regions = map (map (filter p)) (region_table ts).regions }
+pub region_table-kept : (p : ℕ → Bool) (ts : List ThreadRegions) → region_table (map (thread_with_ids p) ts) ≡ table_with_ids p (region_table ts)
 region_table-kept p ts =
-    let all = sym (map-for_each_thread unused_thread (kept_thread p) ts) in
+    let all = sym (map-for_each_thread unused_thread (thread_with_ids p) ts) in
     λ j. record {
-      regions = (ap (map (λ (t : ThreadRegions). t.regions)) all ∙ (map-map (λ (t : ThreadRegions). t.regions) (kept_thread p) (for_each_thread unused_thread ts) ∙ sym (map-map (map (filter p)) (λ (t : ThreadRegions). t.regions) (for_each_thread unused_thread ts)))) j;
-      reserved = (ap (map (λ (t : ThreadRegions). t.reserved)) all ∙ map_agree (kept_thread p) (λ (t : ThreadRegions). t.reserved) (λ t. refl) (for_each_thread unused_thread ts)) j;
+      regions = (ap (map (λ (t : ThreadRegions). t.regions)) all ∙ (map-map (λ (t : ThreadRegions). t.regions) (thread_with_ids p) (for_each_thread unused_thread ts) ∙ sym (map-map (map (filter p)) (λ (t : ThreadRegions). t.regions) (for_each_thread unused_thread ts)))) j;
+      unasserted = (ap (map (λ (t : ThreadRegions). t.unasserted)) all ∙ (map-map (λ (t : ThreadRegions). t.unasserted) (thread_with_ids p) (for_each_thread unused_thread ts) ∙ sym (map-map (map (filter p)) (λ (t : ThreadRegions). t.unasserted) (for_each_thread unused_thread ts)))) j;
+      reserved = (ap (map (λ (t : ThreadRegions). t.reserved)) all ∙ map_agree (thread_with_ids p) (λ (t : ThreadRegions). t.reserved) (λ t. refl) (for_each_thread unused_thread ts)) j;
     }
 
-pub AreThreads-kept : (p : ℕ → Bool) (ts : List ThreadRegions) → AreThreads ts → AreThreads (map (kept_thread p) ts)
+pub AreThreads-kept : (p : ℕ → Bool) (ts : List ThreadRegions) → AreThreads ts → AreThreads (map (thread_with_ids p) ts)
 AreThreads-kept p ts r = record {
-  few = (let e = length-map ts (kept_thread p) in let few = r.few in omega arith);
-  each = All-map (λ (t : ThreadRegions). AreRegions t.regions) (kept_thread p) ts (All-weaker (λ (t : ThreadRegions). AreRegions t.regions) (λ (t : ThreadRegions). AreRegions (map (filter p) t.regions)) (λ t h. AreRegions-keep p t.regions h) ts r.each);
+  few = (let e = length-map ts (thread_with_ids p) in let few = r.few in omega arith);
+  each = All-map (λ (t : ThreadRegions). AreRegions t.regions) (thread_with_ids p) ts (All-weaker (λ (t : ThreadRegions). AreRegions t.regions) (λ (t : ThreadRegions). AreRegions (map (filter p) t.regions)) (λ t h. AreRegions-keep p t.regions h) ts r.each);
 }
 
 -- what follows from either outcome

@@ -5,9 +5,9 @@ ghost use Rattle.heap_base.specs.declared.limits.TheConstants.{MOST_REGIONS, MOS
 ghost use Rattle.graph_meaning.specs.Answers.{RefusesBy};
 ghost use Rattle.graph_meaning.specs.Heap.{regions_of, is_live};
 ghost use Rattle.graph_meaning.specs.Step.{with_member};
-ghost use Rattle.region_log.specs.Regions.{no_open_regions, is_reserved, start_refusal, end_refusal};
-ghost use Rattle.region_log.specs.Regions.{with_region, without_innermost, innermost, IsAbove, IsRegionTable};
-ghost use Rattle.region_log.specs.Regions.{unused_thread, for_each_thread};
+ghost use Rattle.region_log.specs.Regions.{no_open_regions, is_reserved, start_refusal, end_refusal, innermost};
+ghost use Rattle.region_log.specs.Regions.{table_with_region, table_with_object, table_without_region, table_with_ids};
+ghost use Rattle.region_log.specs.Regions.{IsAbove, IsRegionTable, AreNested, unused_thread, for_each_thread};
 
 use crate::stack::RegionStack;
 use graph_meaning::{Refusal, Stop};
@@ -17,7 +17,8 @@ use std::alloc::Global;
 use std::marker::Model;
 
 /// The regions that each thread has open, nested, and the ids of the objects in them. Contracts see the regions as
-/// a heap has them, and which threads are reserved: have memory for their next object in each of their regions.
+/// a heap has them; the same with those ids alone that are unasserted: were in no inner region when it ended, and asserted its
+/// objects dead; and which threads are reserved: have memory for their next object in each of their regions.
 #[derive(Drop)]
 pub struct RegionLog {
     // by the number of the thread, up to the highest of which something was asked
@@ -61,8 +62,7 @@ impl RegionLog {
     /// memory, nothing has changed.
     pub fn start(&mut self, thread: ThreadNo) -> Result<(), Stop>
         ensures refused { RefusesBy result (start_refusal self.old.regions thread) }
-        ensures started { OnOk result (self.new ≡
-            record { regions = with_region self.old.regions thread; reserved = slice_set self.old.reserved thread false }) }
+        ensures started { OnOk result (self.new ≡ table_with_region self.old thread) }
         ensures err { OnErr result (self.new ≡ self.old) }
     {
         if self.depth(thread) as usize >= MOST_REGIONS {
@@ -88,8 +88,7 @@ impl RegionLog {
     pub fn note(&mut self, thread: ThreadNo, id: ObjId)
         requires reserved { IsTrue (is_reserved self.old thread) }
         requires above { IsAbove id (regions_of self.old.regions thread) }
-        ensures { self.new ≡
-            record { regions = with_member self.old.regions thread id; reserved = slice_set self.old.reserved thread false } }
+        ensures { self.new ≡ table_with_object self.old thread id }
     {
         let stack = &mut self.threads[thread.number() as usize];
         stack.note(id);
@@ -107,11 +106,21 @@ impl RegionLog {
         Vec::from_slice(*self.threads.allocator(), ids).map_err(|_| Stop::OutOfMemory)
     }
 
-    /// Ends the innermost open region of the thread. Its objects stay in the outer ones. It refuses where none is
-    /// open (`NoRegion`), and nothing has changed then.
+    /// The unasserted ids in the innermost open region of the thread. It refuses where none is open (`NoRegion`).
+    pub fn unasserted(&self, thread: ThreadNo) -> Result<&[ObjId], Refusal>
+        ensures refused { result_err result ≡ end_refusal self.now.regions thread }
+        ensures unasserted { IfOk result (λ ids. ids.now ≡ innermost self.now.unasserted thread) }
+    {
+        self.innermost_unasserted(thread)
+            .ok_or(Refusal::NoRegion(thread.number()))
+    }
+
+    /// Ends the innermost open region of the thread. Its objects stay in the outer ones, and are unasserted in none. It refuses
+    /// where none is open (`NoRegion`), and nothing has changed then.
     pub fn finish(&mut self, thread: ThreadNo) -> Result<(), Refusal>
         ensures refused { result_err result ≡ end_refusal self.old.regions thread }
-        ensures ended { OnOk result (self.new ≡ record self.old { regions = without_innermost self.old.regions thread }) }
+        ensures ended { OnOk result (self.new ≡ table_without_region self.old thread) }
+        ensures nested { OnOk result (AreNested (regions_of self.old.unasserted thread)) }
         ensures err { OnErr result (self.new ≡ self.old) }
     {
         if self.depth(thread) == 0 {
@@ -124,7 +133,7 @@ impl RegionLog {
 
     /// Drops the ids that are not live in the table from all regions.
     pub fn keep(&mut self, table: &ObjectTable)
-        ensures { self.new ≡ record self.old { regions = map (map (filter (is_live table.now.table))) self.old.regions } }
+        ensures { self.new ≡ table_with_ids (is_live table.now.table) self.old }
     {
         for stack in self.threads.iter_mut() {
             stack.keep(table);
@@ -134,8 +143,7 @@ impl RegionLog {
     // Opens a region of the thread.
     fn open(&mut self, thread: ThreadNo) -> Result<(), OutOfMemory>
         requires { length (regions_of self.old.regions thread) < MOST_REGIONS }
-        ensures opened { OnOk result (self.new ≡
-            record { regions = with_region self.old.regions thread; reserved = slice_set self.old.reserved thread false }) }
+        ensures opened { OnOk result (self.new ≡ table_with_region self.old thread) }
         ensures err { OnErr result (self.new ≡ self.old) }
     {
         make_place(&mut self.threads, thread)?;
@@ -151,6 +159,15 @@ impl RegionLog {
     {
         let stack = self.threads.get(thread.number() as usize)?;
         stack.innermost()
+    }
+
+    // The unasserted ids in the innermost open region of the thread.
+    fn innermost_unasserted(&self, thread: ThreadNo) -> Option<&[ObjId]>
+        ensures { MatchOption result (regions_of self.now.regions thread ≡ [])
+            (λ ids. (0 < length (regions_of self.now.regions thread)) × (innermost self.now.unasserted thread ≡ ids.now)) }
+    {
+        let stack = self.threads.get(thread.number() as usize)?;
+        stack.unasserted()
     }
 }
 

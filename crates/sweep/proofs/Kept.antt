@@ -11,7 +11,7 @@ use Rattle.graph_meaning.proofs.Membership.{length-filter_le, filter_itself}
 use Rattle.graph_meaning.proofs.Rising.{ids-with_only}
 use Rattle.object_table.specs.Placed.{Placed, kept_ids, IsPlaced}
 use Rattle.assert_registry.specs.Assertions.{Assertions, live_part}
-use Rattle.region_log.specs.Regions.{RegionTable}
+use Rattle.region_log.specs.Regions.{RegionTable, table_with_ids}
 use Rattle.sweep.specs.Parts.{Parts, assertions_on, regions_with, ArePartsOf, AreTraced, SweepsHeap}
 
 -- what is so of each object in a cell is so of those that are kept
@@ -47,8 +47,8 @@ module _ (t : Table) (kept : List ℕ) (live : (id : ℕ) → is_live t id ≡ h
     owners = filter (λ (o : ℕ × ℕ). same_test i o.0) a.owners;
   }
 
-  pub regions-kept : (r : RegionTable) → (let left : RegionTable = record r { regions = map (map (filter (is_live t))) r.regions } in left) ≡ regions_with kept r
-  regions-kept r = λ i. record r { regions = map (map (filter (same_test i))) r.regions }
+  pub regions-kept : (r : RegionTable) → table_with_ids (is_live t) r ≡ regions_with kept r
+  regions-kept r = λ i. table_with_ids (same_test i) r
 
 -- no more objects stay than there were
 pub length-with_only : (kept : List ℕ) (t : Table) → length (with_only kept t).objects ≤ length t.objects

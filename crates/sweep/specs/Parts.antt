@@ -1,12 +1,12 @@
 -- What a sweep leaves of the parts of a heap.
-use Rattle.std.specs.Prelude.{◌≡◌, ℕ, ◌-◌, List, length, map, filter}
+use Rattle.std.specs.Prelude.{◌≡◌, ℕ, ◌-◌, List, length, filter}
 use Rattle.graph_meaning.specs.Heap.{Heap}
 use Rattle.graph_meaning.specs.Reach.{has_id}
 use Rattle.graph_meaning.specs.Assertions.{traced_ids}
 use Rattle.graph_meaning.specs.Collecting.{after_sweep}
 use Rattle.object_table.specs.Placed.{Placed}
 use Rattle.assert_registry.specs.Assertions.{Assertions}
-use Rattle.region_log.specs.Regions.{RegionTable}
+use Rattle.region_log.specs.Regions.{RegionTable, table_with_ids}
 
 -- The parts of a heap: the objects in their cells, what is asserted of them, and the open regions.
 pub record Parts : Type 0 where
@@ -24,7 +24,7 @@ assertions_on kept a = record a {
 
 -- the regions with these objects alone in them; the same threads are reserved
 abbrev pub regions_with : List ℕ → RegionTable → RegionTable
-regions_with kept r = record r { regions = map (map (filter (has_id kept))) r.regions }
+regions_with kept r = table_with_ids (has_id kept) r
 
 -- These are the parts of the heap. Its limits are by the names of types and not by their numbers, so they are left out.
 pub record ArePartsOf (h : Heap) (parts : Parts) : Type 0 where

@@ -3,7 +3,7 @@ ghost use Rattle.std.specs.Prelude.{◌≤◌};
 ghost use Rattle.std.specs.List.{All};
 
 use graph_meaning::{Refusal, Stop};
-use heap_base::ThreadNo;
+use heap_base::{ObjId, ThreadNo};
 use object_table::ObjectTable;
 use region_log::RegionLog;
 use std::alloc::Global;
@@ -14,6 +14,11 @@ use test_support::{id, table_apart};
 /// The thread with this number.
 pub(crate) fn thread(n: u32) -> Result<ThreadNo, Fail> {
     Ok(ThreadNo::of(n).ok_or("not a thread")?)
+}
+
+// Whether the ids are these numbers.
+fn are(ids: &[ObjId], numbers: &[u32]) -> bool {
+    ids.len() == numbers.len() && ids.iter().zip(numbers).all(|(id, n)| id.number() == *n)
 }
 
 // A log, and the last id that was noted in it.
@@ -70,16 +75,19 @@ impl Run {
         Ok(())
     }
 
-    // Whether these are the ids in the innermost region of the thread.
-    fn has(&self, n: u32, numbers: &[u32]) -> Result<bool, Fail> {
-        let ids = self.log.members(thread(n)?)?;
-        Ok(ids.len() == numbers.len() && ids.iter().zip(numbers).all(|(id, n)| id.number() == *n))
+    // Whether these are the ids in the innermost region of the thread, and those of them that are unasserted.
+    fn has(&self, n: u32, members: &[u32], unasserted: &[u32]) -> Result<bool, Fail> {
+        let thread = thread(n)?;
+        Ok(
+            are(&self.log.members(thread)?, members)
+                && are(self.log.unasserted(thread)?, unasserted),
+        )
     }
 
-    // Whether the innermost region has the members of the case after its steps.
+    // Whether the innermost region has what the case says after its steps.
     fn holds(&mut self, rt: &impl Abort, case: &Case) -> Result<bool, Fail> {
         self.take_all(rt, case.steps)?;
-        self.has(case.thread, case.members)
+        self.has(case.thread, case.members, case.unasserted)
     }
 
     // Whether the thread has no region that could end.
@@ -89,6 +97,7 @@ impl Run {
         Ok(
             self.log.depth(thread) == 0
                 && self.log.members(thread).err() == Some(Stop::Refused(none))
+                && self.log.unasserted(thread).err() == Some(none)
                 && self.log.finish(thread) == Err(none),
         )
     }
@@ -107,6 +116,8 @@ struct Case {
     steps: &'static [Step],
     thread: u32,
     members: &'static [u32],
+    // those that were in no inner region that ended
+    unasserted: &'static [u32],
 }
 
 const CASES: [Case; 6] = [
@@ -119,6 +130,7 @@ const CASES: [Case; 6] = [
         ],
         thread: 7,
         members: &[4_294_967_295],
+        unasserted: &[4_294_967_295],
     },
     // an object belongs to the outer regions too
     Case {
@@ -133,6 +145,7 @@ const CASES: [Case; 6] = [
         ],
         thread: 7,
         members: &[5, 8],
+        unasserted: &[5],
     },
     // and to none that comes later
     Case {
@@ -146,6 +159,7 @@ const CASES: [Case; 6] = [
         ],
         thread: 0,
         members: &[],
+        unasserted: &[],
     },
     // threads are apart
     Case {
@@ -157,6 +171,7 @@ const CASES: [Case; 6] = [
         ],
         thread: 1_023,
         members: &[1, 3],
+        unasserted: &[1, 3],
     },
     Case {
         steps: &[
@@ -167,6 +182,7 @@ const CASES: [Case; 6] = [
         ],
         thread: 1_023,
         members: &[1],
+        unasserted: &[1],
     },
     Case {
         steps: &[
@@ -177,6 +193,7 @@ const CASES: [Case; 6] = [
         ],
         thread: 0,
         members: &[4],
+        unasserted: &[4],
     },
 ];
 
@@ -223,12 +240,12 @@ const NESTED: [Step; 9] = [
 fn check_ends(rt: &impl Abort, run: &mut Run, live: &ObjectTable) -> Result<(), Fail> {
     run.take_all(rt, &NESTED)?;
     run.keep(live);
-    assert!(rt; run.has(0, &[6])?);
+    assert!(rt; run.has(0, &[6], &[6])?);
     run.finish(0)?;
-    assert!(rt; run.has(0, &[3, 6])?);
+    assert!(rt; run.has(0, &[3, 6], &[3])?);
     run.finish(0)?;
     run.note(rt, 0, 9)?;
-    assert!(rt; run.has(0, &[2, 3, 6, 9])?);
+    assert!(rt; run.has(0, &[2, 3, 6, 9], &[2, 9])?);
     run.finish(0)?;
     assert!(rt; run.has_none(0)?);
     Ok(())
@@ -265,6 +282,7 @@ fn last_member(run: &Run) -> Result<(usize, Option<u32>), Fail> {
 fn check_nest(rt: &impl Abort, run: &mut Run) -> Result<(), Fail> {
     nest(run, rt)?;
     assert_eq!(rt; last_member(run)?, (20_000, Some(20_000)));
+    assert!(rt; run.log.unasserted(thread(0)?)?.is_empty());
     Ok(())
 }
 

@@ -36,7 +36,7 @@ note-requires-clause-above c =
 pub invariant_of-self-2 : goal.invariant_of-self-2
 invariant_of-self-2 c =
     let s : Parts = record { placed = c.self.inside.table; assertions = c.self.inside.registry; regions = c.self.inside.regions } in
-    parts-alloc s c.self.invariant c.alloc_object.new.self c.note.new.self c.args.id c.args.kind.now c.args.slots c.args.thread (sym c.in_default.ensures.refusal) c.in_ok-alloc_object.ensures.added (ap (λ (r : RegionTable). r.regions) c.note.ensures ∙ ap (λ (r : RegionTable). with_member r.regions c.args.thread c.args.id) c.in_ok-reserve.ensures.done)
+    parts-alloc s c.self.invariant c.alloc_object.new.self c.note.new.self c.args.id c.args.kind.now c.args.slots c.args.thread (sym c.in_default.ensures.refusal) c.in_ok-alloc_object.ensures.added (ap (λ (r : RegionTable). r.regions) c.note.ensures ∙ ap (λ (r : RegionTable). with_member r.regions c.args.thread c.args.id) c.in_ok-reserve.ensures.done) (ap (λ (r : RegionTable). r.unasserted) c.note.ensures ∙ ap (λ (r : RegionTable). with_member r.unasserted c.args.thread c.args.id) c.in_ok-reserve.ensures.done)
 
 pub returns : goal.returns
 returns c =

@@ -28,7 +28,7 @@ module _ (c : goal.After-sweep) where
 
 pub invariant_of-self : goal.invariant_of-self
 invariant_of-self c =
-    parts_left (before c) c.self.invariant c.cells.ensures.placed c.args.kept.now (tell c) (after c) c.sweep.result (sweeps c) c.sweep.ensures.table c.sweep.ensures.assertions
+    parts_left (before c) c.self.invariant c.cells.ensures.placed c.args.kept.now (tell c) (after c) c.sweep.result (sweeps c) c.sweep.ensures.table c.sweep.ensures.assertions c.sweep.ensures.regions
 
 pub returns-clause-left : goal.returns-clause-left
 returns-clause-left c =

@@ -1,7 +1,6 @@
-use Rattle.std.proofs.Common.{◌++◌, ◌∷◌, [], map, false, ap, ◌∙◌, sym, subst, arith, List, ℕ}
-use Rattle.region_log.specs.Regions.{ThreadRegions, AreRegions, IsAbove}
-use Rattle.graph_meaning.specs.Heap.{regions_of}
-use Rattle.region_log.proofs.Tables.{place_of_reserved, thread_changed, regions-at, reserved-at, AreThreads-set, AreRegions-at, AreRegions-note}
+use Rattle.std.proofs.Common.{ap, ◌∙◌, sym, subst, arith}
+use Rattle.region_log.specs.Regions.{ThreadRegions, AreRegions, IsAbove, thread_with_object}
+use Rattle.region_log.proofs.Tables.{place_of_reserved, thread_changed, thread_in, thread-at, regions-at, reserved-at, AreThreads-set, AreRegions-at, AreRegions-note}
 use Rattle.region_log.proofs.log.RegionLog.note.Goals as goal
 
 pub index_mut-stack-requires : goal.index_mut-stack-requires
@@ -31,6 +30,6 @@ returns c =
     let old = c.args.self.now in
     let here = place_of_reserved ts old c.self.view_is c.number.result c.args.thread c.number.ensures.value c.requires.reserved in
     let t : ThreadRegions = c.index_mut-stack.result.now in
-    let noted = map (λ (r : List ℕ). r ++ c.args.id ∷ []) in
-    let regions = regions-at ts old c.self.view_is c.number.result c.args.thread c.number.ensures.value t t here c.index_mut-stack.ensures.value in
-    thread_changed ts old c.self.view_is c.number.result c.args.thread c.number.ensures.value c.note.new.self (noted (regions_of old.regions c.args.thread)) false here (ap (λ (u : ThreadRegions). u.regions) c.note.ensures ∙ ap noted regions) (ap (λ (u : ThreadRegions). u.reserved) c.note.ensures)
+    let noted = λ (u : ThreadRegions). thread_with_object u c.args.id in
+    let is_thread = thread-at ts old c.self.view_is c.number.result c.args.thread c.number.ensures.value t t here c.index_mut-stack.ensures.value in
+    thread_changed ts old c.self.view_is c.number.result c.args.thread c.number.ensures.value c.note.new.self (noted (thread_in ts old c.self.view_is c.number.result c.args.thread c.number.ensures.value)) here (c.note.ensures ∙ ap noted is_thread)

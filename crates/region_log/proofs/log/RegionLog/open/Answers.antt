@@ -1,9 +1,8 @@
-use Rattle.std.proofs.Common.{◌<◌, ◌∷◌, [], length, false, ap, ◌∙◌, sym, subst, arith, List, ℕ}
+use Rattle.std.proofs.Common.{◌<◌, length, ap, ◌∙◌, sym, subst, arith, List, ℕ}
 use Rattle.std.proofs.lemmas.Result.{on_ok_weaker}
-use Rattle.region_log.specs.Regions.{ThreadRegions, AreRegions}
+use Rattle.region_log.specs.Regions.{ThreadRegions, AreRegions, thread_with_region}
 use Rattle.heap_base.specs.declared.limits.TheConstants.{MOST_REGIONS}
-use Rattle.graph_meaning.specs.Heap.{regions_of}
-use Rattle.region_log.proofs.Tables.{region_table-same, AreThreads-same, AreThreads-set, AreRegions-at, AreRegions-start, thread_changed, regions-at, either_way}
+use Rattle.region_log.proofs.Tables.{region_table-same, AreThreads-same, AreThreads-set, AreRegions-at, AreRegions-start, thread_changed, thread_in, thread-at, regions-at, either_way}
 use Rattle.region_log.proofs.log.RegionLog.open.Goals as goal
 
 pub invariant_of-self-2 : goal.invariant_of-self-2
@@ -31,7 +30,7 @@ returns-clause-opened c =
     let here : n < length ts = omega (arith, c.make_place.new.threads.ok.0, place.place, c.number.ensures.value) in
     let is = region_table-same ts c.self.inside.threads.items place.same ∙ c.self.view_is in
     let t : ThreadRegions = c.index_mut-stack.result.now in
-    let regions = regions-at ts old is n c.args.thread c.number.ensures.value t t here c.index_mut-stack.ensures.value in
+    let is_thread = thread-at ts old is n c.args.thread c.number.ensures.value t t here c.index_mut-stack.ensures.value in
     on_ok_weaker c.open.result
-    (λ opened. thread_changed ts old is n c.args.thread c.number.ensures.value c.open.new.self ([] ∷ regions_of old.regions c.args.thread) false here (ap (λ (u : ThreadRegions). u.regions) opened ∙ ap (λ rs. [] ∷ rs) regions) (ap (λ (u : ThreadRegions). u.reserved) opened))
+    (λ done. thread_changed ts old is n c.args.thread c.number.ensures.value c.open.new.self (thread_with_region (thread_in ts old is n c.args.thread c.number.ensures.value)) here (done ∙ ap thread_with_region is_thread))
     c.open.ensures.ok

@@ -1,7 +1,7 @@
 use Rattle.std.proofs.Common.{◌<◌, length, true, ap, ◌∙◌, arith}
 use Rattle.std.proofs.lemmas.Result.{on_ok_weaker}
 use Rattle.region_log.specs.Regions.{ThreadRegions}
-use Rattle.region_log.proofs.Tables.{region_table-same, reservation_changed, reserved_then, regions-at}
+use Rattle.region_log.proofs.Tables.{region_table-same, reservation_changed, reserved_then, thread-at}
 use Rattle.region_log.proofs.log.RegionLog.reserve.Goals as goal
 
 pub returns-clause-done : goal.returns-clause-done
@@ -13,9 +13,9 @@ returns-clause-done c =
     let here : n < length ts = omega (arith, c.make_place.new.threads.ok.0, place.place, c.number.ensures.value) in
     let is = region_table-same ts c.self.inside.threads.items place.same ∙ c.self.view_is in
     let t : ThreadRegions = c.index_mut-stack.result.now in
-    let regions = regions-at ts old is n c.args.thread c.number.ensures.value t t here c.index_mut-stack.ensures.value in
+    let is_thread = thread-at ts old is n c.args.thread c.number.ensures.value t t here c.index_mut-stack.ensures.value in
     on_ok_weaker c.reserve.result
-    (λ reserved. reservation_changed ts old is n c.args.thread c.number.ensures.value c.reserve.new.self true here (ap (λ (u : ThreadRegions). u.regions) reserved ∙ regions) (ap (λ (u : ThreadRegions). u.reserved) reserved))
+    (λ reserved. reservation_changed ts old is n c.args.thread c.number.ensures.value c.reserve.new.self true here (reserved ∙ ap (λ (u : ThreadRegions). let kept : ThreadRegions = record u { reserved = true } in kept) is_thread))
     c.reserve.ensures.ok
 
 pub returns-clause-reserved : goal.returns-clause-reserved
