@@ -217,7 +217,7 @@ swept_held kept old now all cell =
 
 -- ---- the last cells are taken away
 
-front_held : (before after : List Cell) → after ≡ take (length after) before → (cell : ℕ) → cell < length after → held_at (map resident_in after) cell ≡ held_at (map resident_in before) cell
+pub front_held : (before after : List Cell) → after ≡ take (length after) before → (cell : ℕ) → cell < length after → held_at (map resident_in after) cell ≡ held_at (map resident_in before) cell
 front_held before after front cell within =
     ap (λ l. held_at (map resident_in l) cell) front
     ∙ ap (λ l. held_at l cell) (sym (take-map resident_in (length after) before))

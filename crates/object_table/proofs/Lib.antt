@@ -20,4 +20,5 @@ pub mod Refusals
 pub mod Searches
 pub mod Shown
 pub mod Sound
+pub mod StrongSlots
 pub mod Tables

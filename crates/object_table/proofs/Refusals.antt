@@ -1,6 +1,9 @@
 -- What each refusal comes to, where the tests before it are decided.
-use Rattle.std.proofs.Common.{◌≡◌, ℕ, ◌+◌, ◌<◌, ◌≤◌, List, length, true, false, Option, Some, None, refl, ◌∙◌, ap, arith}
+use Rattle.std.proofs.Common.{◌≡◌, ℕ, ◌+◌, ◌<◌, ◌≤◌, List, [], length, position, unwrap_or, is_some, true, false, Option, Some, None, refl, ◌∙◌, ap, arith}
+use Rattle.std.specs.Str.{bytes_eq}
 use Rattle.std.proofs.lemmas.Bool.Decides.{nat_tests}
+use Rattle.std.proofs.lemmas.List.Quantifiers.{position-Some}
+use Rattle.object_table.proofs.Positions.{any-position}
 use Rattle.heap_base.specs.declared.limits.TheConstants.{MOST_OBJECTS, MOST_SLOTS, MOST_ROOTS, MOST_KINDS}
 use Rattle.graph_meaning.specs.declared.refusal.Refusal.{Refusal}
 use Rattle.graph_meaning.specs.declared.refusal.Refusal.TheVariants.{IdNotRising, TooManyObjects, TooManySlots, NotLive, BadSlot, TooManyRoots, TooManyTypes}
@@ -21,6 +24,14 @@ kind_room t kind room = grind (arith, nat_tests)
 -- a new type that is not refused has room
 pub kind_fits : (t : Table) (kind : List ℕ) → kind_refusal t kind ≡ None → is_seen t.kinds kind ≡ false → length t.kinds < MOST_KINDS
 kind_fits t kind allowed new = grind (arith, nat_tests)
+
+-- the number of a type that is not refused is below the most
+pub kind_number_fits : (t : Table) (kind : List ℕ) → length t.kinds ≤ MOST_KINDS → kind_refusal t kind ≡ None → unwrap_or (position (bytes_eq kind) t.kinds) (length t.kinds) < MOST_KINDS
+kind_number_fits t kind few allowed = go (position (bytes_eq kind) t.kinds) refl
+  where
+    go : (o : Option ℕ) → position (bytes_eq kind) t.kinds ≡ o → unwrap_or o (length t.kinds) < MOST_KINDS
+    go None new = kind_fits t kind allowed (any-position (bytes_eq kind) t.kinds ∙ ap is_some new)
+    go (Some n) seen = let within = (position-Some (bytes_eq kind) t.kinds n [] seen).0 in omega arith
 
 -- ---- a new object
 

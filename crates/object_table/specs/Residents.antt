@@ -1,5 +1,5 @@
 -- Objects as they stand in cells: a slot holds a cell and not an id.
-use Rattle.std.specs.Prelude.{ℕ, List, [], ◌∷◌, ◌++◌, length, map, Bool, not, false, nat_lt, if◌then◌else◌, Option, None, Some, is_some, slice_set, slice_index_or}
+use Rattle.std.specs.Prelude.{◌≡◌, ℕ, All, IsTrue, IfSome, List, [], ◌∷◌, ◌++◌, length, map, Bool, not, false, nat_lt, if◌then◌else◌, Option, None, Some, is_some, slice_set, slice_index_or}
 use Rattle.std.specs.List.{count_by, position_or_len}
 use Rattle.std.specs.Option.{option_map, option_map_or}
 use Rattle.object_table.specs.declared.slot.Slot.{Slot}
@@ -25,6 +25,10 @@ slot_after kept slot = if option_map_or (λ cell. not (is_flagged kept cell)) sl
 -- the object after the cells that are not kept were emptied
 abbrev pub resident_after : List Bool → Resident → Resident
 resident_after kept o = record o { slots = map (slot_after kept) o.slots }
+
+-- no strong slot of the object holds what stands in a cell that is not kept
+abbrev pub StrongHoldKept : List Bool → Resident → Type 0
+StrongHoldKept kept o = All (λ s. s.weak ≡ false → slot_after kept s ≡ s) o.slots
 
 -- whether the slot holds the object of a marked cell
 abbrev pub holds_marked : List Bool → Slot → Bool
@@ -67,6 +71,10 @@ with_resident cells o =
 -- what a cell holds after those that are not kept were emptied
 abbrev pub held_after : List Bool → List (Option Resident) → ℕ → Option Resident
 held_after kept cells cell = if is_flagged kept cell then option_map (resident_after kept) (held_at cells cell) else None
+
+-- The strong slots of what kept cells hold hold nothing that stands in a cell that is not kept.
+abbrev pub StrongLeadToKept : List Bool → List (Option Resident) → Type 0
+StrongLeadToKept kept cells = (cell : ℕ) → IsTrue (is_flagged kept cell) → IfSome (held_at cells cell) (StrongHoldKept kept)
 
 -- how many slots of the object that a cell holds, if any, hold the object of a marked cell
 abbrev pub holders_held : List Bool → Option Resident → ℕ

@@ -3,6 +3,7 @@ ghost use Rattle.std.specs.Option.{option_map};
 ghost use Rattle.heap_base.specs.declared.limits.TheConstants.{MOST_OBJECTS, MOST_SLOTS};
 ghost use Rattle.object_table.specs.Packing.{CanBePacked};
 ghost use Rattle.object_table.specs.Residents.{held_at, held_after, id_held, is_flagged, next_cell, with_resident, resident_cleared, holders_held};
+ghost use Rattle.object_table.specs.Residents.{StrongHoldKept, StrongLeadToKept};
 ghost use Rattle.object_table.specs.Chains.{resident_in, first_empty, IsLinked, IsFrontOf, cells_after, cell_after, empty_from, with_slots_cleared, holders_at};
 
 use crate::cell::Cell;
@@ -129,9 +130,10 @@ impl Cells {
         self.pages.set_slot(cell, slot, value);
     }
 
-    /// Empties the cells that are not kept, and each slot that holds what stood in one. Cells behind the last that is kept
-    /// are taken away.
+    /// Empties the cells that are not kept, and each slot that holds what stood in one, as weak ones alone do. Cells behind the
+    /// last that is kept are taken away.
     pub fn keep(&mut self, kept: &[bool])
+        requires { StrongLeadToKept kept.now self.old.cells }
         ensures count { length self.new.cells ≤ length self.old.cells }
         ensures after { (cell : ℕ) → held_at self.new.cells cell ≡ held_after kept.now self.old.cells cell }
     {
@@ -180,6 +182,7 @@ fn stays(pages: &Pages, cell: u32, kept: &[bool]) -> bool
 
 // Empties the cells that are not kept, and each slot that holds what stood in one. It answers the first empty cell.
 fn sweep(pages: &mut Pages, kept: &[bool]) -> Option<u32>
+    requires { StrongLeadToKept kept.now (map resident_in pages.old.cells) }
     ensures cells { pages.new.cells ≡ cells_after kept.now 0 pages.old.cells }
     ensures first { result ≡ first_empty 0 pages.new.cells }
 {
@@ -193,7 +196,8 @@ fn sweep(pages: &mut Pages, kept: &[bool]) -> Option<u32>
 // Empties the cell where it is not kept, and else the slots of the object in it that hold what stood in a cell that is not
 // kept. It answers the first empty cell from this one on, where `later` is the first after it.
 fn sweep_cell(pages: &mut Pages, cell: u32, later: Option<u32>, kept: &[bool]) -> Option<u32>
-    requires { cell < length pages.old.cells }
+    requires in_range { cell < length pages.old.cells }
+    requires strong { IsTrue (is_flagged kept.now cell) → IfSome (held_at (map resident_in pages.old.cells) cell) (StrongHoldKept kept.now) }
     ensures put { IfSome (slice_get pages.old.cells cell) (λ c. pages.new ≡ record pages.old { cells = slice_set pages.old.cells cell (cell_after (is_flagged kept.now cell) kept.now later c) }) }
     ensures first { IfSome (slice_get pages.old.cells cell) (λ c. result ≡ empty_from cell (cell_after (is_flagged kept.now cell) kept.now later c) later) }
 {

@@ -1,7 +1,7 @@
 ghost use Rattle.std.specs.Prelude.{◌≡◌, ◌<◌, ◌≤◌, length, map, replicate, slice_get, slice_set, Some, IfOk};
-ghost use Rattle.heap_base.specs.declared.limits.TheConstants.{MOST_SLOTS};
+ghost use Rattle.heap_base.specs.declared.limits.TheConstants.{MOST_KINDS, MOST_SLOTS};
 ghost use Rattle.object_table.specs.Packing.{CanBePacked};
-ghost use Rattle.object_table.specs.Residents.{Resident, no_edge, slot_after, holders_in, resident_cleared};
+ghost use Rattle.object_table.specs.Residents.{Resident, StrongHoldKept, no_edge, slot_after, holders_in, resident_cleared};
 
 use crate::slot::{PackedSlot, Slot, clear_slots_to, keep_slots};
 use heap_base::{ObjId, OutOfMemory};
@@ -16,12 +16,15 @@ const OWN_SLOTS: usize = 4;
 #[derive(Drop)]
 pub struct Object {
     id: ObjId,
-    kind: u32,
+    // below `MOST_KINDS`, so that the flag beside it takes no memory
+    kind: u16,
+    // set when a slot is made weak; where it is not set, no slot is weak
+    has_weak: bool,
     slots: SmallVec<PackedSlot, OWN_SLOTS>,
 }
 
 impl Model for Object {
-    ghost use Rattle.std.specs.Prelude.{length, ◌≤◌};
+    ghost use Rattle.std.specs.Prelude.{length, ◌≡◌, ◌≤◌, false, All};
     ghost use Rattle.heap_base.specs.declared.limits.TheConstants.{MOST_SLOTS};
     ghost use Rattle.object_table.specs.Packing.{CanBePacked};
     ghost use Rattle.object_table.specs.Residents.{Resident};
@@ -30,13 +33,14 @@ impl Model for Object {
 
     ghost view = { λ o. record { id = o.id; kind = o.kind; slots = o.slots.items } };
 
-    ghost invariant = { λ o. length o.slots.items ≤ MOST_SLOTS };
+    ghost invariant = { λ o. (length o.slots.items ≤ MOST_SLOTS) × (o.has_weak ≡ false → All (λ s. s.weak ≡ false) o.slots.items) };
 }
 
 impl Object {
     /// An object with empty slots, none weak.
     pub fn make(alloc: Global, id: ObjId, kind: u32, slots: u32) -> Result<Object, OutOfMemory>
-        requires { slots ≤ MOST_SLOTS }
+        requires kind { kind < MOST_KINDS }
+        requires slots { slots ≤ MOST_SLOTS }
         ensures { IfOk result (λ o. o ≡ record { id = id; kind = kind; slots = replicate slots no_edge }) }
     {
         let empty = Slot {
@@ -44,7 +48,12 @@ impl Object {
             weak: false,
         };
         let slots = SmallVec::from_elem(alloc, PackedSlot::pack(empty), slots as usize)?;
-        Ok(Object { id, kind, slots })
+        Ok(Object {
+            id,
+            kind: kind as u16,
+            has_weak: false,
+            slots,
+        })
     }
 
     /// An equal object, with slots of its own.
@@ -54,6 +63,7 @@ impl Object {
         Ok(Object {
             id: self.id,
             kind: self.kind,
+            has_weak: self.has_weak,
             slots: SmallVec::from_slice(*self.slots.allocator(), self.slots.as_slice())?,
         })
     }
@@ -69,7 +79,7 @@ impl Object {
     pub fn kind(&self) -> u32
         ensures { result ≡ self.now.kind }
     {
-        self.kind
+        u32::from(self.kind)
     }
 
     /// How many slots it has.
@@ -95,14 +105,19 @@ impl Object {
         requires packed { CanBePacked value }
         ensures { self.new ≡ record self.old { slots = slice_set self.old.slots slot value } }
     {
+        self.has_weak = self.has_weak || value.weak;
         self.slots[slot as usize] = PackedSlot::pack(value);
     }
 
-    /// Empties the slots that hold what stood in a cell that is not kept.
+    /// Empties the slots that hold what stood in a cell that is not kept, as weak ones alone do. So it looks at the slots only
+    /// where one may be weak.
     pub fn keep(&mut self, kept: &[bool])
+        requires { StrongHoldKept kept.now self.old }
         ensures { self.new ≡ record self.old { slots = map (slot_after kept.now) self.old.slots } }
     {
-        keep_slots(self.slots.as_mut_slice(), kept);
+        if self.has_weak {
+            keep_slots(self.slots.as_mut_slice(), kept);
+        }
     }
 
     /// Empties the slots, weak or not, that hold the object of a marked cell. Answers how many these were.

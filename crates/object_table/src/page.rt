@@ -1,6 +1,7 @@
 ghost use Rattle.std.specs.Prelude.{◌≡◌, ◌<◌, length, slice_get, slice_set, Some, IfSome, IfOk};
 ghost use Rattle.object_table.specs.Packing.{CanBePacked};
-ghost use Rattle.object_table.specs.Chains.{HasSlot, with_slot_put, with_slots_after, with_slots_cleared, holders_at};
+ghost use Rattle.object_table.specs.Residents.{StrongHoldKept};
+ghost use Rattle.object_table.specs.Chains.{resident_in, HasSlot, with_slot_put, with_slots_after, with_slots_cleared, holders_at};
 
 use crate::cell::Cell;
 use crate::slot::Slot;
@@ -78,9 +79,10 @@ impl Page {
     }
 
     /// Empties the slots of the object in the cell at a place of the page that hold what stood in a cell that is
-    /// not kept.
+    /// not kept, as weak ones alone do.
     pub fn keep(&mut self, place: usize, kept: &[bool])
-        requires { place < length self.old }
+        requires in_range { place < length self.old }
+        requires strong { IfSome (slice_get self.old place) (λ c. IfSome (resident_in c) (StrongHoldKept kept.now)) }
         ensures { IfSome (slice_get self.old place) (λ c. self.new ≡ slice_set self.old place (with_slots_after kept.now c)) }
     {
         if let Cell::Taken(object) = &mut self.cells[place] {

@@ -1,7 +1,8 @@
 ghost use Rattle.std.specs.Prelude.{◌≡◌, ◌-◌, ◌<◌, ◌≤◌, ◌++◌, ◌∷◌, [], length, take, slice_get, slice_set, Some, IfSome, OnOk, IfOk};
 ghost use Rattle.heap_base.specs.declared.limits.TheConstants.{MOST_OBJECTS};
 ghost use Rattle.object_table.specs.Packing.{CanBePacked};
-ghost use Rattle.object_table.specs.Chains.{HasSlot, with_slot_put, with_slots_after, with_slots_cleared, holders_at};
+ghost use Rattle.object_table.specs.Residents.{StrongHoldKept};
+ghost use Rattle.object_table.specs.Chains.{resident_in, HasSlot, with_slot_put, with_slots_after, with_slots_cleared, holders_at};
 
 use crate::cell::Cell;
 use crate::page::{PAGE, Page};
@@ -94,9 +95,10 @@ impl Pages {
     }
 
     /// Empties the slots of the object in the cell with this number that hold what stood in a cell that is not
-    /// kept.
+    /// kept, as weak ones alone do.
     pub fn keep(&mut self, cell: u32, kept: &[bool])
-        requires { cell < length self.old.cells }
+        requires in_range { cell < length self.old.cells }
+        requires strong { IfSome (slice_get self.old.cells cell) (λ c. IfSome (resident_in c) (StrongHoldKept kept.now)) }
         ensures { IfSome (slice_get self.old.cells cell) (λ c. self.new ≡ record self.old { cells = slice_set self.old.cells cell (with_slots_after kept.now c) }) }
     {
         let cell = cell as usize;

@@ -2,13 +2,17 @@ use Rattle.std.proofs.Common.{◌-◌, arith}
 use Rattle.object_table.specs.Chains.{cell_after}
 use Rattle.object_table.specs.Residents.{is_flagged}
 use Rattle.object_table.proofs.Housing.{put_alone, swept_within, swept_none, swept_more, swept_all}
+use Rattle.object_table.proofs.StrongSlots.{strong-not_swept}
 use Rattle.object_table.proofs.cells.sweep.Goals as goal
 
 pub loop-cell-init : goal.loop-cell-init
 loop-cell-init c = swept_none c.args.kept.now c.args.pages.now.cells c.len-cell.result c.len-cell.ensures
 
-pub sweep_cell-first-requires : goal.sweep_cell-first-requires
-sweep_cell-first-requires c = swept_within c.args.kept.now c.args.pages.now.cells c.loop-cell.pages.cells c.loop-cell.cell c.loop-cell.first c.loop-cell.invariant c.loop-cell-test.true
+pub sweep_cell-first-requires-clause-strong : goal.sweep_cell-first-requires-clause-strong
+sweep_cell-first-requires-clause-strong c = strong-not_swept c.args.kept.now c.args.pages.now.cells c.loop-cell.pages.cells c.loop-cell.cell c.loop-cell.first c.loop-cell.invariant c.loop-cell-test.true c.requires
+
+pub sweep_cell-first-requires-clause-in_range : goal.sweep_cell-first-requires-clause-in_range
+sweep_cell-first-requires-clause-in_range c = swept_within c.args.kept.now c.args.pages.now.cells c.loop-cell.pages.cells c.loop-cell.cell c.loop-cell.first c.loop-cell.invariant c.loop-cell-test.true
 
 pub loop-cell-preserved : goal.loop-cell-preserved
 loop-cell-preserved c =

@@ -3,7 +3,12 @@ use Rattle.std.proofs.lemmas.List.{length-map}
 use Rattle.object_table.specs.Chains.{resident_in}
 use Rattle.object_table.proofs.Chains.{length-cells_after}
 use Rattle.object_table.proofs.Housing.{front_kept, front_shorter, swept_housed, swept_held}
+use Rattle.object_table.proofs.StrongSlots.{strong-front}
 use Rattle.object_table.proofs.cells.Cells.keep.Goals as goal
+
+pub sweep-self-inside-requires : goal.sweep-self-inside-requires
+sweep-self-inside-requires c =
+    strong-front c.args.kept.now c.self.inside.pages.cells c.drop_last.new.pages.cells c.drop_last.ensures.front (rw (← c.self.view_is) at c.requires)
 
 pub invariant_of-self : goal.invariant_of-self
 invariant_of-self c =

@@ -1,12 +1,19 @@
 use Rattle.std.proofs.Common.{arith}
 use Rattle.object_table.specs.Parts.{placed_of}
-use Rattle.object_table.proofs.Refusals.{alloc_fits, kind_fits}
+use Rattle.object_table.proofs.Refusals.{alloc_fits, kind_fits, kind_number_fits}
 use Rattle.object_table.proofs.Changes.{added_is, added_takes, added_lowest}
 use Rattle.object_table.proofs.Tables.{parts_in, room_for_cell, table_with_one}
 use Rattle.object_table.proofs.table.ObjectTable.add_object.Goals as goal
 
-pub make-requires : goal.make-requires
-make-requires c =
+pub make-requires-clause-kind : goal.make-requires-clause-kind
+make-requires-clause-kind c =
+    let t = (placed_of (parts_in c.self.inside)).table in
+    let fits = alloc_fits t c.args.id c.args.kind.now c.args.slots (rw (← c.self.view_is) at c.requires) in
+    let number = (rw (c.find-found.ensures, c.len.ensures.count) at c.unwrap_or-number.ensures) in
+    omega (arith, number, kind_number_fits t c.args.kind.now c.self.invariant.sound.limits.kinds fits.allowed_kind)
+
+pub make-requires-clause-slots : goal.make-requires-clause-slots
+make-requires-clause-slots c =
     let fits = alloc_fits (placed_of (parts_in c.self.inside)).table c.args.id c.args.kind.now c.args.slots (rw (← c.self.view_is) at c.requires) in
     omega (arith, fits.room_for_slots)
 

@@ -1,6 +1,10 @@
 use Rattle.object_table.proofs.Changes.{kept_is, kept_keeps}
 use Rattle.object_table.proofs.Tables.{parts_in, kept_taken, kept_few, table_kept}
+use Rattle.object_table.proofs.StrongSlots.{strong_lead_to_kept}
 use Rattle.object_table.proofs.table.ObjectTable.keep.Goals as goal
+
+pub keep-requires : goal.keep-requires
+keep-requires c = strong_lead_to_kept (parts_in c.self.inside) c.self.invariant.laid c.args.kept.now (rw (← c.self.view_is) at c.requires.closed)
 
 pub slots_of-self-inside-requires-clause-taken : goal.slots_of-self-inside-requires-clause-taken
 slots_of-self-inside-requires-clause-taken c = rw c.keep-2.ensures (kept_taken (parts_in c.self.inside) c.self.invariant c.args.kept.now c.keep.new.self.cells c.keep.ensures.count c.keep.ensures.after (rw (← c.self.view_is) at c.requires.closed))
