@@ -11,8 +11,9 @@ use heap_trace::{Kit, Traced, trace};
 use std::thread::Threads;
 use verdicts::verdicts;
 
-// So many cells pay for a second worker: for its memory, and for the thread that is started for it.
-const CELLS_OF_TWO_WORKERS: u32 = 500;
+// So many cells pay for a second worker: for its memory, and for the thread that is started for it, which takes as long as to trace
+// some thousand objects.
+const CELLS_OF_TWO_WORKERS: u32 = 4_096;
 
 // So many more pay for each further worker.
 const CELLS_A_WORKER: u32 = 8_192;
