@@ -209,18 +209,20 @@ def timed(command, path):
         return Run(seconds, peaks[-1], child.returncode, output, used.ru_utime + used.ru_stime)
 
 
-def build_plain_rust():
-    """The plain Rust program, and nothing; or nothing, and why it can't be built."""
+def build_plain_rust(feature=None):
+    """The plain Rust program, and nothing; or nothing, and why it can't be built. With a feature it stands in a folder of that name."""
     if shutil.which("cargo") is None:
         return None, "there is no cargo"
-    command = ["cargo", "build", "--release", "--quiet"]
+    target = os.path.join("target", feature) if feature else "target"
+    command = ["cargo", "build", "--release", "--quiet", "--target-dir", target]
+    command += ["--features", feature] if feature else []
     if os.path.isdir(DEBIAN_SOURCES):
         command += ["--offline", "--config", 'source.crates-io.replace-with="debian"']
         command += ["--config", f'source.debian.directory="{DEBIAN_SOURCES}"']
     built = subprocess.run(command, cwd=PLAIN_RUST, stdout=subprocess.DEVNULL, stderr=subprocess.PIPE, text=True)
     if built.returncode != 0:
         return None, f"cargo can't build it ({(built.stderr.strip().splitlines() or ['it says nothing'])[0]})"
-    return os.path.join(PLAIN_RUST, "target", "release", "plain_rust"), None
+    return os.path.join(PLAIN_RUST, target, "release", "plain_rust"), None
 
 
 def plain_rust():
@@ -228,9 +230,9 @@ def plain_rust():
     return build_plain_rust()[0]
 
 
-def need_plain_rust():
+def need_plain_rust(feature=None):
     """The same, and it ends the script with a sentence where it can't be built."""
-    built, why = build_plain_rust()
+    built, why = build_plain_rust(feature)
     if built is None:
         sys.exit(f"bench/plain_rust is not there: {why}")
     return built
