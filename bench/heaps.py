@@ -23,7 +23,7 @@ import tempfile
 from typing import NamedTuple
 
 from plot import bars
-from run import PROGRAM, alloc, chain, need_plain_rust, need_programs, store, timed
+from run import PROGRAM, alloc, chain, head, need_plain_rust, need_programs, row, store, timed
 
 WORKERS = (1, 2, 4)
 COLLECT = '{"op":"collect"}\n'
@@ -344,14 +344,6 @@ def measured(trace, files, plain, turns, workers):
 def share(part, whole):
     """A ratio, where there is enough to make one of."""
     return f"{part / whole:.2f}" if part > 0 and whole > 0.002 else ""
-
-
-def head(columns):
-    print(f"\n| {' | '.join(columns)} |\n| --- |{' ---: |' * (len(columns) - 1)}", flush=True)
-
-
-def row(*cells):
-    print(f"| {' | '.join(cells)} |", flush=True)
 
 
 # What `Measured.ratios` gives.

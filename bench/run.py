@@ -8,12 +8,14 @@ The first prints lines and megabytes a second and peaks of memory. Each trace is
 of the two times can be read. `wc -l` over the same file, in the same run, is the yardstick for the machine. Where cargo can build it, the
 plain Rust program in bench/plain_rust runs over the same file as well, and must write the same report; once more it only reads the lines by
 serde's derive into a struct that borrows, and once by making serde_json's `Value` of each.
---reading             lines of some kinds that change next to nothing: gcaudit with one worker, beside plain Rust that only reads them
+--reading             lines of some kinds that change next to nothing: gcaudit with 1, 2 and 4 workers, beside plain Rust that only reads them
+                      and beside `wc -l`, each of which has one; by the clock, and the time of all processors with it
 --small               a tenth of the sizes
 --turns N             so many turns, of which the least time stands (5)
 --before PROGRAM      another program, as one built before, over the same traces in turn: the last columns say how many times as long it
                       took, and its peak of memory
---plot FILE           a picture of the times beside plain Rust, as SVG; of --reading, beside both ways of plain Rust
+--plot FILE           a picture of the times beside plain Rust, as SVG; of --reading, beside both ways of plain Rust with one worker, and
+                      beside derive with four
 --plot-growth FILE    a picture of the time of each trace beside that of half of it
 --plot-memory FILE    a picture of the peaks of memory
 gcaudit must be built: ./gcaudit examples/first.jsonl builds it. Nothing here is part of the gate.
@@ -272,6 +274,9 @@ SHAPES = [
     (lone_roots, 130_000),
     (service, 100_000),
 ]
+# Of the table of reading.
+WORKERS_THAT_READ = (1, 2, 4)
+BESIDE_READING = ["/ plain Rust by `Value`", "/ by derive", "/ `wc -l`"]
 # The columns of the first table, with their widths; negative where the words are on the left.
 COLUMNS = {
     "trace": -12,
@@ -369,27 +374,72 @@ def time_traces(plain, options):
     draw(whole, options)
 
 
+class Reading(NamedTuple):
+    """Lines of one kind, and the least run over them of gcaudit with each number of workers, and of the programs that only read."""
+    name: str
+    megabytes: float
+    ours: list
+    others: list
+
+    def beside(self, number):
+        """The clock of one number of workers as a part of that of each other program."""
+        return [self.ours[number].seconds / other.seconds for other in self.others]
+
+
+def time_lines(name, lines, path, plain, options):
+    with open(path, "w", encoding="utf-8") as trace:
+        trace.writelines(lines(1_000_000 // options.scale))
+    commands = [[PROGRAM, "--workers", str(workers)] for workers in WORKERS_THAT_READ]
+    commands += [[plain, "--only-read", "--value"], [plain, "--only-read"], ["wc", "-l"]]
+    runs = best(commands, path, options.turns)
+    if any(run.status != 0 for run in runs):
+        sys.exit(f"lines {name}: one was refused: {runs[0].output.decode()}")
+    ours, others = runs[:len(WORKERS_THAT_READ)], runs[len(WORKERS_THAT_READ):]
+    return Reading(name, os.path.getsize(path) / 1e6, ours, others)
+
+
+def head(columns):
+    print(f"\n| {' | '.join(columns)} |\n| --- |{' ---: |' * (len(columns) - 1)}", flush=True)
+
+
+def row(*cells):
+    print(f"| {' | '.join(cells)} |", flush=True)
+
+
+def ratios(values):
+    return [f"{value:.2f}" for value in values]
+
+
+def show_workers(found):
+    """The rows of one kind of lines, one for each number of workers."""
+    for number, (workers, run) in enumerate(zip(WORKERS_THAT_READ, found.ours)):
+        times = (f"{run.seconds:.2f}", f"{run.processors:.2f}", f"{found.megabytes / run.seconds:.0f}")
+        row("the same" if number else found.name, str(workers), *times, *ratios(found.beside(number)))
+
+
+def short_cells(found):
+    """With one worker, and with each other number the clock and the processors' time as parts of those with one."""
+    one, *more = found.ours
+    gains = [", ".join(ratios((run.seconds / one.seconds, run.processors / one.processors))) for run in more]
+    return [found.name, f"{found.megabytes:.0f}", f"{one.seconds:.2f}", f"{found.megabytes / one.seconds:.0f}", *ratios(found.beside(0)), *gains]
+
+
 def time_reading(plain, options):
-    """The table of reading, in Markdown."""
-    columns = ["Lines", "MB", "gcaudit, s", "MB/s", "/ plain Rust by `Value`", "/ by derive", "/ `wc -l`"]
-    print(f"| {' | '.join(columns)} |\n| --- |{' ---: |' * (len(columns) - 1)}", flush=True)
-    count, plotted = 1_000_000 // options.scale, []
-    commands = [[PROGRAM], [plain, "--only-read", "--value"], [plain, "--only-read"], ["wc", "-l"]]
+    """The table of reading with each number of workers, in Markdown, and a shorter one behind it."""
+    head(["Lines", "Workers", "Clock, s", "Processors, s", "MB/s", *BESIDE_READING])
+    readings = []
     with tempfile.TemporaryDirectory() as folder:
         path = os.path.join(folder, "trace.jsonl")
         for name, lines in LINES.items():
-            with open(path, "w", encoding="utf-8") as trace:
-                trace.writelines(lines(count))
-            size = os.path.getsize(path)
-            ours, *others = best(commands, path, options.turns)
-            if any(run.status != 0 for run in (ours, *others)):
-                sys.exit(f"lines {name}: one was refused: {ours.output.decode()}")
-            ratios = [ours.seconds / other.seconds for other in others]
-            speed = f"{ours.seconds:.2f} | {size / 1e6 / ours.seconds:.0f}"
-            print(f"| {name} | {size / 1e6:.0f} | {speed} | {' | '.join(f'{ratio:.2f}' for ratio in ratios)} |", flush=True)
-            plotted.append((name, ratios[:2]))
+            readings.append(time_lines(name, lines, path, plain, options))
+            show_workers(readings[-1])
+    head(["Lines", "MB", "gcaudit, s", "MB/s", *BESIDE_READING, *(f"{workers} workers: clock, processors" for workers in WORKERS_THAT_READ[1:])])
+    for found in readings:
+        row(*short_cells(found))
     if options.plot:
-        bars(options.plot, "Time of reading lines, as a part of that of plain Rust", ("by Value", "by derive"), plotted, mark=1)
+        rows = [(found.name, [*found.beside(0)[:2], found.beside(-1)[1]]) for found in readings]
+        columns = ("by Value", "by derive", f"by derive, with {WORKERS_THAT_READ[-1]} workers")
+        bars(options.plot, "Time of reading lines, as a part of that of plain Rust", columns, rows, mark=1)
 
 
 def read_words():
