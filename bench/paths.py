@@ -23,7 +23,7 @@ import tempfile
 from run import need_commands
 
 TOP = os.path.dirname(os.path.dirname(os.path.abspath(__file__)))
-CRATES = ["heap_base", "graph_meaning", "object_table", "path_cert"]
+CRATES = ["heap_base", "graph_meaning", "object_table", "assert_registry", "path_cert"]
 OBJECTS = 1_000_000
 CHAIN = 10_000
 # what is timed, its name, the objects that are marked, and how many answers there are
@@ -44,7 +44,7 @@ mod marking;
 mod owners;
 
 use crate::heaps::Heap;
-use graph_meaning::Roles;
+use path_cert::OwnerSearch;
 use std::env;
 use std::time::Instant;
 
@@ -82,10 +82,11 @@ fn time_finds(rt: &HostRuntime, heap: &Heap, ownees: u32) -> anyhow::Result<()> 
     let mut took = 0u128;
     let mut all = 0u64;
     if ownees > 0 {
+        let mut search = OwnerSearch::make(rt.alloc(), heap.table.cells())?;
         for owned in heap.owned.as_slice().chunks(ownees as usize) {
             let asked = asking::cells_of(rt.alloc(), &heap.table, owned)?;
             let start = Instant::now(rt)?;
-            let found = asking::found(rt.alloc(), &heap.table, &roles, owned, asked.as_slice())?;
+            let found = asking::found(&mut search, &heap.table, &roles, owned, asked.as_slice())?;
             took = took.wrapping_add(start.elapsed(rt)?.as_nanos());
             all = all.wrapping_add(found);
         }
@@ -342,7 +343,7 @@ fn follow(marking: &mut Marking, table: &ObjectTable, cell: u32) -> Result<(), O
 }
 ''',
     "src/asking.rt": '''//! What is asked of a heap.
-ghost use Rattle.std.specs.Prelude.{length, All, IfOk, IfSome, IsSome};
+ghost use Rattle.std.specs.Prelude.{◌≡◌, length, All, IfOk, IfSome, IsSome};
 ghost use Rattle.graph_meaning.specs.Roles.{AreRolesOf};
 ghost use Rattle.object_table.specs.Placed.{id_in};
 ghost use Rattle.path_cert.specs.Levels.{AreLevelsIn};
@@ -351,7 +352,7 @@ use crate::owners::{cell, roles_of};
 use graph_meaning::Roles;
 use heap_base::OutOfMemory;
 use object_table::ObjectTable;
-use path_cert::{Levels, Start, finds, levels};
+use path_cert::{Levels, OwnerSearch, Start, levels};
 use std::alloc::Global;
 
 /// The levels from the roots, with nothing shut.
@@ -426,14 +427,16 @@ pub fn cells_of(
 
 /// How many of these ownees, the cells of which are asked, their owner finds.
 pub fn found(
-    alloc: Global,
+    search: &mut OwnerSearch,
     table: &ObjectTable,
     roles: &Roles,
     owned: &[(u32, u32)],
     asked: &[u32],
 ) -> Result<u64, OutOfMemory>
+    requires cells { search.old ≡ length table.now.cells }
     requires roles { AreRolesOf table.now.cells (length table.now.table.kinds) roles.now }
     requires asked { All (λ c. IsSome (id_in table.now c)) asked.now }
+    ensures cells { search.new ≡ search.old }
 {
     let Some(pair) = owned.first() else {
         return Ok(0);
@@ -441,12 +444,87 @@ pub fn found(
     let Some(owner) = cell(table, pair.0) else {
         return Ok(0);
     };
-    let found = finds(alloc, table, roles, owner, asked)?;
+    let found = search.finds(table, roles, owner, asked)?;
     Ok(found.iter().filter(|found| **found).count() as u64)
+}
+''',
+    "src/owners.rt": '''//! The roles of a heap by pairs of an owner and an ownee.
+ghost use Rattle.std.specs.Prelude.{length, IfOk, IfSome, IsSome};
+ghost use Rattle.graph_meaning.specs.Roles.{AreRolesOf};
+ghost use Rattle.object_table.specs.Placed.{id_in};
+
+use assert_registry::AssertRegistry;
+use graph_meaning::{Roles, Stop};
+use heap_base::{ObjId, OutOfMemory};
+use object_table::ObjectTable;
+use std::alloc::Global;
+
+/// The cell of the object with this id.
+pub fn cell(table: &ObjectTable, object: u32) -> Option<u32>
+    ensures { IfSome result (λ c. IsSome (id_in table.now c)) }
+{
+    table.cell_of(ObjId::of(object)?)
+}
+
+fn registry_of(alloc: Global, owned: &[(u32, u32)]) -> Result<AssertRegistry, Stop> {
+    let mut registry = AssertRegistry::make(alloc)?;
+    for pair in owned {
+        if let (Some(owner), Some(ownee)) = (ObjId::of(pair.0), ObjId::of(pair.1)) {
+            registry.assert_ownedby(owner, ownee)?;
+        }
+    }
+    Ok(registry)
+}
+
+/// The roles of a heap of these pairs, and `None` where an object is to own itself.
+pub fn roles_of(
+    alloc: Global,
+    table: &ObjectTable,
+    owned: &[(u32, u32)],
+) -> Result<Option<Roles>, OutOfMemory>
+    ensures { IfOk result (λ o. IfSome o (λ r. AreRolesOf table.now.cells (length table.now.table.kinds) r)) }
+{
+    let Ok(mut registry) = registry_of(alloc, owned) else {
+        return Ok(None);
+    };
+    roles_by(&mut registry, table)
+}
+
+fn roles_by(
+    registry: &mut AssertRegistry,
+    table: &ObjectTable,
+) -> Result<Option<Roles>, OutOfMemory>
+    ensures { IfOk result (λ o. IfSome o (λ r. AreRolesOf table.now.cells (length table.now.table.kinds) r)) }
+{
+    registry.keep(table);
+    if registry.kind_room() > table.kinds() {
+        return Ok(None);
+    }
+    let roles = registry.roles(table)?;
+    Ok(Some(roles))
 }
 ''',
     "specs/Lib.antt": "",
     "proofs/Lib.antt": "",
+    "proofs/owners/roles_by/Answers.antt": '''use Rattle.std.proofs.Common.{◌≡◌, ◌≤◌, length, ap, arith}
+use Rattle.assert_registry.specs.Assertions.{Assertions}
+use Rattle.assert_registry.proofs.Kept.{SpeakOfTable-live_part, seen_from_room}
+use Rattle.paths_cost.proofs.owners.roles_by.Goals as goal
+
+pub roles-requires : goal.roles-requires
+roles-requires c =
+    let t = c.args.table.now.table in
+    let a = c.args.registry.now in
+    let same : length c.keep.new.self.limits ≡ length a.limits = ap (λ (b : Assertions). length b.limits) c.keep.ensures in
+    let few : length a.limits ≤ length t.kinds = omega (arith, same, c.kind_room.ensures.room, c.kinds.ensures.count, c.if-kind_room-kinds.false) in
+    rw c.keep.ensures (SpeakOfTable-live_part t a (seen_from_room a.limits t.kinds few))
+''',
+    "proofs/time_finds/Invariants.antt": '''use Rattle.std.proofs.Common.{◌≡◌, length}
+use Rattle.paths_cost.proofs.time_finds.Given as goal
+
+abbrev pub invariant-loop-owned : goal.invariant-loop-owned
+invariant-loop-owned l = l.search ≡ length l.heap.table.cells
+''',
     "proofs/asking/levels_of/Answers.antt": '''use Rattle.paths_cost.proofs.asking.levels_of.Goals as goal
 
 pub returns : goal.returns
@@ -464,25 +542,16 @@ invariant-loop-pair l = All (λ c. IsSome (id_in l.table c)) l.cells.items
 
 
 def lay_out(folder):
-    """The program as a crate of a small repository, beside the crates that it stands on. It makes roles as the tests of path_cert do."""
+    """The program as a crate of a small repository, beside the crates that it stands on."""
     shutil.copy(os.path.join(TOP, "HANDLES"), folder)
     for crate in CRATES:
         shutil.copytree(os.path.join(TOP, "crates", crate), os.path.join(folder, "crates", crate), ignore=shutil.ignore_patterns("out"))
     with open(os.path.join(TOP, "crates.txt")) as crates:
         lines = [line for line in crates if line.split(" ")[0].split(":")[0] in CRATES]
     with open(os.path.join(folder, "crates.txt"), "w") as crates:
-        crates.writelines(lines + ["paths_cost: path_cert object_table graph_meaning heap_base anyhow\n"])
+        crates.writelines(lines + ["paths_cost: path_cert assert_registry object_table graph_meaning heap_base anyhow\n"])
     program = os.path.join(folder, "crates", "paths_cost")
-    texts = dict(PROGRAM)
-    path_cert = os.path.join(TOP, "crates", "path_cert")
-    with open(os.path.join(path_cert, "src", "tests", "owners.rt")) as file:
-        texts["src/owners.rt"] = file.read()
-    proofs = os.path.join(path_cert, "proofs", "tests", "owners")
-    for function in os.listdir(proofs):
-        for name in os.listdir(os.path.join(proofs, function)):
-            with open(os.path.join(proofs, function, name)) as file:
-                texts[f"proofs/owners/{function}/{name}"] = file.read().replace("path_cert.proofs.tests.owners", "paths_cost.proofs.owners")
-    for name, text in texts.items():
+    for name, text in PROGRAM.items():
         path = os.path.join(program, name)
         os.makedirs(os.path.dirname(path), exist_ok=True)
         with open(path, "w") as file:
