@@ -3,10 +3,10 @@ ghost use Rattle.serde_json.specs.Find.{get, as_bool, as_u64, as_number};
 ghost use Rattle.trace_reader.specs.Objects.{object_data, value_data};
 ghost use Rattle.trace_reader.specs.Meaning.{Gives, field_text, good_value, needed_field, optional_field, id_value, count_value, thread_value, target_value, name_value};
 
+use crate::names::RecentNames;
 use crate::object::{FieldValue, Object};
 use graph_meaning::{FieldName, Refusal, Stop};
 use heap_base::{Name, ObjId, OutOfMemory, ThreadNo};
-use std::alloc::Global;
 
 /// An id, in a field that must be there.
 pub fn id_field(object: Object<'_>, field: FieldName) -> Result<ObjId, Stop>
@@ -37,10 +37,14 @@ pub fn bool_field(object: Object<'_>, field: FieldName) -> Result<bool, Stop>
 }
 
 /// A name, in a field that must be there.
-pub fn name_field(alloc: Global, object: Object<'_>, field: FieldName) -> Result<Name, Stop>
+pub fn name_field(
+    names: &mut RecentNames,
+    object: Object<'_>,
+    field: FieldName,
+) -> Result<Name, Stop>
     ensures { Gives result (needed_field field name_value (object_data object.entry)) }
 {
-    good_field(field, name_in(alloc, needed_field(object, field)?)?)
+    good_field(field, name_in(names, needed_field(object, field)?)?)
 }
 
 /// A number of slots, 0 where the field is missing.
@@ -135,11 +139,11 @@ fn target_in(value: FieldValue<'_>) -> Option<Option<ObjId>>
     }
 }
 
-fn name_in(alloc: Global, value: FieldValue<'_>) -> Result<Option<Name>, OutOfMemory>
+fn name_in(names: &mut RecentNames, value: FieldValue<'_>) -> Result<Option<Name>, OutOfMemory>
     ensures { IfOk result (λ name. name ≡ name_value (value_data value.entry)) }
 {
     match value.as_str() {
         None => Ok(None),
-        Some(text) => Name::of(alloc, text),
+        Some(text) => names.name_of(text),
     }
 }

@@ -8,6 +8,7 @@ mod field;
 mod fields;
 mod key;
 mod line;
+mod names;
 mod object;
 mod operation;
 mod plain;

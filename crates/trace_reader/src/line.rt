@@ -5,6 +5,7 @@ ghost use Rattle.trace_reader.specs.Meaning.{Gives, event_of_json, item_of_line,
 ghost use Rattle.serde_json.specs.Read.{read};
 
 use crate::fields::Fields;
+use crate::names::RecentNames;
 use crate::object::Object;
 use crate::operation::event_of_object;
 use crate::plain::read_plain;
@@ -16,7 +17,7 @@ use std::alloc::Global;
 /// Reads lines as operations, in memory that it keeps from line to line.
 #[derive(Drop)]
 pub struct LineReader {
-    alloc: Global,
+    names: RecentNames,
     scratch: Scratch,
 }
 
@@ -24,7 +25,7 @@ impl LineReader {
     /// A reader that has read nothing. It takes memory only where a line asks for it.
     pub fn make(alloc: Global) -> LineReader {
         LineReader {
-            alloc,
+            names: RecentNames::new(alloc),
             scratch: Scratch::new(alloc),
         }
     }
@@ -40,7 +41,7 @@ impl LineReader {
         if is_blank_line(line) {
             return Ok(None);
         }
-        let event = event_of_line(self.alloc, line, &mut self.scratch)?;
+        let event = event_of_line(&mut self.names, line, &mut self.scratch)?;
         Ok(Some(event))
     }
 }
@@ -61,35 +62,35 @@ fn is_blank_line(line: &[u8]) -> bool
 
 // The operation of a line that is one JSON text (RFC 8259) in UTF-8.
 #[tactic(auto, using(crate::proofs::Json::json_of_text, crate::proofs::Json::json_of_no_text))]
-fn event_of_line(alloc: Global, line: &[u8], scratch: &mut Scratch) -> Result<Event, Stop>
+fn event_of_line(names: &mut RecentNames, line: &[u8], scratch: &mut Scratch) -> Result<Event, Stop>
     ensures { Gives result (event_of_json (json_of line.now)) }
 {
     match str::from_utf8(line) {
-        Ok(text) => event_of_text(alloc, text, scratch),
+        Ok(text) => event_of_text(names, text, scratch),
         Err(_) => Err(Stop::Refused(Refusal::NotJson)),
     }
 }
 
 // Most lines are plain objects, which are read without memory of their own; serde_json reads all others.
-fn event_of_text(alloc: Global, text: &str, scratch: &mut Scratch) -> Result<Event, Stop>
+fn event_of_text(names: &mut RecentNames, text: &str, scratch: &mut Scratch) -> Result<Event, Stop>
     ensures { Gives result (event_of_json (read text.now)) }
 {
     let mut fields = Fields::new();
     let plain = read_plain(text, scratch, &mut fields)?;
     if plain {
-        event_of_object(alloc, Object::Plain(&fields))
+        event_of_object(names, Object::Plain(&fields))
     } else {
-        event_of_any(alloc, text)
+        event_of_any(names, text)
     }
 }
 
 // Never inlined, since what serde_json keeps on the stack would then be touched for every line.
 #[inline(never)]
-fn event_of_any(alloc: Global, text: &str) -> Result<Event, Stop>
+fn event_of_any(names: &mut RecentNames, text: &str) -> Result<Event, Stop>
     ensures { Gives result (event_of_json (read text.now)) }
 {
-    match Value::from_str(alloc, text) {
-        Ok(value) => event_of_object(alloc, Object::Any(&value)),
+    match Value::from_str(names.alloc, text) {
+        Ok(value) => event_of_object(names, Object::Any(&value)),
         Err(error) if error.is_memory() => Err(Stop::OutOfMemory),
         Err(_) => Err(Stop::Refused(Refusal::NotJson)),
     }

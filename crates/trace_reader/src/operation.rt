@@ -5,13 +5,13 @@ use crate::field::{
     bool_field, count_field, good_field, id_field, name_field, needed_field, slots_field,
     target_field, thread_field,
 };
+use crate::names::RecentNames;
 use crate::object::Object;
 use graph_meaning::{Event, FieldName, Refusal, Stop};
-use std::alloc::Global;
 
 /// The operation that a value is: an object whose field `op` names it.
 #[tactic(auto, unfolding(crate::specs::Meaning::event_in))]
-pub fn event_of_object(alloc: Global, object: Object<'_>) -> Result<Event, Stop>
+pub fn event_of_object(names: &mut RecentNames, object: Object<'_>) -> Result<Event, Stop>
     ensures { Gives result (event_in (object_data object.entry)) }
 {
     if !object.is_object() {
@@ -19,23 +19,23 @@ pub fn event_of_object(alloc: Global, object: Object<'_>) -> Result<Event, Stop>
     }
     let op = needed_field(object, FieldName::OpField)?;
     let op = good_field(FieldName::OpField, op.as_str())?;
-    operation_named(alloc, op, object)
+    operation_named(names, op, object)
 }
 
 // The operation of this name. The fields of each are tested in the order in which they are read here.
 #[tactic(auto, unfolding(crate::specs::Meaning::operation))]
-fn operation_named(alloc: Global, op: &str, object: Object<'_>) -> Result<Event, Stop>
+fn operation_named(names: &mut RecentNames, op: &str, object: Object<'_>) -> Result<Event, Stop>
     ensures { Gives result (operation op.now (object_data object.entry)) }
 {
     match op {
-        "alloc" => alloc_event(alloc, object),
+        "alloc" => alloc_event(names, object),
         "store" => store_event(object),
         "set-weak" => set_weak_event(object),
-        "root" => root_event(alloc, object),
+        "root" => root_event(names, object),
         "assert-dead" => dead_event(object),
         "start-region" => start_event(object),
         "assert-alldead" => all_dead_event(object),
-        "assert-instances" => instances_event(alloc, object),
+        "assert-instances" => instances_event(names, object),
         "assert-unshared" => unshared_event(object),
         "assert-ownedby" => owned_event(object),
         "collect" => Ok(Event::Collect),
@@ -44,11 +44,11 @@ fn operation_named(alloc: Global, op: &str, object: Object<'_>) -> Result<Event,
 }
 
 #[tactic(auto, unfolding(crate::specs::Meaning::alloc_in))]
-fn alloc_event(alloc: Global, object: Object<'_>) -> Result<Event, Stop>
+fn alloc_event(names: &mut RecentNames, object: Object<'_>) -> Result<Event, Stop>
     ensures { Gives result (alloc_in (object_data object.entry)) }
 {
     let id = id_field(object, FieldName::IdField)?;
-    let kind = name_field(alloc, object, FieldName::TypeField)?;
+    let kind = name_field(names, object, FieldName::TypeField)?;
     let slots = slots_field(object)?;
     let thread = thread_field(object)?;
     Ok(Event::Alloc {
@@ -80,10 +80,10 @@ fn set_weak_event(object: Object<'_>) -> Result<Event, Stop>
 }
 
 #[tactic(auto, unfolding(crate::specs::Meaning::root_in))]
-fn root_event(alloc: Global, object: Object<'_>) -> Result<Event, Stop>
+fn root_event(names: &mut RecentNames, object: Object<'_>) -> Result<Event, Stop>
     ensures { Gives result (root_in (object_data object.entry)) }
 {
-    let name = name_field(alloc, object, FieldName::NameField)?;
+    let name = name_field(names, object, FieldName::NameField)?;
     let to = target_field(object, FieldName::ToField)?;
     Ok(Event::Root { name, to })
 }
@@ -113,10 +113,10 @@ fn all_dead_event(object: Object<'_>) -> Result<Event, Stop>
 }
 
 #[tactic(auto, unfolding(crate::specs::Meaning::instances_in))]
-fn instances_event(alloc: Global, object: Object<'_>) -> Result<Event, Stop>
+fn instances_event(names: &mut RecentNames, object: Object<'_>) -> Result<Event, Stop>
     ensures { Gives result (instances_in (object_data object.entry)) }
 {
-    let kind = name_field(alloc, object, FieldName::TypeField)?;
+    let kind = name_field(names, object, FieldName::TypeField)?;
     let limit = count_field(object, FieldName::LimitField)?;
     Ok(Event::AssertInstances { kind, limit })
 }
