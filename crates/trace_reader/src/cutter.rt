@@ -2,9 +2,11 @@ ghost use Rattle.std.specs.Prelude.{◌≡◌, ◌≤◌, ℕ, List, length, tak
 ghost use Rattle.trace_reader.specs.Cuts.{HasNoNewline};
 ghost use Rattle.trace_reader.specs.Cutter.{fresh_cutter, StepsOn};
 ghost use Rattle.trace_reader.specs.Reads.{ReadState, ReadsOn, Settles};
+ghost use Rattle.trace_reader.specs.declared.reader.TheConstants.{MOST_AHEAD};
 
 use crate::CutError;
 use crate::cut::{Cut, cut_of};
+use crate::reader::MOST_AHEAD;
 use crate::window::Window;
 use heap_base::{Failed, OutOfMemory, Source};
 use std::alloc::Global;
@@ -43,7 +45,15 @@ impl LineCutter {
     pub fn make(alloc: Global, limit: u64) -> Result<LineCutter, OutOfMemory>
         ensures { IfOk result (λ cutter. cutter ≡ fresh_cutter limit) }
     {
-        let window = Window::make(alloc)?;
+        LineCutter::with_ahead(alloc, limit, 0)
+    }
+
+    /// A cutter for a trace of at most `limit` bytes, whose reads may bring so many bytes more than those of others.
+    pub fn with_ahead(alloc: Global, limit: u64, ahead: usize) -> Result<LineCutter, OutOfMemory>
+        requires { ahead ≤ MOST_AHEAD }
+        ensures { IfOk result (λ cutter. cutter ≡ fresh_cutter limit) }
+    {
+        let window = Window::make(alloc, ahead)?;
         Ok(LineCutter {
             window,
             piece_length: 0,
@@ -73,6 +83,13 @@ impl LineCutter {
         ensures { result.now ≡ self.now.line }
     {
         &self.window.bytes()[..self.line_length]
+    }
+
+    /// The bytes behind that line, as far as they were read.
+    pub fn behind(&self) -> &[u8]
+        ensures { result.now ≡ self.now.pending }
+    {
+        &self.window.bytes()[self.piece_length..]
     }
 
     // The step of a cutter that stands at no refusal.

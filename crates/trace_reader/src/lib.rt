@@ -12,9 +12,11 @@ mod names;
 mod object;
 mod operation;
 mod plain;
+mod reader;
 mod window;
 
 pub use cutter::LineCutter;
 pub use error::CutError;
 pub use field::spelling_of;
 pub use line::{LineReader, event_of};
+pub use reader::{EventReader, MOST_AHEAD};

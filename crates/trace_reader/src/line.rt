@@ -1,4 +1,4 @@
-ghost use Rattle.std.specs.Prelude.{◌≡◌};
+ghost use Rattle.std.specs.Prelude.{◌≡◌, ⊤};
 ghost use Rattle.std.specs.List.{list_all};
 ghost use Rattle.trace_reader.specs.Cutter.{Tells};
 ghost use Rattle.trace_reader.specs.Meaning.{Gives, event_of_json, item_of_line, json_of, is_blank};
@@ -9,6 +9,7 @@ use crate::names::RecentNames;
 use crate::object::Object;
 use crate::operation::event_of_object;
 use crate::plain::read_plain;
+use crate::reader::EventReader;
 use graph_meaning::{Event, Refusal, Stop};
 use json::Scratch;
 use serde_json::Value;
@@ -43,6 +44,20 @@ impl LineReader {
         }
         let event = event_of_line(&mut self.names, line, &mut self.scratch)?;
         Ok(Some(event))
+    }
+}
+
+impl EventReader for LineReader {
+    ghost ready = { λ _. ⊤ };
+
+    fn event_of(&mut self, line: &[u8]) -> Result<Option<Event>, Stop> {
+        LineReader::event_of(self, line)
+    }
+
+    fn look_ahead(&mut self, _behind: &[u8]) {}
+
+    fn ahead(&self) -> usize {
+        0
     }
 }
 

@@ -1,7 +1,9 @@
 ghost use Rattle.std.specs.Prelude.{◌≡◌, ◌+◌, ◌-◌, ◌≤◌, ℕ, [], length, drop, slice_range, IfOk};
 ghost use Rattle.heap_base.specs.Causes.{HasCause};
+ghost use Rattle.trace_reader.specs.declared.reader.TheConstants.{MOST_AHEAD};
 ghost use Rattle.trace_reader.specs.Windows.{ReadsInto};
 
+use crate::reader::MOST_AHEAD;
 use heap_base::{Failed, LONGEST_LINE, OutOfMemory, Source};
 use std::alloc::Global;
 use std::marker::Model;
@@ -10,9 +12,9 @@ use std::marker::Model;
 const LEAST_READ: usize = 64;
 
 // Room for the longest front of a line that is held, and for a read of more than as much behind it.
-const CAPACITY: usize = 2 * LONGEST_LINE + LEAST_READ;
+const LEAST_CAPACITY: usize = 2 * LONGEST_LINE + LEAST_READ;
 
-/// The bytes that were read and are still held, in a buffer of fixed size. Contracts see the list of them.
+/// The bytes that were read and are still held, in a buffer whose size stays. Contracts see the list of them.
 #[derive(Drop)]
 pub struct Window {
     buffer: Vec<u8>,
@@ -22,21 +24,22 @@ pub struct Window {
 
 impl Model for Window {
     ghost use Rattle.std.specs.Prelude.{◌≡◌, ◌≤◌, List, ℕ, vec_len, slice_range};
-    ghost use Rattle.trace_reader.specs.declared.window.TheConstants.{CAPACITY};
+    ghost use Rattle.trace_reader.specs.declared.window.TheConstants.{LEAST_CAPACITY};
 
     ghost Value = { List ℕ };
 
     ghost view = { λ w. slice_range w.buffer.items w.start w.end };
 
-    ghost invariant = { λ w. (w.start ≤ w.end) × (w.end ≤ vec_len w.buffer) × (vec_len w.buffer ≡ CAPACITY) };
+    ghost invariant = { λ w. (w.start ≤ w.end) × (w.end ≤ vec_len w.buffer) × (LEAST_CAPACITY ≤ vec_len w.buffer) };
 }
 
 impl Window {
-    /// A window that holds nothing.
-    pub fn make(alloc: Global) -> Result<Window, OutOfMemory>
+    /// A window that holds nothing, with so much more room than the longest line needs.
+    pub fn make(alloc: Global, ahead: usize) -> Result<Window, OutOfMemory>
+        requires { ahead ≤ MOST_AHEAD }
         ensures { IfOk result (λ window. window ≡ []) }
     {
-        let buffer = vec![in alloc; 0u8; CAPACITY]?;
+        let buffer = vec![in alloc; 0u8; LEAST_CAPACITY + ahead]?;
         Ok(Window {
             buffer,
             start: 0,
