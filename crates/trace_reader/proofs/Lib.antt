@@ -5,4 +5,5 @@ pub mod Newlines
 pub mod ObjectLemmas
 pub mod Pieces
 pub mod Ranges
+pub mod Skips
 pub mod Steps

@@ -17,23 +17,29 @@ behind-member : (k : List ℕ) (j : json.Json) (d : Data) (found : Members) → 
 behind-member k j d found e None = refl
 behind-member k j d found e (Some p) = rw e
 
+abbrev pick : {A : Type 0} → A → Option A → A
+pick d None = d
+pick d (Some a) = a
+
+both : {A : Type 0} (x : Option A) (r s : List Token) (a : A) → option_map {U = A × List Token} (λ y. (y, r)) x ≡ Some (a, s) → (x ≡ Some a) × (r ≡ s)
+both None r s a e = absurd (cc)
+both (Some y) r s a e = let same = ap (pick (y, r)) e in (ap (λ p. Some p.0) same, ap (λ p. p.1) same)
+
+converted_some : {A B : Type 0} (f : A → Option B) (o : Option (A × List Token)) (b : B) (r : List Token) → converted f o ≡ Some (b, r) → (a : A) × (o ≡ Some (a, r)) × (f a ≡ Some b)
+converted_some f None b r e = absurd (cc)
+converted_some f (Some p) b r e = let is = both (f p.0) p.1 r b e in (p.0, ap (λ s. Some (p.0, s)) is.1, is.0)
+
 module _ (p : Parse json.Json) (found : Members) where
-  pub member_passed : (n : ℕ) (k : List ℕ) (ts s r : List Token) (j : json.Json) (d : Data) → 0 < n → read_key ts ≡ Some (Some k, s) → p s ≡ Some (j, r) → of_json j ≡ Some d
+  pub member_passed : (n : ℕ) (k : List ℕ) (ts s r : List Token) (d : Data) → 0 < n → read_key ts ≡ Some (Some k, s) → converted of_json (p s) ≡ Some (d, r)
       → behind found (members p n ts) ≡ behind (put k d found) (members p (n - 1) r)
-  member_passed n k ts s r j d some key is e = ap (behind found) (members_more p n k ts s r j some key is) ∙ behind-member k j d found e _
+  member_passed n k ts s r d some key e =
+      let j = converted_some of_json (p s) d r e in
+      ap (behind found) (members_more p n k ts s r j.0 some key j.1) ∙ behind-member k j.0 d found j.2 _
 
   pub members_passed : (n : ℕ) (ts r : List Token) → length ts ≤ n → read_key ts ≡ Some (None, r) → behind found (members p n ts) ≡ Some (found, r)
   members_passed n ts r enough e = ap (behind found) (members_end p n ts r enough e)
 
 -- ---- the whole text
-
-abbrev pick : {A : Type 0} → A → Option A → A
-pick d None = d
-pick d (Some a) = a
-
-both : (x : Option Members) (r s : List Token) (found : Members) → option_map {U = Members × List Token} (λ y. (y, r)) x ≡ Some (found, s) → (x ≡ Some found) × (r ≡ s)
-both None r s found e = absurd (cc)
-both (Some y) r s found e = let same = ap (pick (y, r)) e in (ap (λ p. Some p.0) same, ap (λ p. p.1) same)
 
 whole_object : (o : Option (json.Members × List Token)) (found : Members) → behind no_members o ≡ Some (found, [])
     → option_and_then of_json (option_and_then (λ p. if_last p.0 p.1) (parse_map json.object o)) ≡ Some (object found)

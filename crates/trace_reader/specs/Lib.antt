@@ -4,4 +4,5 @@ pub mod Items
 pub mod Meaning
 pub mod Objects
 pub mod Reads
+pub mod Skips
 pub mod Windows

@@ -1,8 +1,6 @@
 ghost use Rattle.std.specs.Prelude.{◌≡◌};
-ghost use Rattle.serde_json.specs.Data.{Members, put};
-ghost use Rattle.trace_reader.specs.Objects.{value_data, no_fields, value_of, with_value, HasFieldsOf};
+ghost use Rattle.trace_reader.specs.Objects.{no_fields, value_of, with_value};
 
-use crate::key::field_spelled;
 use crate::object::FieldValue;
 use graph_meaning::FieldName;
 
@@ -68,20 +66,9 @@ impl<'a> Fields<'a> {
         }
     }
 
-    /// Takes a member more, behind those that the object had. Of a key that stands twice the later value counts, and
-    /// a key that names no field says nothing.
+    /// Gives a field this value, in place of the one that it had.
     #[inline(always)]
-    pub fn put(&mut self, key: &str, value: FieldValue<'a>)
-        ensures { (members : Members) → HasFieldsOf self.old members → HasFieldsOf self.new (put key.now (value_data value.entry) members) }
-    {
-        match field_spelled(key) {
-            Some(field) => self.set(field, value),
-            None => {}
-        }
-    }
-
-    #[inline(always)]
-    fn set(&mut self, field: FieldName, value: FieldValue<'a>)
+    pub fn set(&mut self, field: FieldName, value: FieldValue<'a>)
         ensures { self.new ≡ with_value self.old field value.entry }
     {
         match field {

@@ -13,6 +13,7 @@ mod object;
 mod operation;
 mod plain;
 mod reader;
+mod skip;
 mod window;
 
 pub use cutter::LineCutter;

@@ -1,17 +1,20 @@
 ghost use Rattle.std.specs.Prelude.{◌≡◌, ◌<◌, ℕ, false, IsTrue, Some, IfOk, IfSome, OnSome, length};
-ghost use Rattle.json.specs.Json.{Json, members, value};
-ghost use Rattle.serde_json.specs.Data.{Members, no_members, object, unsigned};
+ghost use Rattle.json.specs.Json.{members, value};
+ghost use Rattle.serde_json.specs.Data.{Data, Members, no_members, object, put, unsigned};
 ghost use Rattle.serde_json.specs.Read.{converted, number_from, number_of, of_json, of_members, read};
 ghost use Rattle.trace_reader.specs.Objects.{no_fields, value_data, HasFieldsOf};
+ghost use Rattle.trace_reader.specs.Skips.{member_depth};
 
 use crate::fields::Fields;
+use crate::key::field_spelled;
 use crate::object::FieldValue;
+use crate::skip::skip_value;
 use fast_float::Numeral;
 use heap_base::OutOfMemory;
 use json::{Reader, Scratch, Token};
 
-/// Whether a text is a plain object, each of whose members is null, true, false, a whole number or a text. If it is
-/// one, its fields are found; if not, some of them may be.
+/// Whether a text is a plain object: each member whose key names a field is null, true, false, a whole number or a
+/// text. If it is one, its fields are found; if not, some of them may be.
 pub fn read_plain<'a>(
     text: &'a str,
     scratch: &'a mut Scratch,
@@ -32,7 +35,7 @@ pub fn read_plain<'a>(
 // Reads on to the end of the object that was begun, if it is plain.
 fn read_members<'a>(reader: &mut Reader<'a>, fields: &mut Fields<'a>) -> bool
     requires { fields.old ≡ no_fields }
-    ensures { IsTrue result → (found : Members) × HasFieldsOf fields.new found × ((depth : ℕ) → converted (λ all. of_members all no_members) (members (value depth) (length reader.old) reader.old) ≡ Some (found, reader.new)) }
+    ensures { IsTrue result → (found : Members) × HasFieldsOf fields.new found × (converted (λ all. of_members all no_members) (members (value member_depth) (length reader.old) reader.old) ≡ Some (found, reader.new)) }
 {
     'members: loop {
         let Ok(key) = reader.next_key() else {
@@ -41,16 +44,32 @@ fn read_members<'a>(reader: &mut Reader<'a>, fields: &mut Fields<'a>) -> bool
         let Some(key) = key else {
             return true;
         };
-        let Some(value) = plain_value(reader) else {
+        if !read_member(key, reader, fields) {
             return false;
-        };
-        fields.put(key, value);
+        }
     }
+}
+
+// Reads the value of a member, which counts where its key names a field, and only has to be one that serde_json takes
+// where it names none. Of a key that stands twice the later value counts.
+#[inline(always)]
+fn read_member<'a>(key: &str, reader: &mut Reader<'a>, fields: &mut Fields<'a>) -> bool
+    ensures value { IsTrue result → (d : Data) × (converted of_json (value member_depth reader.old) ≡ Some (d, reader.new)) × ((members : Members) → HasFieldsOf fields.old members → HasFieldsOf fields.new (put key.now d members)) }
+    ensures shorter { IsTrue result → length reader.new < length reader.old }
+{
+    let Some(field) = field_spelled(key) else {
+        return skip_value(reader);
+    };
+    let Some(value) = plain_value(reader) else {
+        return false;
+    };
+    fields.set(field, value);
+    true
 }
 
 #[inline(always)]
 fn plain_value<'a>(reader: &mut Reader<'a>) -> Option<FieldValue<'a>>
-    ensures value { IfSome result (λ v. (json : Json) × (of_json json ≡ Some (value_data v)) × ((depth : ℕ) → value depth reader.old ≡ Some (json, reader.new))) }
+    ensures value { IfSome result (λ v. (depth : ℕ) → converted of_json (value depth reader.old) ≡ Some (value_data v, reader.new)) }
     ensures shorter { OnSome result (length reader.new < length reader.old) }
 {
     match reader.next()? {

@@ -11,4 +11,4 @@ returns-then-read_members c = λ last.
     let given = c.read_members.ensures c.if-read_members.true in
     let begun : tokens text ≡ Token.begin_object ∷ rest = grind arith in
     let ended : c.read_members.new.reader ≡ [] = grind arith in
-    (given.0, object_read text rest given.0 begun (given.2 126 ∙ ap (λ ts. Some (given.0, ts)) ended), given.1)
+    (given.0, object_read text rest given.0 begun (given.2 ∙ ap (λ ts. Some (given.0, ts)) ended), given.1)
