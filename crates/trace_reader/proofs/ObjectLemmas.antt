@@ -25,7 +25,7 @@ both : {A : Type 0} (x : Option A) (r s : List Token) (a : A) → option_map {U 
 both None r s a e = absurd (cc)
 both (Some y) r s a e = let same = ap (pick (y, r)) e in (ap (λ p. Some p.0) same, ap (λ p. p.1) same)
 
-converted_some : {A B : Type 0} (f : A → Option B) (o : Option (A × List Token)) (b : B) (r : List Token) → converted f o ≡ Some (b, r) → (a : A) × (o ≡ Some (a, r)) × (f a ≡ Some b)
+pub converted_some : {A B : Type 0} (f : A → Option B) (o : Option (A × List Token)) (b : B) (r : List Token) → converted f o ≡ Some (b, r) → (a : A) × (o ≡ Some (a, r)) × (f a ≡ Some b)
 converted_some f None b r e = absurd (cc)
 converted_some f (Some p) b r e = let is = both (f p.0) p.1 r b e in (p.0, ap (λ s. Some (p.0, s)) is.1, is.0)
 

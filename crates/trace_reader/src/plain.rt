@@ -1,14 +1,14 @@
 ghost use Rattle.std.specs.Prelude.{◌≡◌, ◌<◌, ℕ, false, IsTrue, Some, IfOk, IfSome, OnSome, length};
 ghost use Rattle.json.specs.Json.{members, value};
-ghost use Rattle.serde_json.specs.Data.{Data, Members, no_members, object, put, unsigned};
+ghost use Rattle.serde_json.specs.Data.{Data, Members, no_members, object, unsigned};
 ghost use Rattle.serde_json.specs.Read.{converted, number_from, number_of, of_json, of_members, read};
 ghost use Rattle.trace_reader.specs.Objects.{no_fields, value_data, HasFieldsOf};
-ghost use Rattle.trace_reader.specs.Skips.{member_depth};
+ghost use Rattle.trace_reader.specs.Skips.{member_depth, IsMemberValue, TakesMember};
 
 use crate::fields::Fields;
 use crate::key::field_spelled;
 use crate::object::FieldValue;
-use crate::skip::skip_value;
+use crate::skip::{MEMBER_DEPTH, skip_value};
 use fast_float::Numeral;
 use heap_base::OutOfMemory;
 use json::{Reader, Scratch, Token};
@@ -54,11 +54,11 @@ fn read_members<'a>(reader: &mut Reader<'a>, fields: &mut Fields<'a>) -> bool
 // where it names none. Of a key that stands twice the later value counts.
 #[inline(always)]
 fn read_member<'a>(key: &str, reader: &mut Reader<'a>, fields: &mut Fields<'a>) -> bool
-    ensures value { IsTrue result → (d : Data) × (converted of_json (value member_depth reader.old) ≡ Some (d, reader.new)) × ((members : Members) → HasFieldsOf fields.old members → HasFieldsOf fields.new (put key.now d members)) }
+    ensures value { IsTrue result → (d : Data) × IsMemberValue reader.old d reader.new × TakesMember fields.old fields.new key.now d }
     ensures shorter { IsTrue result → length reader.new < length reader.old }
 {
     let Some(field) = field_spelled(key) else {
-        return skip_value(reader);
+        return skip_value(reader, MEMBER_DEPTH);
     };
     let Some(value) = plain_value(reader) else {
         return false;

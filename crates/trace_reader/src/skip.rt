@@ -1,14 +1,19 @@
 ghost use Rattle.std.specs.Prelude.{◌≡◌, ◌<◌, ◌==◌, IsTrue, Some, false, is_some, length, slice_index, true};
 ghost use Rattle.serde_json.specs.Read.{float_of, number_from, number_of};
-ghost use Rattle.trace_reader.specs.Skips.{after_value, member_depth};
+ghost use Rattle.trace_reader.specs.Skips.{after_items, after_members, after_value};
 
 use fast_float::Numeral;
 use json::{Reader, Token};
 
-/// Passes over the value that comes next, if serde_json takes it. If not, the reader is of no more use.
+/// How deep arrays and objects may nest in a member's value: serde_json lets 127 of them nest, and one is the object around it.
+pub const MEMBER_DEPTH: usize = 126;
+
+/// Passes over the value that comes next, without keeping anything of it. False where serde_json may refuse the value: the
+/// reader is then of no more use.
+#[cycle(skip)]
 #[inline(always)]
-pub fn skip_value(reader: &mut Reader<'_>) -> bool
-    ensures value { IsTrue result → after_value member_depth reader.old ≡ Some reader.new }
+pub fn skip_value(reader: &mut Reader<'_>, depth: usize) -> bool
+    ensures value { IsTrue result → after_value depth reader.old ≡ Some reader.new }
     ensures shorter { IsTrue result → length reader.new < length reader.old }
 {
     let Some(token) = reader.next() else {
@@ -17,7 +22,44 @@ pub fn skip_value(reader: &mut Reader<'_>) -> bool
     match token {
         Token::Null | Token::Bool(_) | Token::String(_) => true,
         Token::Number(text) => is_number(text),
-        _ => false,
+        Token::BeginArray => depth > 0 && skip_items(reader, depth - 1),
+        Token::BeginObject => depth > 0 && skip_members(reader, depth - 1),
+        Token::EndArray | Token::EndObject | Token::Key(_) | Token::Bad => false,
+    }
+}
+
+// Passes over the items that are left of an array.
+#[cycle(skip)]
+#[inline(never)]
+fn skip_items(reader: &mut Reader<'_>, depth: usize) -> bool
+    ensures value { IsTrue result → after_items depth reader.old ≡ Some reader.new }
+    ensures shorter { IsTrue result → length reader.new < length reader.old }
+{
+    'items: while !reader.take_end_array() {
+        if !skip_value(reader, depth) {
+            return false;
+        }
+    }
+    true
+}
+
+// Passes over the members that are left of an object.
+#[cycle(skip)]
+#[inline(never)]
+fn skip_members(reader: &mut Reader<'_>, depth: usize) -> bool
+    ensures value { IsTrue result → after_members depth reader.old ≡ Some reader.new }
+    ensures shorter { IsTrue result → length reader.new < length reader.old }
+{
+    'members: loop {
+        let Ok(key) = reader.next_key() else {
+            return false;
+        };
+        let Some(_key) = key else {
+            return true;
+        };
+        if !skip_value(reader, depth) {
+            return false;
+        }
     }
 }
 
