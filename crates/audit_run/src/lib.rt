@@ -2,6 +2,7 @@
 #![tactic(auto)]
 
 mod laws;
+mod reading;
 mod top_call;
 
 pub use generator::{GenPlan, GenSource};

@@ -11,6 +11,7 @@ ghost use Rattle.audit_program.specs.Audits.{rules_by};
 ghost use Rattle.trace_audit.specs.Auditors.{IsCollected, MakesCollections, MayCollect};
 ghost use Rattle.audit_run.specs.Outcome.{Ended, RefusesWords, rules_of};
 
+use crate::reading::audit_lines;
 use audit_core::Auditor;
 use generator::{GenPlan, GenSource};
 use graph_meaning::Collection;
@@ -18,7 +19,7 @@ use heap_base::{Gate, OutOfMemory, Sink, Source, Status};
 use settings::{SettingsError, settings_of};
 use std::alloc::Global;
 use std::thread::Threads;
-use trace_audit::{Plan, audit_trace};
+use trace_audit::Plan;
 use trace_run::refuse_words;
 
 const USAGE: &[u8] = b"usage: gcaudit [--workers N] [--paths P] [--react R] [--gen K --size N]\n";
@@ -64,18 +65,17 @@ pub fn audit<S: Source, K: Sink, G: Gate, R: Threads + Sync>(
         ensures { IsCollected auditor.entry.now result auditor.exit.now }
     { auditor.collect(rt, gate) };
     match settings.plan {
-        None => audit_trace(plan, collect, source, sink),
-        Some(trace) => audit_generated(plan, trace, collect, sink),
+        None => audit_lines(rt, plan, collect, source, sink),
+        Some(trace) => audit_generated(rt, plan, trace, collect, sink),
     }
 }
 
 /// Audits the trace that is generated from these numbers.
-fn audit_generated<C: FnMut(&mut Auditor) -> Result<Collection, OutOfMemory>, K: Sink>(
-    plan: Plan,
-    trace: GenPlan,
-    collect: C,
-    sink: &mut K,
-) -> Status
+fn audit_generated<
+    C: FnMut(&mut Auditor) -> Result<Collection, OutOfMemory>,
+    K: Sink,
+    R: Threads + Sync,
+>(rt: &R, plan: Plan, trace: GenPlan, collect: C, sink: &mut K) -> Status
     requires workers { (0 < plan.workers) × (plan.workers ≤ MOST_WORKERS) }
     requires trace { IsPlan trace }
     requires may_collect { MayCollect C.pre }
@@ -88,5 +88,5 @@ fn audit_generated<C: FnMut(&mut Auditor) -> Result<Collection, OutOfMemory>, K:
     let Ok(mut source) = GenSource::make(plan.alloc, trace) else {
         return Status::NoMemory;
     };
-    audit_trace(plan, collect, &mut source, sink)
+    audit_lines(rt, plan, collect, &mut source, sink)
 }

@@ -15,6 +15,7 @@ use heap_base::{Name, ObjId, OutOfMemory, Sink, Source, Status};
 use object_table::ObjectTable;
 use snapshot_text::write_snapshot;
 use std::alloc::Global;
+use trace_reader::LineReader;
 use trace_run::{LastText, Program, Taken, run};
 
 /// A trace that a snapshot is made of has at most so many bytes: 2^28.
@@ -55,7 +56,16 @@ pub(crate) fn from_trace<S: Source, K: Sink>(alloc: Global, source: &mut S, sink
         return Status::NoMemory;
     };
     let mut making = Making { alloc, table };
-    run(alloc, LONGEST_TRACE, &mut making, take_event, source, sink)
+    let mut reader = LineReader::make(alloc);
+    run(
+        alloc,
+        LONGEST_TRACE,
+        &mut making,
+        take_event,
+        &mut reader,
+        source,
+        sink,
+    )
 }
 
 fn take_event(making: &mut Making, event: &Event) -> Result<Taken, Stop>

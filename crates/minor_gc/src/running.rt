@@ -13,6 +13,7 @@ use crate::texts::{full_text, minor_text};
 use graph_meaning::{Event, Refusal, Stop};
 use heap_base::{LONGEST_TRACE, OutOfMemory, Sink, Source, Status};
 use std::alloc::Global;
+use trace_reader::LineReader;
 use trace_run::{Taken, refuse_words, run};
 
 const USAGE: &[u8] = b"usage: gcminor\n";
@@ -46,7 +47,16 @@ pub fn minor_run<S: Source, K: Sink>(
         nursery,
         collections: 0,
     };
-    run(alloc, LONGEST_TRACE, &mut program, take_event, source, sink)
+    let mut reader = LineReader::make(alloc);
+    run(
+        alloc,
+        LONGEST_TRACE,
+        &mut program,
+        take_event,
+        &mut reader,
+        source,
+        sink,
+    )
 }
 
 // Takes an event of a trace.

@@ -16,6 +16,7 @@ use std::alloc::Global;
 use std::sync::{Arc, Wait};
 use std::thread::Threads;
 use trace_audit::{Plan, audit_trace};
+use trace_reader::LineReader;
 use trace_run::refuse_words;
 
 const USAGE: &[u8] = b"usage: gcresident [--workers N]\n";
@@ -56,7 +57,8 @@ pub fn audit_resident<
         requires { auditor.now.collections < LONGEST_TRACE }
         ensures { IsCollected auditor.entry.now result auditor.exit.now }
     { collect_resident(rt, alloc, &mut crew, auditor) };
-    let status = audit_trace(plan, collect, source, sink);
+    let mut reader = LineReader::make(alloc);
+    let status = audit_trace(plan, collect, &mut reader, source, sink);
     crew.end(rt);
     status
 }

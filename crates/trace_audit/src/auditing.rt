@@ -15,6 +15,7 @@ use audit_core::Auditor;
 use graph_meaning::{Collection, Event, React, Stop};
 use heap_base::{LONGEST_TRACE, OutOfMemory, Sink, Source, Status};
 use std::alloc::Global;
+use trace_reader::EventReader;
 use trace_run::{Taken, run};
 
 /// What an audit goes by: its allocator, how many workers trace a heap, how many paths of each collection are shown, and
@@ -29,12 +30,13 @@ pub struct Plan {
 
 /// Audits the trace that the source has left, and writes its report. `collect` makes the auditor's collections. The text of
 /// each is written before the next line is cut.
-pub fn audit_trace<C: FnMut(&mut Auditor) -> Result<Collection, OutOfMemory>, S: Source, K: Sink>(
-    plan: Plan,
-    mut collect: C,
-    source: &mut S,
-    sink: &mut K,
-) -> Status
+pub fn audit_trace<
+    C: FnMut(&mut Auditor) -> Result<Collection, OutOfMemory>,
+    L: EventReader,
+    S: Source,
+    K: Sink,
+>(plan: Plan, mut collect: C, reader: &mut L, source: &mut S, sink: &mut K) -> Status
+    requires ready { L.ready reader.old }
     requires workers { (0 < plan.workers) × (plan.workers ≤ MOST_WORKERS) }
     requires may_collect { MayCollect C.pre }
     requires collects { MakesCollections C.step }
@@ -60,7 +62,7 @@ pub fn audit_trace<C: FnMut(&mut Auditor) -> Result<Collection, OutOfMemory>, S:
         ensures takes { Takes (audit_meaning.takes (state_in audit.entry.now) event.now) result (state_in audit.exit.now) }
         ensures few { audit.exit.now.auditor.collections ≤ audit.entry.now.auditor.collections + 1 }
     { take_event(audit, event, &mut collect) };
-    run(alloc, LONGEST_TRACE, &mut audit, take, source, sink)
+    run(alloc, LONGEST_TRACE, &mut audit, take, reader, source, sink)
 }
 
 fn is_force(react: React) -> bool

@@ -11,18 +11,27 @@ use crate::turn::{Flow, take_line};
 use graph_meaning::{Event, Refusal, Stop};
 use heap_base::{LONGEST_TRACE, Sink, Source, Status};
 use std::alloc::Global;
-use trace_reader::{CutError, LineCutter, LineReader};
+use trace_reader::{CutError, EventReader, LineCutter};
 
 /// Reads a trace of at most `limit` bytes line by line to its end, to the first line that is refused, or to the event at
-/// which the program halts. What a line makes due is written before the next line is cut.
-pub fn run<P: Program, T: FnMut(&mut P, &Event) -> Result<Taken, Stop>, S: Source, K: Sink>(
+/// which the program halts. What a line makes due is written before the next line is cut. The reader may read lines before their
+/// turn, of bytes that the source has given.
+pub fn run<
+    P: Program,
+    T: FnMut(&mut P, &Event) -> Result<Taken, Stop>,
+    L: EventReader,
+    S: Source,
+    K: Sink,
+>(
     alloc: Global,
     limit: u64,
     program: &mut P,
     mut take: T,
+    reader: &mut L,
     source: &mut S,
     sink: &mut K,
 ) -> Status
+    requires ready { L.ready reader.old }
     requires limit { limit ≤ LONGEST_TRACE }
     requires new { P.events program.old ≡ 0 }
     requires may_take { MayTake P.events T.pre }
@@ -32,24 +41,26 @@ pub fn run<P: Program, T: FnMut(&mut P, &Event) -> Result<Taken, Stop>, S: Sourc
         let new = seen (stream_of S.left S.faults source.new) (stream_of K.held K.faults sink.new) in
         Ended limit (report_by P.meaning (P.state program.old)) old new result }
 {
-    let Ok(mut cutter) = LineCutter::make(alloc, limit) else {
+    let Ok(mut cutter) = LineCutter::with_ahead(alloc, limit, reader.ahead()) else {
         return Status::NoMemory;
     };
-    let mut reader = LineReader::make(alloc);
     let mut lines = 0;
     'trace: loop {
         match cutter.next(source) {
             Ok(Some(number)) => {
                 match take_line(
                     alloc,
-                    &mut reader,
+                    reader,
                     program,
                     &mut take,
                     cutter.line(),
                     lines,
                     sink,
                 ) {
-                    Flow::GoesOn => lines = number,
+                    Flow::GoesOn => {
+                        lines = number;
+                        reader.look_ahead(cutter.behind());
+                    }
                     Flow::Ends(status) => return status,
                 }
             }

@@ -11,7 +11,7 @@ use crate::taken::Taken;
 use graph_meaning::{Event, Stop};
 use heap_base::{LONGEST_TRACE, Sink, Status, put_all};
 use std::alloc::Global;
-use trace_reader::LineReader;
+use trace_reader::EventReader;
 
 /// Whether a run goes on after a line, or how it ends.
 #[derive(Drop)]
@@ -21,20 +21,27 @@ pub enum Flow {
 }
 
 /// Takes one line of the trace, which this many lines stand before.
-pub fn take_line<P: Program, T: FnMut(&mut P, &Event) -> Result<Taken, Stop>, K: Sink>(
+pub fn take_line<
+    P: Program,
+    T: FnMut(&mut P, &Event) -> Result<Taken, Stop>,
+    L: EventReader,
+    K: Sink,
+>(
     alloc: Global,
-    reader: &mut LineReader,
+    reader: &mut L,
     program: &mut P,
     take: &mut T,
     line: &[u8],
     lines: u64,
     sink: &mut K,
 ) -> Flow
+    requires ready { L.ready reader.old }
     requires few_lines { lines < LONGEST_TRACE }
     requires few_events { P.events program.old ≤ lines }
     requires may_take { MayTake P.events T.pre }
     requires takes { TakesEvents P.meaning P.state T.step }
     requires counts { CountsEvents P.events T.step }
+    ensures ready { L.ready reader.new }
     ensures takes { TakesLine (takes_item P.meaning (P.state program.old) (item_of_line line.now)) lines (P.state program.new) (stream_of K.held K.faults sink.old) (stream_of K.held K.faults sink.new) result }
     ensures few { P.events program.new ≤ P.events program.old + 1 }
     ensures later { K.faults sink.old ≤ K.faults sink.new }

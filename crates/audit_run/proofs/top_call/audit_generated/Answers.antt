@@ -10,6 +10,6 @@ pub returns : goal.returns
 returns g c =
     λ stream.
     let old = seen stream (stream_of g.K.Sink.held g.K.Sink.faults c.args.sink.now) in
-    let new = seen stream (stream_of g.K.Sink.held g.K.Sink.faults c.audit_trace.new.sink) in
-    let Reads : List ℕ → Type 0 = λ bytes. Ended (rules_by c.args.plan.paths c.args.plan.react) (reading bytes old) (reading c.audit_trace.new.source new) c.audit_trace.result in
-    (c.audit_trace.new.source, subst Reads c.in-Ok.ensures.left c.audit_trace.ensures)
+    let new = seen stream (stream_of g.K.Sink.held g.K.Sink.faults c.audit_lines.new.sink) in
+    let Reads : List ℕ → Type 0 = λ bytes. Ended (rules_by c.args.plan.paths c.args.plan.react) (reading bytes old) (reading c.audit_lines.new.source new) c.audit_lines.result in
+    (c.audit_lines.new.source, subst Reads c.in-Ok.ensures.left c.audit_lines.ensures)

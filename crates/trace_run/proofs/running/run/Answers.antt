@@ -5,7 +5,7 @@ use Rattle.trace_run.proofs.running.run.Goals as goal
 
 pub trace-init : goal.trace-init
 trace-init g c =
-    (begins_at g.P.Program.meaning c.args.limit _ _ _ c.in-Ok.ensures, let new = c.requires.new in omega (arith, new))
+    (begins_at g.P.Program.meaning c.args.limit _ _ _ c.in-Ok.ensures, (let new = c.requires.new in omega (arith, new)), c.requires.ready)
 
 pub returns-in-Ends : goal.returns-in-Ends
 returns-in-Ends g c =
@@ -18,7 +18,8 @@ trace-preserved g c =
     let taken = c.in-GoesOn.ensures.takes in
     let within = line_within g.P.Program.meaning _ _ _ _ _ _ _ _ _ _ _ _ c.trace.invariant.0 steps in (
       line_taken g.P.Program.meaning _ _ _ _ _ _ _ _ _ _ _ _ _ _ c.trace.invariant.0 steps c.line.ensures taken.1 taken.2 c.take_line.ensures.later,
-      let before = c.trace.invariant.1 in let few = c.take_line.ensures.few in let next = within.1 in omega (arith, before, few, next),
+      (let before = c.trace.invariant.1 in let few = c.take_line.ensures.few in let next = within.1 in omega (arith, before, few, next)),
+      c.look_ahead.ensures,
     )
 
 pub trace-smaller : goal.trace-smaller

@@ -11,6 +11,7 @@ invariant-trace g l =
     (seen (stream_of g.S.Source.left g.S.Source.faults l.source) (stream_of g.K.Sink.held g.K.Sink.faults l.sink))
     l.cutter (g.P.Program.state l.program) l.lines
     × (g.P.Program.events l.program ≤ l.lines)
+    × g.L.EventReader.ready l.reader
 
 abbrev pub decreases-trace : goal.decreases-trace
 decreases-trace g l = l.limit - l.cutter.given
