@@ -1,7 +1,8 @@
 /* Preloaded before a program that asks for memory by malloc, calloc and realloc, and starts threads by pthread_create. It counts the bytes
-   that are asked for, the bytes that are held at most at a time, and the requests that come from the first pthread_create to the last
-   pthread_join. Where REFUSE is set, each request is refused that comes while a thread that was started isn't joined. The numbers are written
-   to the file that WATCH_TO names. What pthread_create itself asks for is not counted, and is not refused. */
+   that are asked for, the bytes that are held at most at a time, and the threads that are started; and of what follows the last read of
+   standard input that brought bytes, the threads and the requests from the first pthread_create to the last pthread_join. Where REFUSE is
+   set, each request is refused that comes while a thread that was started isn't joined. The numbers are written to the file that WATCH_TO
+   names. What pthread_create itself asks for is not counted, and is not refused. */
 #define _GNU_SOURCE
 #include <dlfcn.h>
 #include <errno.h>
@@ -15,7 +16,7 @@
 extern void *__libc_malloc(size_t), *__libc_calloc(size_t, size_t), *__libc_realloc(void *, size_t);
 extern void __libc_free(void *);
 
-static unsigned long asked, held, most_held, started, joined, since_first, until_last, refused;
+static unsigned long asked, held, most_held, started, joined, started_before_read, since_first, until_last, refused;
 static int refuses;
 static __thread int starts;
 
@@ -28,7 +29,7 @@ __attribute__((destructor)) static void end(void) {
     const char *path = getenv("WATCH_TO");
     FILE *file = path ? fopen(path, "w") : NULL;
     if (file) {
-        fprintf(file, "%lu %lu %lu %lu %lu\n", asked, most_held, started, until_last, refused);
+        fprintf(file, "%lu %lu %lu %lu %lu %lu\n", asked, most_held, started, started - started_before_read, until_last, refused);
         fclose(file);
     }
 }
@@ -37,7 +38,7 @@ __attribute__((destructor)) static void end(void) {
 static int is_refused(size_t size) {
     if (starts) return 0;
     ADD(asked, size);
-    if (READ(started)) ADD(since_first, 1);
+    if (READ(started) != READ(started_before_read)) ADD(since_first, 1);
     if (!refuses || READ(started) == READ(joined)) return 0;
     ADD(refused, 1);
     errno = ENOMEM;
@@ -69,6 +70,16 @@ void *realloc(void *place, size_t size) {
 void free(void *place) {
     ADD(held, -malloc_usable_size(place));
     __libc_free(place);
+}
+
+ssize_t read(int from, void *into, size_t size) {
+    ssize_t (*next)(int, void *, size_t) = dlsym(RTLD_NEXT, "read");
+    ssize_t count = next(from, into, size);
+    if (from == 0 && count > 0) {
+        started_before_read = started;
+        since_first = until_last = 0;
+    }
+    return count;
 }
 
 int pthread_create(pthread_t *thread, const pthread_attr_t *how, void *(*run)(void *), void *with) {

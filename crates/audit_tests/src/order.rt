@@ -3,8 +3,11 @@ ghost use Rattle.std.specs.Prelude.{Some};
 
 use audit_run::audit;
 use heap_base::{Failed, MemSink, MemSource, OpenGate, Sink, Source, Status};
+use std::alloc::Global;
 use std::cell::Cell;
+use std::process::Abort;
 use std::test::Fail;
+use std::thread::Threads;
 
 /// The calls so far: `r` for a read, `w` for a write.
 #[derive(Drop)]
@@ -61,25 +64,33 @@ impl<'a> Sink for NotedSink<'a> {
 }
 
 /// Each line comes by a read of its own: the text of its collection is written, by one write, before the next read.
-#[test]
-fn a_collection_is_written_before_the_next_read(rt: HostRuntime) -> Result<(), Fail> {
+fn expect_order<R: Threads + Abort + Sync>(
+    rt: &R,
+    alloc: Global,
+    words: &[&str],
+) -> Result<(), Fail> {
     let trace = b"{\"op\":\"collect\"}\n{\"op\":\"collect\"}\n";
     let calls = Calls {
         made: Cell::new([b' '; 8]),
         count: Cell::new(0),
     };
     let mut source = NotedSource {
-        source: MemSource::make(rt.alloc(), trace, 17, &[])?,
+        source: MemSource::make(alloc, trace, 17, &[])?,
         calls: &calls,
     };
     let mut sink = NotedSink {
-        sink: MemSink::make(rt.alloc(), 4096, 4096, &[])?,
+        sink: MemSink::make(alloc, 4096, 4096, &[])?,
         calls: &calls,
     };
-    let words = ["gcaudit"];
-    let status = audit(&rt, rt.alloc(), &words, &mut source, &mut sink, &OpenGate);
+    let status = audit(rt, alloc, words, &mut source, &mut sink, &OpenGate);
     assert_eq!(rt; status, Status::Clean);
     assert_eq!(rt; calls.made.get(), *b"rwrwrw  ");
     assert_eq!(rt; calls.count.get(), 6);
     Ok(())
+}
+
+#[test]
+fn a_collection_is_written_before_the_next_read(rt: HostRuntime) -> Result<(), Fail> {
+    expect_order(&rt, rt.alloc(), &["gcaudit"])?;
+    expect_order(&rt, rt.alloc(), &["gcaudit", "--workers", "4"])
 }
