@@ -1,7 +1,7 @@
 #!/usr/bin/env python3
 """Runs the built program over a trace once for each of its allocations, which is refused, and says how each run ended.
 
-Each trace is audited with each reaction, and a small generated one is audited too.
+Each trace is audited with each reaction, and a small generated one is audited too; and one of many lines by four workers, which read it side by side.
 
 Usage: bench/refuse_memory.py [TRACE ..]     (the traces of examples/ where none is named)
 Each allocation is refused once alone, and once together with all that follow. A run must end by itself, and either
@@ -29,6 +29,16 @@ def run(library, trace, words, **settings):
     return child.returncode, child.stdout
 
 
+def many_lines(folder):
+    """A trace that is long enough to be read by several workers."""
+    path = os.path.join(folder, "many_lines.jsonl")
+    with open(path, "w") as trace:
+        for number in range(1, 801):
+            trace.write(f'{{"op":"alloc","id":{number},"type":"Request{number % 50}","slots":1,"thread":{number % 7}}}\n')
+        trace.write('{"op":"root","name":"last","to":800}\n{"op":"assert-dead","id":800}\n{"op":"collect"}\n')
+    return path
+
+
 def main():
     need_programs(PROGRAM)
     need_commands("cc")
@@ -40,6 +50,7 @@ def main():
         subprocess.run(["cc", "-O2", "-fno-builtin", "-shared", "-fPIC", "-o", library, os.path.join(HERE, "refuse_memory.c"), "-ldl"], check=True)
         runs = [(trace, ("--react", react)) for trace in traces for react in ("report", "halt", "force")]
         runs.append((os.devnull, ("--gen", "1", "--size", "6")))
+        runs.append((many_lines(folder), ("--workers", "4")))
         for trace, words in runs:
             status, report = run(library, trace, words, COUNT_TO=counted)
             count = int(open(counted).read())
