@@ -105,5 +105,9 @@ roles_stand_for_heap h a p r refers ordered has table distinct by = record {
   unshared = λ cell. by.unshared cell ∙ ap (λ ids. holds_one_of p ids cell) (sym has.unshared);
   ownees = λ cell. subst (λ owners. IsRoleBy p (owner_at p owners cell) (owner_in r cell)) (sym has.owners) (by.ownees cell);
   owners = by.owners ∙ ap (λ owners. map Some (live_owners p.table owners)) (sym has.owners);
-  limits = λ kind name at. by.limits kind ∙ sym (has.limits name ∙ ap (λ t. option_and_then (limit_of a.limits) (position (bytes_eq name) t.kinds)) table ∙ ap (option_and_then (limit_of a.limits)) (position_named p.table.kinds kind name distinct at));
+  limits =
+      λ kind name at. by.limits kind
+      ∙ sym
+      (has.limits name ∙ ap (λ t. option_and_then (limit_of a.limits) (position (bytes_eq name) t.kinds)) table
+      ∙ ap (option_and_then (limit_of a.limits)) (position_named p.table.kinds kind name distinct at));
 }

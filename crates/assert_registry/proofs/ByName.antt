@@ -47,16 +47,21 @@ cond_swapped true false v w rest apart = refl
 cond_swapped false c v w rest apart = refl
 
 -- what a name has after another, or itself, was given a limit
-pub lookup-insert_entry : (named : List (List ℕ × ℕ)) (kind name : List ℕ) (limit : ℕ) → lookup (is_at (name_cmp name)) (insert_entry name_cmp named kind limit) ≡ cond (is_at (name_cmp name) kind) (Some limit) (lookup (is_at (name_cmp name)) named)
+pub lookup-insert_entry : (named : List (List ℕ × ℕ)) (kind name : List ℕ) (limit : ℕ) →
+    lookup (is_at (name_cmp name)) (insert_entry name_cmp named kind limit) ≡ cond (is_at (name_cmp name) kind) (Some limit) (lookup (is_at (name_cmp name)) named)
 lookup-insert_entry [] kind name limit = refl
 lookup-insert_entry (e ∷ named) kind name limit =
     go (name_cmp kind e.0) refl (lookup-insert_entry named kind name limit)
   where
-    go : (c : Ordering) → name_cmp kind e.0 ≡ c → lookup (is_at (name_cmp name)) (insert_entry name_cmp named kind limit) ≡ cond (is_at (name_cmp name) kind) (Some limit) (lookup (is_at (name_cmp name)) named) → lookup (is_at (name_cmp name)) (match_ordering c ((kind, limit) ∷ e ∷ named) ((e.0, limit) ∷ named) (e ∷ insert_entry name_cmp named kind limit)) ≡ cond (is_at (name_cmp name) kind) (Some limit) (lookup (is_at (name_cmp name)) (e ∷ named))
+    go : (c : Ordering) → name_cmp kind e.0 ≡ c →
+        lookup (is_at (name_cmp name)) (insert_entry name_cmp named kind limit) ≡ cond (is_at (name_cmp name) kind) (Some limit) (lookup (is_at (name_cmp name)) named) →
+        lookup (is_at (name_cmp name)) (match_ordering c ((kind, limit) ∷ e ∷ named) ((e.0, limit) ∷ named) (e ∷ insert_entry name_cmp named kind limit))
+        ≡ cond (is_at (name_cmp name) kind) (Some limit) (lookup (is_at (name_cmp name)) (e ∷ named))
     go Less is rest = refl
     go Equal is rest =
         let same : kind ≡ e.0 = exact_bytes kind e.0 is in
-        subst (λ (x : List ℕ). cond (is_at (name_cmp name) e.0) (Some limit) (lookup (is_at (name_cmp name)) named) ≡ cond (is_at (name_cmp name) x) (Some limit) (lookup (is_at (name_cmp name)) (e ∷ named))) (sym same)
+        subst (λ (x : List ℕ). cond (is_at (name_cmp name) e.0) (Some limit) (lookup (is_at (name_cmp name)) named)
+        ≡ cond (is_at (name_cmp name) x) (Some limit) (lookup (is_at (name_cmp name)) (e ∷ named))) (sym same)
         (cond_twice (is_at (name_cmp name) e.0) limit e.1 (lookup (is_at (name_cmp name)) named))
     go Greater is rest =
         ap (λ found. cond (is_at (name_cmp name) e.0) (Some e.1) found) rest
@@ -117,7 +122,8 @@ limit_is_set kinds named numbered kind number limit at within agree name =
             let its : kind ≡ get_or kinds number [] = (bytes_eq-Decides kind (get_or kinds number [])).0 place.1 in
             ne (mine ∙ ap (λ k. get_or kinds k []) same ∙ sym its)
 
-    go : (b : Bool) → is_at (name_cmp name) kind ≡ b → cond b (Some limit) (lookup (is_at (name_cmp name)) named) ≡ option_and_then (limit_of (set numbered number (Some limit))) (position (bytes_eq name) kinds)
+    go : (b : Bool) → is_at (name_cmp name) kind ≡ b →
+        cond b (Some limit) (lookup (is_at (name_cmp name)) named) ≡ option_and_then (limit_of (set numbered number (Some limit))) (position (bytes_eq name) kinds)
     go true is =
         let same : name ≡ kind = name-same name kind is in
         sym (ap (option_and_then (limit_of (set numbered number (Some limit)))) (ap (λ k. position (bytes_eq k) kinds) same ∙ at) ∙ get_or-set_same numbered number (Some limit) None within)

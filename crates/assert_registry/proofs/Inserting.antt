@@ -17,7 +17,9 @@ remove-insert : (keys : List ℕ) (id : ℕ) → list_any (is_at (nat_cmp id)) k
 remove-insert [] id new = rw (is_at-itself id) refl
 remove-insert (x ∷ keys) id new = go (nat_cmp id x) refl new (λ rest. remove-insert keys id rest)
   where
-    go : (c : Ordering) → nat_cmp id x ≡ c → (is_eq c || list_any (is_at (nat_cmp id)) keys) ≡ false → (list_any (is_at (nat_cmp id)) keys ≡ false → remove_key (is_at (nat_cmp id)) (insert_key nat_cmp keys id) ≡ keys) → remove_key (is_at (nat_cmp id)) (match_ordering c (id ∷ x ∷ keys) (x ∷ keys) (x ∷ insert_key nat_cmp keys id)) ≡ x ∷ keys
+    go : (c : Ordering) → nat_cmp id x ≡ c → (is_eq c || list_any (is_at (nat_cmp id)) keys) ≡ false →
+        (list_any (is_at (nat_cmp id)) keys ≡ false → remove_key (is_at (nat_cmp id)) (insert_key nat_cmp keys id) ≡ keys) →
+        remove_key (is_at (nat_cmp id)) (match_ordering c (id ∷ x ∷ keys) (x ∷ keys) (x ∷ insert_key nat_cmp keys id)) ≡ x ∷ keys
     go Less is new rest = rw (is_at-itself id) refl
     go Equal is new rest = absurd (false≢true (sym new))
     go Greater is new rest = rw is (ap (λ ks. x ∷ ks) (rest new))

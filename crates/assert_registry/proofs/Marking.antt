@@ -30,7 +30,8 @@ module _ (p : Placed) (placed : IsPlaced p) (id cell : ℕ) (held : id_in p cell
       go (Some x) apart = rw (ne_eqb id x (λ e. apart (ap Some (sym e)))) refl
 
   -- The flag of the object's cell is set, and fewer are left.
-  pub flag_more : (flags : List Bool) (rest : List ℕ) → cell < length flags → (other : ℕ) → (get_or (set flags cell true) other false || holds_one_of p rest other) ≡ (get_or flags other false || holds_one_of p (id ∷ rest) other)
+  pub flag_more : (flags : List Bool) (rest : List ℕ) → cell < length flags → (other : ℕ) →
+      (get_or (set flags cell true) other false || holds_one_of p rest other) ≡ (get_or flags other false || holds_one_of p (id ∷ rest) other)
   flag_more flags rest within other = ⊎_elim same apart (cases_eq other cell)
     where
       same : other ≡ cell → (get_or (set flags cell true) other false || holds_one_of p rest other) ≡ (get_or flags other false || holds_one_of p (id ∷ rest) other)
@@ -58,7 +59,9 @@ HasRoleSoFar p owners rest roles cell =
     ⊎ ((get_or roles cell NotOwned ≡ NotOwned) × (owner_at p rest cell ≡ owner_at p owners cell))
 
 -- The role of an ownee's cell is set, and fewer owners are left.
-pub role_more : (p : Placed) (placed : IsPlaced p) (owners rest : List (ℕ × ℕ)) (roles : List OwnerRole) (ownee owner cell : ℕ) (role : OwnerRole) → id_in p cell ≡ Some ownee → owner_of owners ownee ≡ Some owner → IsRoleBy p (Some owner) role → cell < length roles → (other : ℕ) → HasRoleSoFar p owners ((ownee, owner) ∷ rest) roles other → HasRoleSoFar p owners rest (set roles cell role) other
+pub role_more : (p : Placed) (placed : IsPlaced p) (owners rest : List (ℕ × ℕ)) (roles : List OwnerRole) (ownee owner cell : ℕ) (role : OwnerRole) →
+    id_in p cell ≡ Some ownee → owner_of owners ownee ≡ Some owner → IsRoleBy p (Some owner) role → cell < length roles → (other : ℕ) →
+    HasRoleSoFar p owners ((ownee, owner) ∷ rest) roles other → HasRoleSoFar p owners rest (set roles cell role) other
 role_more p placed owners rest roles ownee owner cell role held owned by within other so_far =
     ⊎_elim same apart (cases_eq other cell)
   where

@@ -28,7 +28,8 @@ others-insert_entry [] ownee owner other all = All-cons IsByAnother (ownee, owne
 others-insert_entry (o ∷ owners) ownee owner other all =
     go (nat_cmp ownee o.0) refl (others-insert_entry owners ownee owner other (All-tail IsByAnother o owners all))
   where
-    go : (c : Ordering) → nat_cmp ownee o.0 ≡ c → All IsByAnother (insert_entry nat_cmp owners ownee owner) → All IsByAnother (match_ordering c ((ownee, owner) ∷ o ∷ owners) ((o.0, owner) ∷ owners) (o ∷ insert_entry nat_cmp owners ownee owner))
+    go : (c : Ordering) → nat_cmp ownee o.0 ≡ c → All IsByAnother (insert_entry nat_cmp owners ownee owner) →
+        All IsByAnother (match_ordering c ((ownee, owner) ∷ o ∷ owners) ((o.0, owner) ∷ owners) (o ∷ insert_entry nat_cmp owners ownee owner))
     go Less is rest = All-cons IsByAnother (ownee, owner) (o ∷ owners) other all
     go Equal is rest =
         All-cons IsByAnother (o.0, owner) owners (λ e. other (e ∙ sym (nat_cmp-Equal ownee o.0 is))) (All-tail IsByAnother o owners all)
@@ -65,12 +66,14 @@ has_id-owner_of [] ownee owner found = cc
 has_id-owner_of (o ∷ owners) ownee owner found =
     go (is_at (nat_cmp ownee) o.0) found (λ later. or_right (o.1 == owner) (has_id (values_of owners) owner) (has_id-owner_of owners ownee owner later))
   where
-    go : (b : Bool) → cond b (Some o.1) (owner_of owners ownee) ≡ Some owner → (owner_of owners ownee ≡ Some owner → has_id (values_of (o ∷ owners)) owner ≡ true) → has_id (values_of (o ∷ owners)) owner ≡ true
+    go : (b : Bool) → cond b (Some o.1) (owner_of owners ownee) ≡ Some owner →
+        (owner_of owners ownee ≡ Some owner → has_id (values_of (o ∷ owners)) owner ≡ true) → has_id (values_of (o ∷ owners)) owner ≡ true
     go true found rest = let by : o.1 ≡ owner = cc in or_left _ _ (eq-eqb o.1 owner by)
     go false found rest = rest found
 
 -- and each of the owners is that of some ownee
-pub owner_of-has_id : (owners : List (ℕ × ℕ)) (owner : ℕ) → Rise (keys_of owners) → has_id (values_of owners) owner ≡ true → (ownee : ℕ) × (has_id (keys_of owners) ownee ≡ true) × (owner_of owners ownee ≡ Some owner)
+pub owner_of-has_id : (owners : List (ℕ × ℕ)) (owner : ℕ) → Rise (keys_of owners) → has_id (values_of owners) owner ≡ true →
+    (ownee : ℕ) × (has_id (keys_of owners) ownee ≡ true) × (owner_of owners ownee ≡ Some owner)
 owner_of-has_id [] owner rise at = absurd (false≢true at)
 owner_of-has_id (o ∷ owners) owner rise at =
     ⊎_elim

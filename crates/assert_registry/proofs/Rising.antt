@@ -77,7 +77,8 @@ same_rising (x ∷ xs) (y ∷ ys) rise_xs rise_ys same =
 -- ---- owners that are live, gathered one after another
 
 -- the next owner is live
-pub gather_live : (t : Table) (keys rest : List ℕ) (owner id : ℕ) → is_live t owner ≡ true → (has_id (insert_key nat_cmp keys owner) id || (has_id rest id && is_live t id)) ≡ (has_id keys id || (has_id (owner ∷ rest) id && is_live t id))
+pub gather_live : (t : Table) (keys rest : List ℕ) (owner id : ℕ) → is_live t owner ≡ true →
+    (has_id (insert_key nat_cmp keys owner) id || (has_id rest id && is_live t id)) ≡ (has_id keys id || (has_id (owner ∷ rest) id && is_live t id))
 gather_live t keys rest owner id live =
     ap (λ b. b || (has_id rest id && is_live t id)) (has_id-insert_key keys owner id) ∙ go (owner == id) (λ e. ap (is_live t) (sym (eqb-true owner id e)) ∙ live)
   where
@@ -86,7 +87,8 @@ gather_live t keys rest owner id live =
     go false here = refl
 
 -- the next owner is not live
-pub gather_gone : (t : Table) (keys rest : List ℕ) (owner id : ℕ) → is_live t owner ≡ false → (has_id keys id || (has_id rest id && is_live t id)) ≡ (has_id keys id || (has_id (owner ∷ rest) id && is_live t id))
+pub gather_gone : (t : Table) (keys rest : List ℕ) (owner id : ℕ) → is_live t owner ≡ false →
+    (has_id keys id || (has_id rest id && is_live t id)) ≡ (has_id keys id || (has_id (owner ∷ rest) id && is_live t id))
 gather_gone t keys rest owner id gone =
     ap (λ b. has_id keys id || b) (go (owner == id) (λ e. ap (is_live t) (sym (eqb-true owner id e)) ∙ gone))
   where
@@ -99,7 +101,8 @@ gather_gone t keys rest owner id gone =
     go false here = refl
 
 -- all were gathered
-pub gather_all : (t : Table) (owners : List (ℕ × ℕ)) (keys : List ℕ) → IdsRise t → IsStrictlySortedBy nat_cmp keys → ((id : ℕ) → (has_id keys id || (has_id [] id && is_live t id)) ≡ (has_id (values_of owners) id && is_live t id)) → keys ≡ live_owners t owners
+pub gather_all : (t : Table) (owners : List (ℕ × ℕ)) (keys : List ℕ) → IdsRise t → IsStrictlySortedBy nat_cmp keys →
+    ((id : ℕ) → (has_id keys id || (has_id [] id && is_live t id)) ≡ (has_id (values_of owners) id && is_live t id)) → keys ≡ live_owners t owners
 gather_all t owners keys rise sorted same =
     same_rising keys (live_owners t owners) (Rise-sorted keys sorted) (AllPairs-filter (λ x y. x < y) (has_id (values_of owners)) (ids t) rise.rising)
     (λ id. sym (or_none (has_id keys id)) ∙ same id ∙ ap (λ b. has_id (values_of owners) id && b) (sym (has_id-ids t id)) ∙ sym (has_id-filter (has_id (values_of owners)) (ids t) id))

@@ -96,11 +96,14 @@ module _ (a : Assertions) (p : Placed) (r : RoleTable) (placed : IsPlaced p) (ri
   pub owned-by : (cell owner : ℕ) → owner_in r cell ≡ OwnerCell owner → (ownee : ℕ) × (id : ℕ) × (id_in p cell ≡ Some ownee) × (owner_of a.owners ownee ≡ Some id) × (id_in p owner ≡ Some id)
   owned-by cell owner is = go (id_in p cell) refl (subst (IsRoleBy p (owner_at p a.owners cell)) is (by.ownees cell))
     where
-      go : (o : Option ℕ) → id_in p cell ≡ o → IsSome (option_and_then (owner_of a.owners) o) × (id_in p owner ≡ option_and_then (owner_of a.owners) o) → (ownee : ℕ) × (id : ℕ) × (id_in p cell ≡ Some ownee) × (owner_of a.owners ownee ≡ Some id) × (id_in p owner ≡ Some id)
+      go : (o : Option ℕ) → id_in p cell ≡ o →
+          IsSome (option_and_then (owner_of a.owners) o) × (id_in p owner ≡ option_and_then (owner_of a.owners) o) →
+          (ownee : ℕ) × (id : ℕ) × (id_in p cell ≡ Some ownee) × (owner_of a.owners ownee ≡ Some id) × (id_in p owner ≡ Some id)
       go None held role = absurd (false≢true role.0)
       go (Some ownee) held role = found (owner_of a.owners ownee) refl role
         where
-          found : (o : Option ℕ) → owner_of a.owners ownee ≡ o → IsSome o × (id_in p owner ≡ o) → (ownee : ℕ) × (id : ℕ) × (id_in p cell ≡ Some ownee) × (owner_of a.owners ownee ≡ Some id) × (id_in p owner ≡ Some id)
+          found : (o : Option ℕ) → owner_of a.owners ownee ≡ o → IsSome o × (id_in p owner ≡ o) →
+              (ownee : ℕ) × (id : ℕ) × (id_in p cell ≡ Some ownee) × (owner_of a.owners ownee ≡ Some id) × (id_in p owner ≡ Some id)
           found None is role = absurd (false≢true role.0)
           found (Some id) is role = (ownee, id, held, is, role.1)
 
@@ -132,7 +135,8 @@ module _ (a : Assertions) (p : Placed) (r : RoleTable) (placed : IsPlaced p) (ri
       let rising : Rise (live_owners p.table a.owners) = AllPairs-filter (λ x y. x < y) (has_id (values_of a.owners)) (ids p.table) rise.rising in
       let many : length (map (id_at p.cells) r.owners) ≡ length r.owners = length-map r.owners (id_at p.cells) in
       let less_there = subst Rise (sym held) rising i j (id_at p.cells d) less (omega arith) in
-      subst (λ x. x < id_at p.cells (get_or r.owners j d)) (get_or-map (id_at p.cells) r.owners i d) (subst (λ y. get_or (map (id_at p.cells) r.owners) i (id_at p.cells d) < y) (get_or-map (id_at p.cells) r.owners j d) less_there)
+      subst (λ x. x < id_at p.cells (get_or r.owners j d)) (get_or-map (id_at p.cells) r.owners i d)
+      (subst (λ y. get_or (map (id_at p.cells) r.owners) i (id_at p.cells d) < y) (get_or-map (id_at p.cells) r.owners j d) less_there)
 
   pub roles_of_table : cells_of r ≡ length p.cells → kinds_of r ≡ length p.table.kinds → AreRolesOf p.cells (length p.table.kinds) r
   roles_of_table many_cells many_kinds = record {

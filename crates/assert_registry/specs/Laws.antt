@@ -44,7 +44,8 @@ pub record StandFor (p : Placed) (r : RoleTable) (h : Heap) : Type 0 where
 -- The roles that a registry gives stand for every heap in order with its assertions and this table.
 abbrev pub RolesStandForHeap : Type 0
 RolesStandForHeap =
-    (h : Heap) (a : Assertions) (p : Placed) (r : RoleTable) → RefersToLive h → IsOrdered h → HasAssertions h a → h.table ≡ p.table → IsDistinct bytes_eq p.table.kinds → AreRolesBy a p r → StandFor p r h
+    (h : Heap) (a : Assertions) (p : Placed) (r : RoleTable) → RefersToLive h → IsOrdered h → HasAssertions h a → h.table ≡ p.table →
+    IsDistinct bytes_eq p.table.kinds → AreRolesBy a p r → StandFor p r h
 
 -- The roles say of the object in a cell what the heap says of it by its id.
 pub record SayOfHeap (h : Heap) (p : Placed) (r : RoleTable) : Type 0 where
@@ -63,7 +64,8 @@ RolesSayOfHeap = (h : Heap) (p : Placed) (r : RoleTable) → IsPlaced p → Stan
 -- A type that was just seen has no limit.
 abbrev pub NewTypeHasNoLimit : Type 0
 NewTypeHasNoLimit =
-    (kinds : List (List ℕ)) (named : List (List ℕ × ℕ)) (numbered : List (Option ℕ)) (kind : List ℕ) → AreOfSeenTypes numbered kinds → LimitsAgree kinds named numbered → LimitsAgree (with_kind kinds kind) named numbered
+    (kinds : List (List ℕ)) (named : List (List ℕ × ℕ)) (numbered : List (Option ℕ)) (kind : List ℕ) → AreOfSeenTypes numbered kinds →
+    LimitsAgree kinds named numbered → LimitsAgree (with_kind kinds kind) named numbered
 
 -- More room changes no limit.
 abbrev pub RoomChangesNoLimit : Type 0
@@ -72,4 +74,6 @@ RoomChangesNoLimit = (limits : List (Option ℕ)) (kinds kind : ℕ) → limit_o
 -- The limit of a type is set by its number as it is set by its name.
 abbrev pub LimitIsSet : Type 0
 LimitIsSet =
-    (kinds : List (List ℕ)) (named : List (List ℕ × ℕ)) (numbered : List (Option ℕ)) (kind : List ℕ) (number limit : ℕ) → position (bytes_eq kind) kinds ≡ Some number → number < length numbered → LimitsAgree kinds named numbered → LimitsAgree kinds (insert_entry name_cmp named kind limit) (slice_set numbered number (Some limit))
+    (kinds : List (List ℕ)) (named : List (List ℕ × ℕ)) (numbered : List (Option ℕ)) (kind : List ℕ) (number limit : ℕ) →
+    position (bytes_eq kind) kinds ≡ Some number → number < length numbered → LimitsAgree kinds named numbered →
+    LimitsAgree kinds (insert_entry name_cmp named kind limit) (slice_set numbered number (Some limit))

@@ -10,7 +10,9 @@ use Rattle.graph_meaning.specs.Heap.{Heap, is_live}
 use Rattle.graph_meaning.specs.Laws.{AllLive}
 use Rattle.graph_meaning.specs.Reach.{has_id}
 use Rattle.graph_meaning.specs.Assertions.{traced_ids, reference_count}
-use Rattle.graph_meaning.specs.Collecting.{Rules, after_sweep, after_collection, holders_of, ids_to_clear, violating_dead, violating_kinds, violating_unshared, violating_ownees, dead_verdict, instances_verdict, unshared_verdict, ownedby_verdict, without_paths, all_verdicts, first_with_paths, collection_counted, collection_of}
+use Rattle.graph_meaning.specs.Collecting.{Rules, after_sweep, after_collection, holders_of, ids_to_clear, violating_dead, violating_kinds}
+use Rattle.graph_meaning.specs.Collecting.{violating_unshared, violating_ownees, dead_verdict, instances_verdict, unshared_verdict, ownedby_verdict}
+use Rattle.graph_meaning.specs.Collecting.{without_paths, all_verdicts, first_with_paths, collection_counted, collection_of}
 use Rattle.graph_meaning.specs.Roles.{RoleTable}
 use Rattle.object_table.specs.Placed.{Placed, IsPlaced}
 use Rattle.assert_registry.specs.Laws.{StandFor}
@@ -23,7 +25,10 @@ use Rattle.audit_core.specs.Audit.{Audit, AreItsRoles, placed_of, next_collectio
 
 -- ---- the numbers and verdicts of a collection
 
-pub found_by : (count : ℕ → ℕ) (h : Heap) (rules : Rules) (number live traced freed cleared : ℕ) (verdicts : List Verdict) → live ≡ length h.table.objects → traced ≡ length (traced_ids h) → freed ≡ length h.table.objects - length (traced_ids h) → cleared ≡ holders_of (has_id (ids_to_clear rules h)) (after_sweep h).table → verdicts ≡ first_with_paths rules.paths (all_verdicts count h) → (let c : Collection = record { number = number; live = live; traced = traced; freed = freed; cleared = cleared; verdicts = verdicts } in c) ≡ collection_counted count rules number h
+pub found_by : (count : ℕ → ℕ) (h : Heap) (rules : Rules) (number live traced freed cleared : ℕ) (verdicts : List Verdict) →
+    live ≡ length h.table.objects → traced ≡ length (traced_ids h) → freed ≡ length h.table.objects - length (traced_ids h) →
+    cleared ≡ holders_of (has_id (ids_to_clear rules h)) (after_sweep h).table → verdicts ≡ first_with_paths rules.paths (all_verdicts count h) →
+    (let c : Collection = record { number = number; live = live; traced = traced; freed = freed; cleared = cleared; verdicts = verdicts } in c) ≡ collection_counted count rules number h
 unfolding collection_counted
 found_by count h rules number live traced freed cleared verdicts live_is traced_is freed_is cleared_is verdicts_are = λ i. record {
   number = number;
@@ -66,7 +71,9 @@ verdicts-of count rules number h = refl
 
 -- ---- what is left
 
-pub left_by : (count : ℕ → ℕ) (a : Audit) (after : List (Option ℕ)) (left : Heap) (found : ℕ) (verdicts : List Verdict) → left ≡ after_collection a.rules a.heap → found ≡ length verdicts → verdicts ≡ first_with_paths a.rules.paths (all_verdicts count a.heap) → record a { heap = left; cells = after; collections = a.collections + 1; violations = a.violations + found } ≡ record (after_next a) { cells = after }
+pub left_by : (count : ℕ → ℕ) (a : Audit) (after : List (Option ℕ)) (left : Heap) (found : ℕ) (verdicts : List Verdict) →
+    left ≡ after_collection a.rules a.heap → found ≡ length verdicts → verdicts ≡ first_with_paths a.rules.paths (all_verdicts count a.heap) →
+    record a { heap = left; cells = after; collections = a.collections + 1; violations = a.violations + found } ≡ record (after_next a) { cells = after }
 unfolding after_next
 left_by count a after left found verdicts left_is found_is verdicts_are =
     λ i. record {
@@ -121,7 +128,8 @@ module _ (p : Placed) (placed : IsPlaced p) (h : Heap) (table : h.table ≡ p.ta
       ap (λ vs. record (collection_of rules number h) { verdicts = first_with_paths rules.paths vs }) (verdicts_agree live)
 
 -- A collection by the counts of a trace is the next collection, where these are the numbers of references.
-pub counted_as_defined : (a : Audit) (p : Placed) → p ≡ placed_of a → IsPlaced p → (r : RoleTable) → AreItsRoles a r → (t : TraceResult) → ((h : Heap) → StandFor p r h → CountsReferences p h t) → next_counted t a ≡ next_collection a
+pub counted_as_defined : (a : Audit) (p : Placed) → p ≡ placed_of a → IsPlaced p → (r : RoleTable) → AreItsRoles a r → (t : TraceResult) →
+    ((h : Heap) → StandFor p r h → CountsReferences p h t) → next_counted t a ≡ next_collection a
 counted_as_defined a p is placed r roles t counts =
     let at = placed_of a in
     let placed_there : IsPlaced at = subst IsPlaced is placed in

@@ -9,7 +9,9 @@ use Rattle.graph_meaning.specs.Heap.{Heap}
 use Rattle.graph_meaning.specs.Collecting.{Rules}
 use Rattle.trace_reader.specs.Meaning.{Item, blank, event, refused}
 use Rattle.run_meaning.specs.Run as meant
-use Rattle.run_meaning.specs.Run.{RunRules, collection_rules, Totals, RunState, Turn, Ran, with_collections, violations_of, turn, turn_of_item, turn_by_step, end_of_trace, refused_line, halted, is_halted, is_at_end, empty_run, with_earlier, run_status, first_state, run}
+use Rattle.run_meaning.specs.Run.{RunRules, collection_rules, Totals, RunState, Turn, Ran, with_collections, violations_of, turn, turn_of_item}
+use Rattle.run_meaning.specs.Run.{turn_by_step, end_of_trace, refused_line, halted, is_halted, is_at_end, empty_run, with_earlier, run_status}
+use Rattle.run_meaning.specs.Run.{first_state, run}
 use Rattle.report.specs.Text.{halt_text}
 use Rattle.report.specs.Report.{collections_text, report_text}
 use Rattle.trace_run.specs.Program as program
@@ -53,7 +55,8 @@ step-any_lines : (rules : RunRules) (h : Heap) (t : Totals) (m n : ℕ) (made : 
 step-any_lines rules h t m n (Ok after) = refl
 step-any_lines rules h t m n (Err r) = refl
 
-pub turn-any_lines : (rules : RunRules) (s : RunState) (n : ℕ) (e : Event) → effect_of rules (turn (collection_rules rules) (record s { lines = n }) e) ≡ effect_of rules (turn (collection_rules rules) s e)
+pub turn-any_lines : (rules : RunRules) (s : RunState) (n : ℕ) (e : Event) →
+    effect_of rules (turn (collection_rules rules) (record s { lines = n }) e) ≡ effect_of rules (turn (collection_rules rules) s e)
 unfolding turn
 turn-any_lines rules s n Collect = refl
 turn-any_lines rules s n (Alloc id kind slots thread) = step-any_lines rules s.heap s.totals n s.lines _
@@ -99,36 +102,39 @@ at_refusal : (before : Totals) (line : ℕ) (r : Refusal) → report_on (ends_so
 at_refusal before line r = Report-equal _ _ (sym (report_text-empty_run before (refused_line line r))) refl (sym (run_status-empty_run before (refused_line line r))) refl refl
 
 -- one item more, where the reports are the same from every state behind it
-module _ (rules : RunRules) (s : RunState) (item : Item) (items : List Item) (later : (t : RunState) → report_on (program.run audit_meaning (state_of rules t) t.lines items) ≡ report_from t.totals (run rules t items)) where
-  abbrev next : AuditState → program.Ran
-  next t = program.run audit_meaning t (s.lines + 1) items
+module _ (rules : RunRules) (s : RunState) (item : Item) (items : List Item)
+    (later : (t : RunState) → report_on (program.run audit_meaning (state_of rules t) t.lines items) ≡ report_from t.totals (run rules t items))
+  where
+    abbrev next : AuditState → program.Ran
+    next t = program.run audit_meaning t (s.lines + 1) items
 
-  of_turn : (t : Turn) → turn_of_item (collection_rules rules) s item ≡ Ok t → (b : Bool) → meant.halts rules.react t.collections ≡ b →
-      report_on (by_effect (s.lines + 1) (effect_of_turn rules t) next) ≡ report_from s.totals (run rules s (item ∷ items))
-  of_turn t is true stops =
-      let ending : meant.Ending = halted t.state.totals.collections (violations_of t.collections) in
-      let before = with_collections s.totals t.collections in
-      ap (λ (b : Bool). report_on (by_effect (s.lines + 1) (effect_by rules t b) next)) stops
-      ∙ from-with_earlier s.totals t.collections (empty_run ending) (ends_so (program.halted (record { text = halt_text t.state.totals.collections (violations_of t.collections); violated = true })))
-      (Report-equal _ _ (sym (report_text-empty_run before ending)) refl (sym (run_status-empty_run before ending)) refl refl)
-      ∙ ap (report_from s.totals) (sym (run-halts rules s item t items is stops))
-  of_turn t is false on =
-      let turned : IsTurn s t = IsTurn-of_item (collection_rules rules) s item t is in
-      ap (λ (b : Bool). report_on (by_effect (s.lines + 1) (effect_by rules t b) next)) on
-      ∙ from-with_earlier s.totals t.collections (run rules t.state items) (next (state_of rules t.state))
-      (ap (λ n. report_on (program.run audit_meaning (state_of rules t.state) n items)) (sym turned.lines)
-      ∙ later t.state
-      ∙ ap (λ b. report_from b (run rules t.state items)) turned.totals)
-      ∙ ap (report_from s.totals) (sym (run-goes_on rules s item t items is on))
+    of_turn : (t : Turn) → turn_of_item (collection_rules rules) s item ≡ Ok t → (b : Bool) → meant.halts rules.react t.collections ≡ b →
+        report_on (by_effect (s.lines + 1) (effect_of_turn rules t) next) ≡ report_from s.totals (run rules s (item ∷ items))
+    of_turn t is true stops =
+        let ending : meant.Ending = halted t.state.totals.collections (violations_of t.collections) in
+        let before = with_collections s.totals t.collections in
+        ap (λ (b : Bool). report_on (by_effect (s.lines + 1) (effect_by rules t b) next)) stops
+        ∙ from-with_earlier s.totals t.collections (empty_run ending) (ends_so (program.halted (record { text = halt_text t.state.totals.collections (violations_of t.collections); violated = true })))
+        (Report-equal _ _ (sym (report_text-empty_run before ending)) refl (sym (run_status-empty_run before ending)) refl refl)
+        ∙ ap (report_from s.totals) (sym (run-halts rules s item t items is stops))
+    of_turn t is false on =
+        let turned : IsTurn s t = IsTurn-of_item (collection_rules rules) s item t is in
+        ap (λ (b : Bool). report_on (by_effect (s.lines + 1) (effect_by rules t b) next)) on
+        ∙ from-with_earlier s.totals t.collections (run rules t.state items) (next (state_of rules t.state))
+        (ap (λ n. report_on (program.run audit_meaning (state_of rules t.state) n items)) (sym turned.lines)
+        ∙ later t.state
+        ∙ ap (λ b. report_from b (run rules t.state items)) turned.totals)
+        ∙ ap (report_from s.totals) (sym (run-goes_on rules s item t items is on))
 
-  by_case : (o : Result Turn Refusal) → turn_of_item (collection_rules rules) s item ≡ o → report_on (by_effect (s.lines + 1) (effect_of rules o) next) ≡ report_from s.totals (run rules s (item ∷ items))
-  by_case (Ok t) is = of_turn t is (meant.halts rules.react t.collections) refl
-  by_case (Err r) is = at_refusal s.totals (s.lines + 1) r ∙ ap (report_from s.totals) (sym (run-ends rules s item r items is))
+    by_case : (o : Result Turn Refusal) → turn_of_item (collection_rules rules) s item ≡ o →
+        report_on (by_effect (s.lines + 1) (effect_of rules o) next) ≡ report_from s.totals (run rules s (item ∷ items))
+    by_case (Ok t) is = of_turn t is (meant.halts rules.react t.collections) refl
+    by_case (Err r) is = at_refusal s.totals (s.lines + 1) r ∙ ap (report_from s.totals) (sym (run-ends rules s item r items is))
 
-  same_item : report_on (program.run audit_meaning (state_of rules s) s.lines (item ∷ items)) ≡ report_from s.totals (run rules s (item ∷ items))
-  same_item =
-      ap report_on (runs.run-takes audit_meaning (state_of rules s) s.lines item items ∙ ap (λ e. by_effect (s.lines + 1) e next) (takes-turn rules s item))
-      ∙ by_case (turn_of_item (collection_rules rules) s item) refl
+    same_item : report_on (program.run audit_meaning (state_of rules s) s.lines (item ∷ items)) ≡ report_from s.totals (run rules s (item ∷ items))
+    same_item =
+        ap report_on (runs.run-takes audit_meaning (state_of rules s) s.lines item items ∙ ap (λ e. by_effect (s.lines + 1) e next) (takes-turn rules s item))
+        ∙ by_case (turn_of_item (collection_rules rules) s item) refl
 
 pub same_report : (rules : RunRules) (s : RunState) (items : List Item) → report_on (program.run audit_meaning (state_of rules s) s.lines items) ≡ report_from s.totals (run rules s items)
 same_report rules s [] =

@@ -12,7 +12,8 @@ use Rattle.audit_run.specs.Outcome.{Ended}
 -- Each fact of a run follows, whatever the status.
 abbrev pub FactsFollow : Type 0
 FactsFollow =
-    (rules : RunRules) (old new : Outside) (answer : Status) (bytes : List ℕ) → old.source.bytes ≡ Some bytes → Ended rules old new answer → HasFacts LONGEST_TRACE (audit_report rules) old new answer bytes
+    (rules : RunRules) (old new : Outside) (answer : Status) (bytes : List ℕ) → old.source.bytes ≡ Some bytes → Ended rules old new answer →
+    HasFacts LONGEST_TRACE (audit_report rules) old new answer bytes
 
 -- no read of a source that counts no faults is said to have failed
 abbrev pub NoReadFails : Type 0

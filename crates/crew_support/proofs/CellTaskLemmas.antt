@@ -51,7 +51,8 @@ module _ {J S : Type 0} (count : S → ℕ) (room turns : J → ℕ) (cells : �
   le-mul_right a b zero l = omega arith
   le-mul_right a b (suc c) l = let r = le-mul_right a b c l in let x : a * suc c ≡ a * c + a = omega arith in let y : b * suc c ≡ b * c + b = omega arith in omega arith
 
-  pub enough_turns : (js : List J) (fs : List (List Task)) → length js ≤ 16 → cells < 2 ^ 32 → AreCounters js → AreFirst (length js) cells fs → All (λ j. most_tasks (cells_meaning {J = J} {S = S} count room turns) js fs ≤ turns j) js
+  pub enough_turns : (js : List J) (fs : List (List Task)) → length js ≤ 16 → cells < 2 ^ 32 → AreCounters js → AreFirst (length js) cells fs →
+      All (λ j. most_tasks (cells_meaning {J = J} {S = S} count room turns) js fs ≤ turns j) js
   enough_turns js fs l m a b k d n =
       let t = (a k d n).1 in
       let f = few js fs a b in
@@ -72,7 +73,8 @@ at P [] i d a l = absurd (omega arith)
 at P (y ∷ ys) zero d a l = a.0
 at P (y ∷ ys) (suc i) d a l = at P ys i d a.1 (omega arith)
 
-pub first_more : (workers cells : ℕ) (fs : List (List Task)) (i c : ℕ) → AreFirst workers cells fs → i < workers → c < cells → length (slice_index_or fs i []) < 4 → AreFirst workers cells (set fs i (slice_index_or fs i [] ++ task_of c ∷ []))
+pub first_more : (workers cells : ℕ) (fs : List (List Task)) (i c : ℕ) → AreFirst workers cells fs → i < workers → c < cells →
+    length (slice_index_or fs i []) < 4 → AreFirst workers cells (set fs i (slice_index_or fs i [] ++ task_of c ∷ []))
 first_more workers cells fs i c a l m few =
     let f = slice_index_or fs i [] in
     let P : List Task → Type 0 = λ g. (length g ≤ 4) × AllFit (tasks_below cells) g in

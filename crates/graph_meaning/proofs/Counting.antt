@@ -1,5 +1,6 @@
 -- How many references all objects have together.
-use Rattle.std.proofs.Common.{◌≡◌, ℕ, zero, suc, ◌+◌, ◌<◌, ◌≤◌, Bool, true, false, ◌||◌, cond, ⊎_elim, List, [], ◌∷◌, length, filter, map, get_or, sym, ap, refl, subst, arith, ◌==◌, All, AllPairs, eqb-true, eq-eqb, length-append, Option, None, Some}
+use Rattle.std.proofs.Common.{◌≡◌, ℕ, zero, suc, ◌+◌, ◌<◌, ◌≤◌, Bool, true, false, ◌||◌, cond, ⊎_elim, List, [], ◌∷◌, length, filter, map, get_or}
+use Rattle.std.proofs.Common.{sym, ap, refl, subst, arith, ◌==◌, All, AllPairs, eqb-true, eq-eqb, length-append, Option, None, Some}
 use Rattle.std.specs.Prelude.{sum_by}
 use Rattle.std.specs.List.{flat_map, filter_map, cons_option, enumerate_from}
 use Rattle.std.specs.Option.{option_map_or}
@@ -187,7 +188,8 @@ refs_are h x =
     let both = length-append (roots_to t x) (flat_map (slots_to t x) (scanned_ids h)) in
     let named = length-map (filter (λ r. r.1 == x) t.roots) (λ r. by_root r.0) in
     let held = length-flat_map (slots_to t x) (scanned_ids h) in
-    let slots = sum_by_agree (λ s. length (slots_to t x s)) (λ s. length (filter (λ e. e.1 == x) (edges t s))) (λ s. length-map (filter (λ e. e.1 == x) (edges t s)) (λ e. by_slot s e.0)) (scanned_ids h) in
+    let slots =
+    sum_by_agree (λ s. length (slots_to t x s)) (λ s. length (filter (λ e. e.1 == x) (edges t s))) (λ s. length-map (filter (λ e. e.1 == x) (edges t s)) (λ e. by_slot s e.0)) (scanned_ids h) in
     omega arith
 
 -- as many as there are roots and slots

@@ -1,5 +1,6 @@
 -- Distances, and canonical paths: no path is shorter.
-use Rattle.std.proofs.Common.{◌≡◌, ℕ, zero, suc, ◌+◌, ◌<◌, ◌≤◌, Bool, true, false, ◌&&◌, ◌||◌, cond, ⊎_elim, List, [], ◌∷◌, ◌++◌, length, sym, ap, refl, subst, ◌∙◌, arith, IsTrue, ◌==◌, All, length-append, Option, None, Some}
+use Rattle.std.proofs.Common.{◌≡◌, ℕ, zero, suc, ◌+◌, ◌<◌, ◌≤◌, Bool, true, false, ◌&&◌, ◌||◌, cond, ⊎_elim, List, [], ◌∷◌, ◌++◌, length, sym, ap}
+use Rattle.std.proofs.Common.{refl, subst, ◌∙◌, arith, IsTrue, ◌==◌, All, length-append, Option, None, Some}
 use Rattle.std.specs.Prelude.{find}
 use Rattle.std.specs.List.{list_any, range_with_len}
 use Rattle.std.specs.Option.{is_some, option_map, option_and_then}
@@ -82,7 +83,8 @@ module _ (g : Graph) (sources : List ℕ) where
   pub within-along : (n x y : ℕ) → IsTrue (has_id (within g sources n) x) → IsTrue (g.passable x) → HasEdge g x y → IsTrue (has_id (within g sources (suc n)) y)
   unfolding within
   within-along n x y at passes edge =
-      has_id-filter (λ z. has_id (within g sources n) z || list_any (λ u. g.passable u && has_id (g.targets u) z) (within g sources n)) g.nodes y ∙ and_from _ _ (or_right _ _ (list_any-from_has_id (λ u. g.passable u && has_id (g.targets u) y) (within g sources n) x at (and_from _ _ passes edge.0))) edge.1
+      has_id-filter (λ z. has_id (within g sources n) z || list_any (λ u. g.passable u && has_id (g.targets u) z) (within g sources n)) g.nodes y
+      ∙ and_from _ _ (or_right _ _ (list_any-from_has_id (λ u. g.passable u && has_id (g.targets u) y) (within g sources n) x at (and_from _ _ passes edge.0))) edge.1
 
   within-path : (n x : ℕ) (steps : List ℕ) (y : ℕ) → IsTrue (has_id (within g sources n) x) → IsPath g x steps y → IsTrue (has_id (within g sources (n + length steps)) y)
   within-path n x [] y at path =

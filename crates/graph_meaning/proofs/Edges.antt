@@ -72,13 +72,15 @@ same_edge gone s past = go s.weak s.held past
     by y true here past = absurd (false≢true (sym past ∙ here))
     by y false here past = refl
 
-    go : (weak : Bool) (o : Option ℕ) → IfSome (edge_of (record { held = o; weak = weak })) (λ y. gone y ≡ false) → edge_of (slot_without gone (record { held = o; weak = weak })) ≡ edge_of (record { held = o; weak = weak })
+    go : (weak : Bool) (o : Option ℕ) → IfSome (edge_of (record { held = o; weak = weak })) (λ y. gone y ≡ false) →
+        edge_of (slot_without gone (record { held = o; weak = weak })) ≡ edge_of (record { held = o; weak = weak })
     go true None past = refl
     go false None past = refl
     go true (Some y) past = weak_by y (gone y)
     go false (Some y) past = by y (gone y) refl past
 
-same_edges : (gone : ℕ → Bool) (n : ℕ) (slots : List Slot) → All (λ s. IfSome (edge_of s) (λ y. gone y ≡ false)) slots → filter_map numbered_edge (enumerate_from n (map (slot_without gone) slots)) ≡ filter_map numbered_edge (enumerate_from n slots)
+same_edges : (gone : ℕ → Bool) (n : ℕ) (slots : List Slot) → All (λ s. IfSome (edge_of s) (λ y. gone y ≡ false)) slots →
+    filter_map numbered_edge (enumerate_from n (map (slot_without gone) slots)) ≡ filter_map numbered_edge (enumerate_from n slots)
 same_edges gone n [] past = refl
 same_edges gone n (s ∷ slots) past =
     let here = same_edge gone s (All-head (λ s. IfSome (edge_of s) (λ y. gone y ≡ false)) s slots past) in
@@ -124,7 +126,8 @@ keeps_edges h id live at =
     past : (s : Slot) → IfSome (edge_of s) (λ y. IsTrue (has_id (targets h.table id) y)) → HoldsLive h.table s → IfSome (edge_of s) (λ y. gone y ≡ false)
     past s held alive = by s.weak s.held held alive
       where
-        by : (weak : Bool) (o : Option ℕ) → IfSome (edge_of (record { held = o; weak = weak })) (λ y. IsTrue (has_id (targets h.table id) y)) → IfSome o (λ y. IsTrue (is_live h.table y)) → IfSome (edge_of (record { held = o; weak = weak })) (λ y. gone y ≡ false)
+        by : (weak : Bool) (o : Option ℕ) → IfSome (edge_of (record { held = o; weak = weak })) (λ y. IsTrue (has_id (targets h.table id) y)) →
+            IfSome o (λ y. IsTrue (is_live h.table y)) → IfSome (edge_of (record { held = o; weak = weak })) (λ y. gone y ≡ false)
         by true o held alive = tt
         by false None held alive = tt
         by false (Some y) held alive = ap not (has_id-traced_ids h y ∙ traced_along h id y at held (has_id-ids h.table y ∙ alive))
@@ -135,7 +138,9 @@ keeps_edges h id live at =
         let held = edges_lead 0 o.slots in
         let alive = find_All (λ u. u.id == id) (λ u. All (HoldsLive h.table) u.slots) h.table.objects o live.slots same in
         let are_targets : targets h.table id ≡ map (λ e. e.1) (edges_of o.slots) = ap (λ u. map (λ e. e.1) (edges_at u)) same in
-        same_edges gone 0 o.slots (λ k d within. past (get_or o.slots k d) (subst (λ ys. IfSome (edge_of (get_or o.slots k d)) (λ y. IsTrue (has_id ys y))) (sym are_targets) (held k d within)) (alive k d within))
+        same_edges gone 0 o.slots
+        (λ k d within. past (get_or o.slots k d)
+        (subst (λ ys. IfSome (edge_of (get_or o.slots k d)) (λ y. IsTrue (has_id ys y))) (sym are_targets) (held k d within)) (alive k d within))
 
 -- a filter by what a map gives has nothing that fails
 unnamed_after : (gone : ℕ → Bool) (t : Table) (x : ℕ) → gone x ≡ true → has_id (root_ids (cut_off gone t)) x ≡ false

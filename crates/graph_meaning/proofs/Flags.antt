@@ -37,7 +37,9 @@ module _ (flags : List Bool) (owners : List ℕ) (cell : ℕ) (flagged : IsFlagg
 
   same_flag : (x : ℕ) → x ≡ cell → get_or (set flags cell true) x false ≡ has_id (owners ++ cell ∷ []) x
   same_flag x e =
-      subst (λ y. get_or (set flags cell true) y false ≡ has_id (owners ++ cell ∷ []) y) (sym e) (get_or-set_same flags cell true false within ∙ sym (has_id-append owners (cell ∷ []) cell ∙ or_right (has_id owners cell) (has_id (cell ∷ []) cell) (ap (λ b. b || false) (eq-eqb cell cell refl))))
+      subst (λ y. get_or (set flags cell true) y false ≡ has_id (owners ++ cell ∷ []) y) (sym e)
+      (get_or-set_same flags cell true false within
+      ∙ sym (has_id-append owners (cell ∷ []) cell ∙ or_right (has_id owners cell) (has_id (cell ∷ []) cell) (ap (λ b. b || false) (eq-eqb cell cell refl))))
 
   other_flag : (x : ℕ) → x < length (set flags cell true) → x ≢ cell → get_or (set flags cell true) x false ≡ has_id (owners ++ cell ∷ []) x
   other_flag x inside ne =

@@ -1,5 +1,6 @@
 -- Facts on the definitions of heaps and of what operations leave.
-use Rattle.std.proofs.Common.{◌≡◌, ℕ, Bool, true, false, not, ◌&&◌, ◌||◌, cond, List, [], ◌∷◌, filter, map, replicate, get_or, sym, ap, refl, ◌∙◌, IsTrue, All, eq-eqb, eqb-true, ◌==◌, Option, None, Some, slice_set}
+use Rattle.std.proofs.Common.{◌≡◌, ℕ, Bool, true, false, not, ◌&&◌, ◌||◌, cond, List, [], ◌∷◌, filter, map, replicate, get_or, sym, ap, refl, ◌∙◌}
+use Rattle.std.proofs.Common.{IsTrue, All, eq-eqb, eqb-true, ◌==◌, Option, None, Some, slice_set}
 use Rattle.std.specs.Option.{option_map, option_or, is_some}
 use Rattle.std.proofs.lemmas.List.Folds.{find-append, list_any_at}
 use Rattle.graph_meaning.specs.Reach.{has_id}
@@ -32,7 +33,8 @@ object_at-map f same objects x =
 
 -- ---- which objects are live after an operation
 
-pub object_at-with_object : (t : Table) (id : ℕ) (kind : List ℕ) (slots x : ℕ) → object_at (with_object t id kind slots).objects x ≡ option_or (object_at t.objects x) (cond (id == x) (Some (record { id = id; kind = kind; slots = replicate slots empty_slot })) None)
+pub object_at-with_object : (t : Table) (id : ℕ) (kind : List ℕ) (slots x : ℕ) →
+    object_at (with_object t id kind slots).objects x ≡ option_or (object_at t.objects x) (cond (id == x) (Some (record { id = id; kind = kind; slots = replicate slots empty_slot })) None)
 unfolding with_object
 object_at-with_object t id kind slots x = find-append (λ o. o.id == x) t.objects (record { id = id; kind = kind; slots = replicate slots empty_slot } ∷ [])
 
@@ -48,7 +50,8 @@ id-with_slot at slot change o = go (o.id == at)
     go true = refl
     go false = refl
 
-pub object_at-with_change : (t : Table) (at slot : ℕ) (change : Slot → Slot) (x : ℕ) → object_at (with_changed_slot t at slot change).objects x ≡ option_map (with_slot at slot change) (object_at t.objects x)
+pub object_at-with_change : (t : Table) (at slot : ℕ) (change : Slot → Slot) (x : ℕ) →
+    object_at (with_changed_slot t at slot change).objects x ≡ option_map (with_slot at slot change) (object_at t.objects x)
 unfolding with_changed_slot
 object_at-with_change t at slot change x = object_at-map (with_slot at slot change) (id-with_slot at slot change) t.objects x
 
@@ -63,7 +66,8 @@ objects-with_root t name (Some id) = refl
 
 -- ---- which objects are live after a collection
 
-pub object_at-with_only : (kept : List ℕ) (t : Table) (x : ℕ) → object_at (with_only kept t).objects x ≡ option_map (object_without (λ id. not (has_id kept id))) (cond (has_id kept x) (object_at t.objects x) None)
+pub object_at-with_only : (kept : List ℕ) (t : Table) (x : ℕ) →
+    object_at (with_only kept t).objects x ≡ option_map (object_without (λ id. not (has_id kept id))) (cond (has_id kept x) (object_at t.objects x) None)
 unfolding with_only
 object_at-with_only kept t x =
     let gone = λ (id : ℕ). not (has_id kept id) in
@@ -72,7 +76,9 @@ object_at-with_only kept t x =
 
 pub is_live-with_only : (kept : List ℕ) (t : Table) (x : ℕ) → is_live (with_only kept t) x ≡ (has_id kept x && is_live t x)
 is_live-with_only kept t x =
-    ap is_some (object_at-with_only kept t x) ∙ is_some-option_map (object_without (λ id. not (has_id kept id))) (cond (has_id kept x) (object_at t.objects x) None) ∙ is_some-cond (has_id kept x) (object_at t.objects x)
+    ap is_some (object_at-with_only kept t x)
+    ∙ is_some-option_map (object_without (λ id. not (has_id kept id))) (cond (has_id kept x) (object_at t.objects x) None)
+    ∙ is_some-cond (has_id kept x) (object_at t.objects x)
 
 pub object_at-cut_off : (gone : ℕ → Bool) (t : Table) (x : ℕ) → object_at (cut_off gone t).objects x ≡ option_map (object_without gone) (object_at t.objects x)
 object_at-cut_off gone t x = object_at-map (object_without gone) (λ o. refl) t.objects x

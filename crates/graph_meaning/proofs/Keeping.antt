@@ -1,5 +1,6 @@
 -- Whatever a heap refers to is live, whatever operations and collections there were; and what a collection keeps.
-use Rattle.std.proofs.Common.{◌≡◌, ℕ, Bool, true, false, not, ◌&&◌, cond, ⊎_elim, List, [], ◌∷◌, ◌++◌, length, filter, map, get_or, fold, sym, ap, refl, subst, ◌∙◌, arith, IsTrue, All, eq-eqb, slice_set, ◌==◌, Option, None, Some, IfOk}
+use Rattle.std.proofs.Common.{◌≡◌, ℕ, Bool, true, false, not, ◌&&◌, cond, ⊎_elim, List, [], ◌∷◌, ◌++◌, length, filter, map, get_or, fold, sym, ap}
+use Rattle.std.proofs.Common.{refl, subst, ◌∙◌, arith, IsTrue, All, eq-eqb, slice_set, ◌==◌, Option, None, Some, IfOk}
 use Rattle.std.specs.Option.{option_map_or, IfSome}
 use Rattle.std.specs.Ordering.{nat_cmp}
 use Rattle.std.specs.BTreeMap.{is_at}
@@ -17,7 +18,8 @@ use Rattle.graph_meaning.specs.Reach.{has_id}
 use Rattle.graph_meaning.specs.Heap.{Slot, Object, Table, Heap, empty_heap, empty_slot, empty_table, ids, is_live, regions_of, name_cmp}
 use Rattle.graph_meaning.specs.Assertions.{root_ids, is_traced, traced_ids}
 use Rattle.graph_meaning.specs.Collecting.{Rules, slot_without, object_without, with_only, after_sweep, ids_to_clear, after_collection}
-use Rattle.graph_meaning.specs.Step.{first_refusal, refusal_where, not_live, target_refusal, store_refusal, root_refusal, with_object, with_slot, with_changed_slot, slot_holding, slot_made_weak, with_root, with_member, heap_unless, step}
+use Rattle.graph_meaning.specs.Step.{first_refusal, refusal_where, not_live, target_refusal, store_refusal, root_refusal, with_object, with_slot}
+use Rattle.graph_meaning.specs.Step.{with_changed_slot, slot_holding, slot_made_weak, with_root, with_member, heap_unless, step}
 use Rattle.graph_meaning.specs.Laws.{AllLive, HoldsLive, RefersToLive, HeapsReferToLive, KeepsTraced}
 use Rattle.graph_meaning.proofs.Membership.{map-filter, has_id-filter, has_id-Contains}
 use Rattle.graph_meaning.proofs.HeapLemmas.{has_id-ids, is_live-with_object, is_live-with_change, is_live-with_only, is_live-cut_off}
@@ -91,11 +93,15 @@ innermost-live t (r ∷ rs) live = live 0 [] (omega arith)
 keys_live-fold : (t : Table) (xs dead : List ℕ) → AllLive t xs → AllLive t dead → AllLive t (fold (insert_key nat_cmp) dead xs)
 keys_live-fold t [] dead live before = before
 keys_live-fold t (x ∷ xs) dead live before =
-    keys_live-fold t xs (insert_key nat_cmp dead x) (All-tail (λ id. IsTrue (is_live t id)) x xs live) (All-insert_key nat_cmp x (λ id. IsTrue (is_live t id)) dead before (All-head (λ id. IsTrue (is_live t id)) x xs live))
+    keys_live-fold t xs (insert_key nat_cmp dead x) (All-tail (λ id. IsTrue (is_live t id)) x xs live)
+    (All-insert_key nat_cmp x (λ id. IsTrue (is_live t id)) dead before (All-head (λ id. IsTrue (is_live t id)) x xs live))
 
 with_member-live : (t : Table) (rs : List (List (List ℕ))) (thread id : ℕ) → IsTrue (is_live t id) → All (All (AllLive t)) rs → All (All (AllLive t)) (with_member rs thread id)
 with_member-live t rs thread id new live =
-    All-set (All (AllLive t)) rs thread _ (All-map (AllLive t) (λ r. r ++ id ∷ []) (regions_of rs thread) (All-weaker (AllLive t) (λ r. AllLive t (r ++ id ∷ [])) (λ r old. All-push (λ i. IsTrue (is_live t i)) r id old new) (regions_of rs thread) (regions_of-live t rs thread live))) live
+    All-set (All (AllLive t)) rs thread _
+    (All-map (AllLive t) (λ r. r ++ id ∷ []) (regions_of rs thread)
+    (All-weaker (AllLive t) (λ r. AllLive t (r ++ id ∷ [])) (λ r old. All-push (λ i. IsTrue (is_live t i)) r id old new) (regions_of rs thread)
+    (regions_of-live t rs thread live))) live
 
 -- ---- each operation
 
@@ -115,7 +121,8 @@ alloc_keeps h id kind slots thread live =
     }
 
 -- a change to a slot after which it holds nothing or a live object
-change_keeps : (h : Heap) (at slot : ℕ) (change : Slot → Slot) → ((s : Slot) → HoldsLive h.table s → HoldsLive h.table (change s)) → RefersToLive h → RefersToLive (record h { table = with_changed_slot h.table at slot change })
+change_keeps : (h : Heap) (at slot : ℕ) (change : Slot → Slot) → ((s : Slot) → HoldsLive h.table s → HoldsLive h.table (change s)) →
+    RefersToLive h → RefersToLive (record h { table = with_changed_slot h.table at slot change })
 unfolding with_changed_slot
 change_keeps h at slot change holds live =
     let t = h.table in
@@ -123,7 +130,11 @@ change_keeps h at slot change holds live =
     let more = λ (x : ℕ) (old : IsTrue (is_live t x)). is_live-with_change t at slot change x ∙ old in
     record {
       roots = AllLive-more t u more (root_ids t) live.roots;
-      slots = slots-more t u more u.objects (All-map (λ o. All (HoldsLive t) o.slots) (with_slot at slot change) t.objects (All-weaker (λ o. All (HoldsLive t) o.slots) (λ o. All (HoldsLive t) (with_slot at slot change o).slots) (λ o old. changed o (o.id == at) old) t.objects live.slots));
+      slots =
+          slots-more t u more u.objects
+          (All-map (λ o. All (HoldsLive t) o.slots) (with_slot at slot change) t.objects
+          (All-weaker (λ o. All (HoldsLive t) o.slots) (λ o. All (HoldsLive t) (with_slot at slot change o).slots)
+          (λ o old. changed o (o.id == at) old) t.objects live.slots));
       dead = AllLive-more t u more h.dead live.dead;
       unshared = AllLive-more t u more h.unshared live.unshared;
       regions = regions-more t u more h.regions live.regions;
@@ -137,7 +148,8 @@ change_keeps h at slot change holds live =
         (λ past. subst (HoldsLive h.table) (sym (get_or_past slots slot empty_slot past)) tt)
         (cases_lt slot (length slots))
 
-    changed : (o : Object) (b : Bool) → All (HoldsLive h.table) o.slots → All (HoldsLive h.table) (cond b (record o { slots = slice_set o.slots slot (change (get_or o.slots slot empty_slot)) }) o).slots
+    changed : (o : Object) (b : Bool) → All (HoldsLive h.table) o.slots →
+        All (HoldsLive h.table) (cond b (record o { slots = slice_set o.slots slot (change (get_or o.slots slot empty_slot)) }) o).slots
     changed o true old = All-set (HoldsLive h.table) o.slots slot _ (holds _ (slot_at o.slots old)) old
     changed o false old = old
 
@@ -161,7 +173,10 @@ root_keeps h name (Some id) none live = record {
 }
 
 -- an operation that leaves the table as it is
-assertion_keeps : (h : Heap) (dead unshared : List ℕ) (regions : List (List (List ℕ))) (limits : List (List ℕ × ℕ)) (owners : List (ℕ × ℕ)) → AllLive h.table dead → AllLive h.table unshared → All (All (AllLive h.table)) regions → AllLive h.table (map (λ o. o.0) owners) → RefersToLive h → RefersToLive (record { table = h.table; dead = dead; unshared = unshared; regions = regions; limits = limits; owners = owners })
+assertion_keeps : (h : Heap) (dead unshared : List ℕ) (regions : List (List (List ℕ))) (limits : List (List ℕ × ℕ)) (owners : List (ℕ × ℕ)) →
+    AllLive h.table dead → AllLive h.table unshared → All (All (AllLive h.table)) regions → AllLive h.table (map (λ o. o.0) owners) →
+    RefersToLive h →
+    RefersToLive (record { table = h.table; dead = dead; unshared = unshared; regions = regions; limits = limits; owners = owners })
 assertion_keeps h dead unshared regions limits owners dead_live unshared_live regions_live owners_live live = record {
   roots = live.roots;
   slots = live.slots;
@@ -179,12 +194,21 @@ step_keeps h (Store at slot to) live =
 step_keeps h (SetWeak at slot weak) live = IfOk-unless RefersToLive _ _ (λ none. change_keeps h at slot (slot_made_weak weak) (λ s old. old) live)
 step_keeps h (Root name to) live = IfOk-unless RefersToLive _ _ (λ none. root_keeps h name to none live)
 step_keeps h (AssertDead id) live =
-    IfOk-unless RefersToLive _ _ (λ none. assertion_keeps h _ h.unshared h.regions h.limits h.owners (All-insert_key nat_cmp id (λ x. IsTrue (is_live h.table x)) h.dead live.dead (not_live-None h.table id none)) live.unshared live.regions live.ownees live)
+    IfOk-unless RefersToLive _ _
+    (λ none. assertion_keeps h _ h.unshared h.regions h.limits h.owners
+    (All-insert_key nat_cmp id (λ x. IsTrue (is_live h.table x)) h.dead live.dead (not_live-None h.table id none)) live.unshared live.regions
+    live.ownees live)
 step_keeps h (StartRegion thread) live =
-    IfOk-unless RefersToLive _ _ (λ none. assertion_keeps h h.dead h.unshared _ h.limits h.owners live.dead live.unshared (All-set (All (AllLive h.table)) h.regions thread _ (All-cons (AllLive h.table) [] (regions_of h.regions thread) (All-nil _) (regions_of-live h.table h.regions thread live.regions)) live.regions) live.ownees live)
+    IfOk-unless RefersToLive _ _
+    (λ none. assertion_keeps h h.dead h.unshared _ h.limits h.owners live.dead live.unshared
+    (All-set (All (AllLive h.table)) h.regions thread _
+    (All-cons (AllLive h.table) [] (regions_of h.regions thread) (All-nil _) (regions_of-live h.table h.regions thread live.regions)) live.regions)
+    live.ownees live)
 step_keeps h (AssertAllDead thread) live =
     let opened = regions_of-live h.table h.regions thread live.regions in
-    IfOk-unless RefersToLive _ _ (λ none. assertion_keeps h _ h.unshared _ h.limits h.owners (keys_live-fold h.table _ h.dead (innermost-live h.table _ opened) live.dead) live.unshared (All-set (All (AllLive h.table)) h.regions thread _ (All-drop (AllLive h.table) 1 _ opened) live.regions) live.ownees live)
+    IfOk-unless RefersToLive _ _
+    (λ none. assertion_keeps h _ h.unshared _ h.limits h.owners (keys_live-fold h.table _ h.dead (innermost-live h.table _ opened) live.dead)
+    live.unshared (All-set (All (AllLive h.table)) h.regions thread _ (All-drop (AllLive h.table) 1 _ opened) live.regions) live.ownees live)
 step_keeps h (AssertInstances kind limit) live = IfOk-unless RefersToLive _ _ (λ none. record {
   roots = live.roots;
   slots = live.slots;
@@ -194,9 +218,15 @@ step_keeps h (AssertInstances kind limit) live = IfOk-unless RefersToLive _ _ (�
   ownees = live.ownees;
 })
 step_keeps h (AssertUnshared id) live =
-    IfOk-unless RefersToLive _ _ (λ none. assertion_keeps h h.dead _ h.regions h.limits h.owners live.dead (All-insert_key nat_cmp id (λ x. IsTrue (is_live h.table x)) h.unshared live.unshared (not_live-None h.table id none)) live.regions live.ownees live)
+    IfOk-unless RefersToLive _ _
+    (λ none. assertion_keeps h h.dead _ h.regions h.limits h.owners live.dead
+    (All-insert_key nat_cmp id (λ x. IsTrue (is_live h.table x)) h.unshared live.unshared (not_live-None h.table id none)) live.regions live.ownees
+    live)
 step_keeps h (AssertOwnedBy owner ownee) live =
-    IfOk-unless RefersToLive _ _ (λ none. assertion_keeps h h.dead h.unshared h.regions h.limits _ live.dead live.unshared live.regions (All-keys-insert_entry nat_cmp ownee owner (λ x. IsTrue (is_live h.table x)) h.owners live.ownees (not_live-None h.table ownee (first_of-None _ _ (first_of-None _ _ none).1).0)) live)
+    IfOk-unless RefersToLive _ _
+    (λ none. assertion_keeps h h.dead h.unshared h.regions h.limits _ live.dead live.unshared live.regions
+    (All-keys-insert_entry nat_cmp ownee owner (λ x. IsTrue (is_live h.table x)) h.owners live.ownees
+    (not_live-None h.table ownee (first_of-None _ _ (first_of-None _ _ none).1).0)) live)
 step_keeps h Collect live = live
 
 -- ---- a collection
@@ -269,7 +299,8 @@ module _ (rules : Rules) (h : Heap) where
       let alive : IsTrue (is_live h.table id) =
       subst (λ x. IsTrue (is_live h.table x)) (get_or-map (λ (r : List ℕ × ℕ). r.1) h.table.roots k d 0 within) (live.roots k 0 (rw length-map within)) in
       let named : IsTrue (has_id (root_ids h.table) id) =
-      subst (λ x. IsTrue (has_id (root_ids h.table) x)) (get_or-map (λ (r : List ℕ × ℕ). r.1) h.table.roots k d 0 within) ((has_id-Contains (root_ids h.table) _).1 (Contains-get_or (root_ids h.table) k 0 (rw length-map within))) in
+      subst (λ x. IsTrue (has_id (root_ids h.table) x)) (get_or-map (λ (r : List ℕ × ℕ). r.1) h.table.roots k d 0 within)
+      ((has_id-Contains (root_ids h.table) _).1 (Contains-get_or (root_ids h.table) k 0 (rw length-map within))) in
       traced_stays id (has_id-traced_ids h id ∙ traced_from_root h id named (has_id-ids h.table id ∙ alive))
 
   collect_keeps : RefersToLive h → RefersToLive (after_collection rules h)
@@ -277,11 +308,15 @@ module _ (rules : Rules) (h : Heap) where
   collect_keeps live =
       let kept = traced_ids h in
       record {
-        roots = All-map (λ id. IsTrue (is_live left id)) (λ r. r.1) left.roots (All-filter (λ r. not (has_id (ids_to_clear rules h) r.1)) (λ r. IsTrue (is_live left r.1)) h.table.roots (root_stays live));
+        roots =
+            All-map (λ id. IsTrue (is_live left id)) (λ r. r.1) left.roots (All-filter (λ r. not (has_id (ids_to_clear rules h) r.1)) (λ r. IsTrue (is_live left r.1)) h.table.roots (root_stays live));
         slots = kept_slots (has_id (ids_to_clear rules h)) (filter (λ o. has_id kept o.id) h.table.objects);
         dead = AllLive-kept h.dead;
         unshared = AllLive-kept h.unshared;
-        regions = All-map (All (AllLive left)) (map (filter (has_id kept))) h.regions (λ k d within. All-map (AllLive left) (filter (has_id kept)) (get_or h.regions k d) (λ i e inside. AllLive-kept (get_or (get_or h.regions k d) i e)));
+        regions =
+            All-map (All (AllLive left)) (map (filter (has_id kept))) h.regions
+            (λ k d within. All-map (AllLive left) (filter (has_id kept)) (get_or h.regions k d)
+            (λ i e inside. AllLive-kept (get_or (get_or h.regions k d) i e)));
         ownees = subst (AllLive left) (sym (map-filter (has_id kept) (λ o. o.0) h.owners)) (AllLive-kept (map (λ o. o.0) h.owners));
       }
 

@@ -1,5 +1,6 @@
 -- What a heap keeps in order stays so, and there are never more roots and slots than there may be.
-use Rattle.std.proofs.Common.{◌≡◌, ℕ, ◌+◌, ◌<◌, ◌≤◌, ◌++◌, ◌&&◌, Bool, true, false, not, cond, ⊎_elim, List, [], ◌∷◌, length, filter, map, replicate, fold, get_or, sym, ap, refl, subst, ◌∙◌, arith, All, Option, None, Some, Result, Ok, Err, IfOk, slice_set}
+use Rattle.std.proofs.Common.{◌≡◌, ℕ, ◌+◌, ◌<◌, ◌≤◌, ◌++◌, ◌&&◌, Bool, true, false, not, cond, ⊎_elim, List, [], ◌∷◌, length, filter, map}
+use Rattle.std.proofs.Common.{replicate, fold, get_or, sym, ap, refl, subst, ◌∙◌, arith, All, Option, None, Some, Result, Ok, Err, IfOk, slice_set}
 use Rattle.std.specs.Prelude.{sum_by, unwrap_or, slice_index_or, nat_le, nat_lt, ◌==◌}
 use Rattle.std.specs.Cmp.{IsTotalOrder}
 use Rattle.std.specs.List.Sorted.{IsStrictlySortedBy}
@@ -28,7 +29,8 @@ use Rattle.graph_meaning.specs.Reach.{has_id}
 use Rattle.graph_meaning.specs.Heap.{Slot, Object, Table, Heap, empty_heap, empty_slot, name_cmp, is_seen, regions_of, slot_count}
 use Rattle.graph_meaning.specs.Assertions.{traced_ids}
 use Rattle.graph_meaning.specs.Collecting.{Rules, slot_without, object_without, with_only, ids_to_clear, after_sweep, after_collection}
-use Rattle.graph_meaning.specs.Step.{first_refusal, refusal_where, kind_refusal, alloc_refusal, root_refusal, is_root, with_kind, with_object, slot_holding, slot_made_weak, with_changed_slot, with_root, with_slot, step}
+use Rattle.graph_meaning.specs.Step.{first_refusal, refusal_where, kind_refusal, alloc_refusal, root_refusal, is_root, with_kind, with_object}
+use Rattle.graph_meaning.specs.Step.{slot_holding, slot_made_weak, with_changed_slot, with_root, with_slot, step}
 use Rattle.graph_meaning.specs.Laws.{IsOrdered, IsWithinLimits, HeapsAreOrdered, LimitsAreKept}
 use Rattle.graph_meaning.proofs.Membership.{map-filter, length-filter_le}
 use Rattle.graph_meaning.proofs.Keeping.{first_of-None, refusal_where-None, IfOk-unless}
@@ -62,7 +64,9 @@ module _ {K : Type 0} (R : K → K → Ordering) where
     where
       go : (c : Ordering) → R k x ≡ c → IsStrictlySortedBy R (insert_key R xs k) → IsStrictlySortedBy R (match_ordering c (k ∷ x ∷ xs) (x ∷ xs) (x ∷ insert_key R xs k))
       go Less below rest =
-          sorted-cons k (x ∷ xs) (All-cons (λ y. R k y ≡ Less) x xs below (All-weaker (λ y. R x y ≡ Less) (λ y. R k y ≡ Less) (λ y above. o.trans k x y below above) xs (head_below x xs sorted))) sorted
+          sorted-cons k (x ∷ xs)
+          (All-cons (λ y. R k y ≡ Less) x xs below
+          (All-weaker (λ y. R x y ≡ Less) (λ y. R k y ≡ Less) (λ y above. o.trans k x y below above) xs (head_below x xs sorted))) sorted
       go Equal same rest = sorted
       go Greater above rest =
           sorted-cons x (insert_key R xs k) (All-insert_key R k (λ y. R x y ≡ Less) xs (head_below x xs sorted) (o.antisymm x k ∙ ap ordering_reverse above)) rest
@@ -71,7 +75,8 @@ module _ {K : Type 0} (R : K → K → Ordering) where
   keys-insert_entry [] k v = refl
   keys-insert_entry {X} (e ∷ es) k v = go (R k e.0) (keys-insert_entry es k v)
     where
-      go : (c : Ordering) → keys_of (insert_entry R es k v) ≡ insert_key R (keys_of es) k → keys_of (match_ordering c ((k, v) ∷ e ∷ es) ((e.0, v) ∷ es) (e ∷ insert_entry R es k v)) ≡ match_ordering c (k ∷ e.0 ∷ keys_of es) (e.0 ∷ keys_of es) (e.0 ∷ insert_key R (keys_of es) k)
+      go : (c : Ordering) → keys_of (insert_entry R es k v) ≡ insert_key R (keys_of es) k →
+          keys_of (match_ordering c ((k, v) ∷ e ∷ es) ((e.0, v) ∷ es) (e ∷ insert_entry R es k v)) ≡ match_ordering c (k ∷ e.0 ∷ keys_of es) (e.0 ∷ keys_of es) (e.0 ∷ insert_key R (keys_of es) k)
       go Less rest = refl
       go Equal rest = refl
       go Greater rest = ap (λ ks. e.0 ∷ ks) rest
@@ -114,12 +119,52 @@ step_orders h (Store at slot to) old = IfOk-unless IsOrdered _ _ (λ none. with_
 step_orders h (SetWeak at slot weak) old = IfOk-unless IsOrdered _ _ (λ none. with_table h _ h.regions old.roots old)
 step_orders h (Root name to) old =
     IfOk-unless IsOrdered _ _ (λ none. with_table h (with_root h.table name to) h.regions (roots-with_root h.table name to old.roots) old)
-step_orders h (AssertDead id) old = IfOk-unless IsOrdered _ _ (λ none. record { roots = old.roots; dead = sorted-insert_key nat_cmp nat_cmp_total h.dead id old.dead; unshared = old.unshared; limits = old.limits; owners = old.owners })
+step_orders h (AssertDead id) old =
+    IfOk-unless IsOrdered _ _
+    (λ none. record {
+      roots = old.roots;
+      dead = sorted-insert_key nat_cmp nat_cmp_total h.dead id old.dead;
+      unshared = old.unshared;
+      limits = old.limits;
+      owners = old.owners;
+    })
 step_orders h (StartRegion thread) old = IfOk-unless IsOrdered _ _ (λ none. with_table h h.table _ old.roots old)
-step_orders h (AssertAllDead thread) old = IfOk-unless IsOrdered _ _ (λ none. record { roots = old.roots; dead = sorted-fold (slice_index_or (regions_of h.regions thread) 0 []) h.dead old.dead; unshared = old.unshared; limits = old.limits; owners = old.owners })
-step_orders h (AssertInstances kind limit) old = IfOk-unless IsOrdered _ _ (λ none. record { roots = old.roots; dead = old.dead; unshared = old.unshared; limits = sorted-insert_entry name_cmp nat_list_cmp_total h.limits kind limit old.limits; owners = old.owners })
-step_orders h (AssertUnshared id) old = IfOk-unless IsOrdered _ _ (λ none. record { roots = old.roots; dead = old.dead; unshared = sorted-insert_key nat_cmp nat_cmp_total h.unshared id old.unshared; limits = old.limits; owners = old.owners })
-step_orders h (AssertOwnedBy owner ownee) old = IfOk-unless IsOrdered _ _ (λ none. record { roots = old.roots; dead = old.dead; unshared = old.unshared; limits = old.limits; owners = sorted-insert_entry nat_cmp nat_cmp_total h.owners ownee owner old.owners })
+step_orders h (AssertAllDead thread) old =
+    IfOk-unless IsOrdered _ _
+    (λ none. record {
+      roots = old.roots;
+      dead = sorted-fold (slice_index_or (regions_of h.regions thread) 0 []) h.dead old.dead;
+      unshared = old.unshared;
+      limits = old.limits;
+      owners = old.owners;
+    })
+step_orders h (AssertInstances kind limit) old =
+    IfOk-unless IsOrdered _ _
+    (λ none. record {
+      roots = old.roots;
+      dead = old.dead;
+      unshared = old.unshared;
+      limits = sorted-insert_entry name_cmp nat_list_cmp_total h.limits kind limit old.limits;
+      owners = old.owners;
+    })
+step_orders h (AssertUnshared id) old =
+    IfOk-unless IsOrdered _ _
+    (λ none. record {
+      roots = old.roots;
+      dead = old.dead;
+      unshared = sorted-insert_key nat_cmp nat_cmp_total h.unshared id old.unshared;
+      limits = old.limits;
+      owners = old.owners;
+    })
+step_orders h (AssertOwnedBy owner ownee) old =
+    IfOk-unless IsOrdered _ _
+    (λ none. record {
+      roots = old.roots;
+      dead = old.dead;
+      unshared = old.unshared;
+      limits = old.limits;
+      owners = sorted-insert_entry nat_cmp nat_cmp_total h.owners ownee owner old.owners;
+    })
 step_orders h Collect old = old
 
 -- a filter of roots by what they hold
@@ -129,7 +174,9 @@ sorted-filter_values p (r ∷ roots) sorted = go (p r.1) (sorted-filter_values p
   where
     go : (b : Bool) → IsStrictlySortedBy name_cmp (keys_of (filter (λ r. p r.1) roots)) → IsStrictlySortedBy name_cmp (keys_of (cond b (r ∷ filter (λ r. p r.1) roots) (filter (λ r. p r.1) roots)))
     go true rest =
-        sorted-cons name_cmp r.0 (keys_of (filter (λ r. p r.1) roots)) (All-map-filter (λ (f : List ℕ × ℕ). f.0) (λ f. p f.1) (λ y. name_cmp r.0 y ≡ Less) roots (head_below name_cmp r.0 (keys_of roots) sorted)) rest
+        sorted-cons name_cmp r.0 (keys_of (filter (λ r. p r.1) roots))
+        (All-map-filter (λ (f : List ℕ × ℕ). f.0) (λ f. p f.1) (λ y. name_cmp r.0 y ≡ Less) roots (head_below name_cmp r.0 (keys_of roots) sorted))
+        rest
     go false rest = rest
 
 collect_orders : (rules : Rules) (h : Heap) → IsOrdered h → IsOrdered (after_collection rules h)
@@ -162,7 +209,8 @@ sum_by-ones : {X : Type 0} (xs : List X) → sum_by (λ x. 1) xs ≡ length xs
 sum_by-ones [] = refl
 sum_by-ones (x ∷ xs) = let e = sum_by-cons (λ z. 1) x xs in let rest = sum_by-ones xs in omega arith
 
-length-insert_entry : {K X : Type 0} (R : K → K → Ordering) → IsTotalOrder R → (es : List (K × X)) (k : K) (v : X) → IsStrictlySortedBy R (keys_of es) → length (insert_entry R es k v) + unwrap_or (option_map (λ x. 1) (lookup (is_at (R k)) es)) 0 ≡ length es + 1
+length-insert_entry : {K X : Type 0} (R : K → K → Ordering) → IsTotalOrder R → (es : List (K × X)) (k : K) (v : X) →
+    IsStrictlySortedBy R (keys_of es) → length (insert_entry R es k v) + unwrap_or (option_map (λ x. 1) (lookup (is_at (R k)) es)) 0 ≡ length es + 1
 length-insert_entry R o es k v sorted =
     let all = sum_by-insert_entry (λ x. 1) o es k v sorted in
     let new = sum_by-ones (values_of (insert_entry R es k v)) in
@@ -179,7 +227,8 @@ length-remove_entry_le {K} {X} test (e ∷ es) = go (test e.0) (length-remove_en
     go true rest = omega arith
     go false rest = omega arith
 
-roots_few : (t : Table) (name : List ℕ) (to : Option ℕ) → root_refusal t name to ≡ None → IsStrictlySortedBy name_cmp (keys_of t.roots) → length t.roots ≤ MOST_ROOTS → length (with_root t name to).roots ≤ MOST_ROOTS
+roots_few : (t : Table) (name : List ℕ) (to : Option ℕ) → root_refusal t name to ≡ None → IsStrictlySortedBy name_cmp (keys_of t.roots) →
+    length t.roots ≤ MOST_ROOTS → length (with_root t name to).roots ≤ MOST_ROOTS
 unfolding with_root root_refusal
 roots_few t name None none sorted few = let fewer = length-remove_entry_le (is_at (name_cmp name)) t.roots in omega arith
 roots_few t name (Some id) none sorted few =
@@ -198,7 +247,8 @@ roots_few t name (Some id) none sorted few =
     counted (Some x) at = refl
 
 -- a change to objects that keeps how many slots they have
-same_slots : (f : Object → Object) → ((o : Object) → length (f o).slots ≡ length o.slots) → (objects : List Object) → sum_by (λ o. length o.slots) (map f objects) ≡ sum_by (λ o. length o.slots) objects
+same_slots : (f : Object → Object) → ((o : Object) → length (f o).slots ≡ length o.slots) → (objects : List Object) →
+    sum_by (λ o. length o.slots) (map f objects) ≡ sum_by (λ o. length o.slots) objects
 same_slots f same [] = refl
 same_slots f same (o ∷ objects) =
     let e = sum_by-cons (λ (u : Object). length u.slots) (f o) (map f objects) in
@@ -222,7 +272,8 @@ filter_fewer p (o ∷ objects) = go (p o) (filter_fewer p objects)
     count : List Object → ℕ
     count us = sum_by (λ u. length u.slots) us
 
-    go : (b : Bool) → sum_by (λ u. length u.slots) (filter p objects) ≤ sum_by (λ u. length u.slots) objects → sum_by (λ u. length u.slots) (cond b (o ∷ filter p objects) (filter p objects)) ≤ sum_by (λ u. length u.slots) (o ∷ objects)
+    go : (b : Bool) → sum_by (λ u. length u.slots) (filter p objects) ≤ sum_by (λ u. length u.slots) objects →
+        sum_by (λ u. length u.slots) (cond b (o ∷ filter p objects) (filter p objects)) ≤ sum_by (λ u. length u.slots) (o ∷ objects)
     go true rest =
         let e = sum_by-cons (λ (u : Object). length u.slots) o objects in
         let d = sum_by-cons (λ (u : Object). length u.slots) o (filter p objects) in
@@ -235,7 +286,9 @@ alloc_few t id kind slots none =
     let slots_and_kind = first_refusal (refusal_where (nat_lt MOST_SLOTS (slot_count t + slots)) TooManySlots) (kind_refusal t kind) in
     let risen = first_of-None (refusal_where (nat_le id t.greatest) (IdNotRising id)) (first_refusal (refusal_where (nat_le MOST_OBJECTS (length t.objects)) TooManyObjects) slots_and_kind) none in
     let held = first_of-None (refusal_where (nat_le MOST_OBJECTS (length t.objects)) TooManyObjects) slots_and_kind risen.1 in
-    let fits = refusal_where-None (nat_lt MOST_SLOTS (slot_count t + slots)) TooManySlots (first_of-None (refusal_where (nat_lt MOST_SLOTS (slot_count t + slots)) TooManySlots) (kind_refusal t kind) held.1).0 in
+    let fits =
+    refusal_where-None (nat_lt MOST_SLOTS (slot_count t + slots)) TooManySlots
+    (first_of-None (refusal_where (nat_lt MOST_SLOTS (slot_count t + slots)) TooManySlots) (kind_refusal t kind) held.1).0 in
     let room = ltb-false MOST_SLOTS (slot_count t + slots) fits in
     let e = sum_by-append (λ (o : Object). length o.slots) t.objects (record { id = id; kind = kind; slots = replicate slots empty_slot } ∷ []) in
     let d = sum_by-cons (λ (o : Object). length o.slots) (record { id = id; kind = kind; slots = replicate slots empty_slot }) [] in
@@ -279,7 +332,8 @@ change_few t at slot change old =
     let objects = old.objects in
     record { objects = omega arith; slots = omega arith; roots = old.roots; kinds = old.kinds }
 
-root_keeps_limits : (t : Table) (name : List ℕ) (to : Option ℕ) → root_refusal t name to ≡ None → IsStrictlySortedBy name_cmp (keys_of t.roots) → IsWithinLimits t → IsWithinLimits (with_root t name to)
+root_keeps_limits : (t : Table) (name : List ℕ) (to : Option ℕ) → root_refusal t name to ≡ None →
+    IsStrictlySortedBy name_cmp (keys_of t.roots) → IsWithinLimits t → IsWithinLimits (with_root t name to)
 unfolding with_root
 root_keeps_limits t name None none sorted old =
     record { objects = old.objects; slots = old.slots; roots = roots_few t name None none sorted old.roots; kinds = old.kinds }
@@ -303,7 +357,8 @@ step_few h (Root name to) old =
 step_few h (AssertDead id) old = IfOk-unless (λ next. IsWithinLimits next.table) _ _ (λ none. old.1)
 step_few h (StartRegion thread) old = IfOk-unless (λ next. IsWithinLimits next.table) _ _ (λ none. old.1)
 step_few h (AssertAllDead thread) old = IfOk-unless (λ next. IsWithinLimits next.table) _ _ (λ none. old.1)
-step_few h (AssertInstances kind limit) old = IfOk-unless (λ next. IsWithinLimits next.table) _ _ (λ none. record { objects = old.1.objects; slots = old.1.slots; roots = old.1.roots; kinds = kinds_few h.table kind none old.1.kinds })
+step_few h (AssertInstances kind limit) old =
+    IfOk-unless (λ next. IsWithinLimits next.table) _ _ (λ none. record { objects = old.1.objects; slots = old.1.slots; roots = old.1.roots; kinds = kinds_few h.table kind none old.1.kinds })
 step_few h (AssertUnshared id) old = IfOk-unless (λ next. IsWithinLimits next.table) _ _ (λ none. old.1)
 step_few h (AssertOwnedBy owner ownee) old = IfOk-unless (λ next. IsWithinLimits next.table) _ _ (λ none. old.1)
 step_few h Collect old = old.1

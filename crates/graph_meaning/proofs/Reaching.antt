@@ -70,7 +70,9 @@ module _ (g : Graph) (sources : List ℕ) where
       let before = within g sources n in
       ⊎_elim
       (λ more. inl more)
-      (λ few. inr (sym (within_is_filter n) ∙ filter-same_length (has_id before) (grown before) (λ x at. or_left _ _ at) g.nodes (subst (λ ys. length (filter (grown before) g.nodes) ≤ length ys) (sym (within_is_filter n)) few)))
+      (λ few. inr
+      (sym (within_is_filter n)
+      ∙ filter-same_length (has_id before) (grown before) (λ x at. or_left _ _ at) g.nodes (subst (λ ys. length (filter (grown before) g.nodes) ≤ length ys) (sym (within_is_filter n)) few)))
       (cases_lt (length before) (length (within g sources (suc n))))
 
   same_next : (n : ℕ) → within g sources n ≡ within g sources (suc n) → within g sources (suc n) ≡ within g sources (suc (suc n))
@@ -120,7 +122,8 @@ reached_nodes-closed g sources = record {
   along_edges = λ x y at passes edge.
       let found = reached_nodes g sources in
       subst (λ ys. has_id ys y ≡ true) (reached_nodes-next_round g sources)
-      (has_id-filter (grown g sources found) g.nodes y ∙ and_from _ _ (or_right _ _ (list_any-from_has_id (λ z. g.passable z && has_id (g.targets z) y) found x at (and_from _ _ passes edge.0))) edge.1);
+      (has_id-filter (grown g sources found) g.nodes y
+      ∙ and_from _ _ (or_right _ _ (list_any-from_has_id (λ z. g.passable z && has_id (g.targets z) y) found x at (and_from _ _ passes edge.0))) edge.1);
 }
 
 -- a closed test passes the end of each path from what it passes
@@ -147,7 +150,8 @@ IsClosed-is_reached g sources m closed with_only y =
     same_from_decides (m y) (has_id (reached_nodes g sources) y) (with_only y, IsClosed-reachable g sources m closed y) (reached_is_reachable g sources y)
 
 -- A node that is reached is a source, or an edge leads to it from a passable node that is reached.
-pub reached_nodes-last : (g : Graph) (sources : List ℕ) (y : ℕ) → IsTrue (has_id (reached_nodes g sources) y) → IsTrue (has_id sources y || list_any (λ x. g.passable x && has_id (g.targets x) y) (reached_nodes g sources))
+pub reached_nodes-last : (g : Graph) (sources : List ℕ) (y : ℕ) → IsTrue (has_id (reached_nodes g sources) y) →
+    IsTrue (has_id sources y || list_any (λ x. g.passable x && has_id (g.targets x) y) (reached_nodes g sources))
 reached_nodes-last g sources y at =
     let found = reached_nodes g sources in
     let arrived = λ (z : ℕ). has_id sources z || list_any (λ x. g.passable x && has_id (g.targets x) z) found in

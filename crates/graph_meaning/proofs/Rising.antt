@@ -56,8 +56,11 @@ rise_same t u same greatest rise = record {
 alloc_rises : (t : Table) (id : ℕ) (kind : List ℕ) (slots : ℕ) → t.greatest < id → IdsRise t → IdsRise (with_object t id kind slots)
 unfolding with_object
 alloc_rises t id kind slots new rise = record {
-  rising = subst (AllPairs (λ x y. x < y)) (sym (ids-with_object t id kind slots)) (all_pairs_push (λ x y. x < y) (ids t) id rise.rising (λ k d within. let low = rise.within k d within in omega arith));
-  within = subst (All (λ x. x ≤ id)) (sym (ids-with_object t id kind slots)) (All-push (λ x. x ≤ id) (ids t) id (All-weaker (λ x. x ≤ t.greatest) (λ x. x ≤ id) (λ x low. omega arith) (ids t) rise.within) (omega arith));
+  rising =
+      subst (AllPairs (λ x y. x < y)) (sym (ids-with_object t id kind slots)) (all_pairs_push (λ x y. x < y) (ids t) id rise.rising (λ k d within. let low = rise.within k d within in omega arith));
+  within =
+      subst (All (λ x. x ≤ id)) (sym (ids-with_object t id kind slots))
+      (All-push (λ x. x ≤ id) (ids t) id (All-weaker (λ x. x ≤ t.greatest) (λ x. x ≤ id) (λ x low. omega arith) (ids t) rise.within) (omega arith));
 }
 
 only_rises : (kept : List ℕ) (t : Table) → IdsRise t → IdsRise (with_only kept t)

@@ -1,5 +1,6 @@
 -- What is shown of a way leads through what is shown of the table.
-use Rattle.std.proofs.Common.{◌≡◌, ℕ, ◌+◌, ◌-◌, ◌*◌, max, ◌<◌, ◌≤◌, ◌&&◌, ◌==◌, drop, take, length, Bool, true, false, cond, List, [], ◌∷◌, ◌++◌, get_or, sym, ap, refl, subst, ◌∙◌, arith, IsTrue, All, Option, None, Some, eq-eqb, eqb-true, ⊎_elim}
+use Rattle.std.proofs.Common.{◌≡◌, ℕ, ◌+◌, ◌-◌, ◌*◌, max, ◌<◌, ◌≤◌, ◌&&◌, ◌==◌, drop, take, length, Bool, true, false, cond, List, [], ◌∷◌, ◌++◌}
+use Rattle.std.proofs.Common.{get_or, sym, ap, refl, subst, ◌∙◌, arith, IsTrue, All, Option, None, Some, eq-eqb, eqb-true, ⊎_elim}
 use Rattle.std.specs.Prelude.{zero, suc, slice_index_or, if◌then◌else◌, IfSome}
 use Rattle.std.proofs.Math.ListN.{get_or-map, get_or-eq_default}
 use Rattle.std.proofs.Math.Seq.{take-append_seam, drop-append_seam}
@@ -20,7 +21,8 @@ use Rattle.graph_meaning.proofs.Distances.{find_All}
 use Rattle.graph_meaning.proofs.Membership.{find-map}
 
 -- one step more is seen
-pub leads_on-drop : (v : HeapView) (x : ℕ) (steps : List PathStep) (i : ℕ) (s : PathStep) → i < length steps → get_or steps i s ≡ s → leads_on v x (drop i steps) ≡ (goes_by v x s && leads_on v s.id (drop (i + 1) steps))
+pub leads_on-drop : (v : HeapView) (x : ℕ) (steps : List PathStep) (i : ℕ) (s : PathStep) → i < length steps → get_or steps i s ≡ s →
+    leads_on v x (drop i steps) ≡ (goes_by v x s && leads_on v s.id (drop (i + 1) steps))
 unfolding leads_on
 leads_on-drop v x steps i s within here = ap (leads_on v x) (drop_more steps i s within) ∙ ap (λ z. goes_by v x z && leads_on v z.id (drop (i + 1) steps)) here
 
@@ -49,7 +51,8 @@ holds-edge t x slot y edge =
     ap (λ o. option_map_or (λ u. option_map_or (λ id. id == y) (slice_index_or u.slots slot None) false) o false) (shown-object_at t x)
     ∙ go (object_at t.objects x) edge
   where
-    go : (o : Option Object) → option_map_or (λ u. edge_of (slice_index_or u.slots slot empty_slot)) o None ≡ Some y → option_map_or (λ u. option_map_or (λ id. id == y) (slice_index_or u.slots slot None) false) (option_map object_view o) false ≡ true
+    go : (o : Option Object) → option_map_or (λ u. edge_of (slice_index_or u.slots slot empty_slot)) o None ≡ Some y →
+        option_map_or (λ u. option_map_or (λ id. id == y) (slice_index_or u.slots slot None) false) (option_map object_view o) false ≡ true
     go None edge = absurd (cc)
     go (Some o) edge =
         ap (λ held. option_map_or (λ id. id == y) held false) (get_or-map edge_of o.slots slot empty_slot ∙ edge) ∙ eq-eqb y y refl
@@ -82,7 +85,10 @@ module _ (t : Table) (sound : All (λ o. All (HoldsLive t) o.slots) t.objects) w
   unfolding leads_on
   leads_on-along x [] y along = refl
   leads_on-along x (s ∷ steps) y along =
-      and_from _ _ (and_from _ _ (holds-edge t x s.slot s.id along.0) (subst (λ k. has_object (heap_view t) s.id k ≡ true) (sym along.1) (has_object-live t s.id (edge-live x s.slot s.id along.0)))) (leads_on-along s.id steps y along.2)
+      and_from _ _
+      (and_from _ _ (holds-edge t x s.slot s.id along.0)
+      (subst (λ k. has_object (heap_view t) s.id k ≡ true) (sym along.1) (has_object-live t s.id (edge-live x s.slot s.id along.0))))
+      (leads_on-along s.id steps y along.2)
 
 -- a part of the steps leads on, and another leads to the end
 leads_on-front : (v : HeapView) (x : ℕ) (n : ℕ) (steps : List PathStep) → leads_on v x steps ≡ true → leads_on v x (take n steps) ≡ true
@@ -129,7 +135,8 @@ module _ (v : HeapView) (x : ℕ) (steps : List PathStep) (leads : leads_on v x 
           let few : length steps - 2 * END_STEPS ≡ 0 = eqb-true _ _ short in ap (leads_on v x) (whole (omega (arith, few))) ∙ leads
       go false long =
           let many : 2 * END_STEPS < length steps = grind (arith, Decides-eqb (length steps - 2 * END_STEPS) 0, long) in
-          and_from _ _ (ap (leads_on v x) (first_part many) ∙ leads_on-front v x END_STEPS steps leads) (ap (leads_to_end v) (last_part many) ∙ leads_to_end-rest v x (max END_STEPS (length steps - END_STEPS)) steps leads)
+          and_from _ _ (ap (leads_on v x) (first_part many) ∙ leads_on-front v x END_STEPS steps leads)
+          (ap (leads_to_end v) (last_part many) ∙ leads_to_end-rest v x (max END_STEPS (length steps - END_STEPS)) steps leads)
 
 pub ways_are_shown_as_paths : WaysAreShownAsPaths
 unfolding is_path view_of

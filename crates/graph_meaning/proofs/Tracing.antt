@@ -4,9 +4,12 @@ use Rattle.std.specs.List.{list_any, flat_map}
 use Rattle.std.proofs.lemmas.Bool.{cases_Bool, or_cases, or_left, or_right, and_parts, and_from, false≢true}
 use Rattle.graph_meaning.specs.Heap.{Table, Heap, ids, edges, targets}
 use Rattle.graph_meaning.specs.Reach.{Graph, has_id, reached_nodes}
-use Rattle.graph_meaning.specs.Assertions.{is_owned, by_root, by_slot, open_graph, object_graph, root_graph, root_ids, is_owner, owner_ids, owner_targets, under_owners, root_traced, is_traced, is_met, scanned_ids, roots_to, slots_to, references}
+use Rattle.graph_meaning.specs.Assertions.{is_owned, by_root, by_slot, open_graph, object_graph, root_graph, root_ids, is_owner, owner_ids}
+use Rattle.graph_meaning.specs.Assertions.{owner_targets, under_owners, root_traced, is_traced, is_met, scanned_ids, roots_to, slots_to, references}
 use Rattle.graph_meaning.specs.Laws.{TracedIsReached, TracedIsReferredTo, MetHasLevel}
-use Rattle.graph_meaning.proofs.Membership.{has_id-filter, list_any-from_has_id, has_id-from_list_any, list_any-map, list_any-flat_map, list_any_agree, is_some_list, is_some_list-length, is_some_list-append, is_some_list-map, is_some_list-filter, is_some_list-flat_map}
+use Rattle.graph_meaning.proofs.Membership.{has_id-filter, list_any-from_has_id, has_id-from_list_any, list_any-map, list_any-flat_map}
+use Rattle.graph_meaning.proofs.Membership.{list_any_agree, is_some_list, is_some_list-length, is_some_list-append, is_some_list-map}
+use Rattle.graph_meaning.proofs.Membership.{is_some_list-filter, is_some_list-flat_map}
 use Rattle.graph_meaning.proofs.Reaching.{IsClosed, reached_is_reachable, reached_nodes-closed, reached_nodes-in_nodes, reached_nodes-last, IsClosed-reachable}
 use Rattle.graph_meaning.proofs.HeapLemmas.{has_id-ids}
 use Rattle.graph_meaning.proofs.Distances.{same_bools, is_some-distance}
@@ -225,7 +228,8 @@ module _ (h : Heap) where
       open_from false false out owner_leads = refl
 
       -- an owner's edges lead under owners
-      no_owner : (y z : ℕ) → IsTrue (has_id (ids h.table) y) → IsTrue (not (under h y)) → IsTrue (has_id (targets h.table y) z) → IsTrue (has_id (ids h.table) z) → IsTrue (not (under h z)) → IsTrue (not (is_owned h y))
+      no_owner : (y z : ℕ) → IsTrue (has_id (ids h.table) y) → IsTrue (not (under h y)) → IsTrue (has_id (targets h.table y) z) →
+          IsTrue (has_id (ids h.table) z) → IsTrue (not (under h z)) → IsTrue (not (is_owned h y))
       no_owner y z object out held node beyond =
           open_from (under h y) (is_owner h y) out (λ owner. not_both h (under h z) beyond (under_from_owner h y z owner object held node))
 

@@ -1,5 +1,6 @@
 -- Canonical paths: where there is one, and that it is a path.
-use Rattle.std.proofs.Common.{◌≡◌, ℕ, zero, suc, ◌+◌, ◌-◌, ◌≤◌, Bool, true, false, not, ◌&&◌, ◌||◌, cond, ⊎_elim, List, [], ◌∷◌, ◌++◌, length, map, get_or, sym, ap, refl, subst, ◌∙◌, arith, IsTrue, ◌==◌, All, eqb-true, Option, None, Some}
+use Rattle.std.proofs.Common.{◌≡◌, ℕ, zero, suc, ◌+◌, ◌-◌, ◌≤◌, Bool, true, false, not, ◌&&◌, ◌||◌, cond, ⊎_elim, List, [], ◌∷◌, ◌++◌, length, map}
+use Rattle.std.proofs.Common.{get_or, sym, ap, refl, subst, ◌∙◌, arith, IsTrue, ◌==◌, All, eqb-true, Option, None, Some}
 use Rattle.std.specs.Prelude.{find}
 use Rattle.std.specs.List.{list_any, flat_map, filter_map, cons_option, enumerate_from}
 use Rattle.std.specs.Option.{is_some, option_map, option_map_or, option_or, option_and_then}
@@ -60,7 +61,11 @@ module _ (g : Graph) (sources : List ℕ) where
   distance-level zero y found = distance_within g sources y zero found
   distance-level (suc n) y found =
       has_id-filter (λ z. not (has_id (within g sources n) z)) (within g sources (suc n)) y
-      ∙ and_from _ _ (ap not (false_from_ne_true _ (λ at. let early : suc n ≤ n = find-range_first (λ k. has_id (within g sources k) y) 0 (suc (length g.nodes)) (suc n) found n (omega arith) at in absurd (omega arith)))) (distance_within g sources y (suc n) found)
+      ∙ and_from _ _
+      (ap not
+      (false_from_ne_true _
+      (λ at. let early : suc n ≤ n = find-range_first (λ k. has_id (within g sources k) y) 0 (suc (length g.nodes)) (suc n) found n (omega arith) at in
+      absurd (omega arith)))) (distance_within g sources y (suc n) found)
 
   -- an edge leads to what is of a level beyond the first from a passable node of the level before
   level-last : (n y : ℕ) → IsTrue (has_id (level g sources (suc n)) y) → IsTrue (list_any (λ x. g.passable x && has_id (g.targets x) y) (level g sources n))
@@ -76,7 +81,8 @@ module _ (g : Graph) (sources : List ℕ) where
       list_any-from_has_id (λ x. g.passable x && has_id (g.targets x) y) (level g sources n) step.0 (same_level n step.0 step.1 (and_parts _ _ step.2) grown.1 both.0) step.2)
       (or_cases _ _ grown.0)
     where
-      same_level : (m x : ℕ) → IsTrue (has_id (within g sources m) x) → IsTrue (g.passable x) × IsTrue (has_id (g.targets x) y) → IsTrue (has_id g.nodes y) → IsTrue (not (has_id (within g sources m) y)) → IsTrue (has_id (level g sources m) x)
+      same_level : (m x : ℕ) → IsTrue (has_id (within g sources m) x) → IsTrue (g.passable x) × IsTrue (has_id (g.targets x) y) →
+          IsTrue (has_id g.nodes y) → IsTrue (not (has_id (within g sources m) y)) → IsTrue (has_id (level g sources m) x)
       same_level zero x at edge node new = at
       same_level (suc m) x at edge node new =
           has_id-filter (λ z. not (has_id (within g sources m) z)) (within g sources (suc m)) x
@@ -112,9 +118,13 @@ module _ (t : Table) (is_shut : ℕ → Bool) (sources : List Way) where
       let least = some_of (find p (level g (way_ends sources) n)) (is_some-find p (level g (way_ends sources) n) ∙ level-last g (way_ends sources) n y at) in
       let before = some_of (way_at t g sources n least.0) (way_at-exists n least.0 (find_has_id p (level g (way_ends sources) n) least.0 least.1)) in
       let to_least = way_at-to n least.0 before.0 before.1 in
-      let held : IsTrue (has_id (targets t before.0.to) y) = subst (λ x. IsTrue (has_id (targets t x) y)) (sym to_least) (and_parts _ _ (find_passes p (level g (way_ends sources) n) least.0 least.1)).1 in
-      let edge = some_of (find (λ e. e.1 == y) (edges t before.0.to)) (is_some-find (λ e. e.1 == y) (edges t before.0.to) ∙ sym (list_any-map (λ x. x == y) (λ (e : ℕ × ℕ). e.1) (edges t before.0.to)) ∙ held) in
-      some_and_then (way_on_to t y) (option_and_then (way_at t g sources n) (find p (level g (way_ends sources) n))) before.0 (and_then_at (way_at t g sources n) (find p (level g (way_ends sources) n)) least.0 least.1 ∙ before.1) (some_map (way_by_edge t before.0) (find (λ e. e.1 == y) (edges t before.0.to)) edge.0 edge.1)
+      let held : IsTrue (has_id (targets t before.0.to) y) =
+      subst (λ x. IsTrue (has_id (targets t x) y)) (sym to_least) (and_parts _ _ (find_passes p (level g (way_ends sources) n) least.0 least.1)).1 in
+      let edge =
+      some_of (find (λ e. e.1 == y) (edges t before.0.to)) (is_some-find (λ e. e.1 == y) (edges t before.0.to) ∙ sym (list_any-map (λ x. x == y) (λ (e : ℕ × ℕ). e.1) (edges t before.0.to)) ∙ held) in
+      some_and_then (way_on_to t y) (option_and_then (way_at t g sources n) (find p (level g (way_ends sources) n))) before.0
+      (and_then_at (way_at t g sources n) (find p (level g (way_ends sources) n)) least.0 least.1 ∙ before.1)
+      (some_map (way_by_edge t before.0) (find (λ e. e.1 == y) (edges t before.0.to)) edge.0 edge.1)
 
 pub canonical_exists : CanonicalExists
 unfolding canonical_way
@@ -142,7 +152,8 @@ numbered n [] = All-nil (IsNumbered n [])
 numbered n (s ∷ slots) =
     go (edge_of s) refl (All-weaker (IsNumbered (n + 1) slots) (IsNumbered n (s ∷ slots)) (numbered-later n s slots) (filter_map numbered_edge (enumerate_from (n + 1) slots)) (numbered (n + 1) slots))
   where
-    go : (o : Option ℕ) → edge_of s ≡ o → All (IsNumbered n (s ∷ slots)) (filter_map numbered_edge (enumerate_from (n + 1) slots)) → All (IsNumbered n (s ∷ slots)) (cons_option (option_map (λ y. (n, y)) o) (filter_map numbered_edge (enumerate_from (n + 1) slots)))
+    go : (o : Option ℕ) → edge_of s ≡ o → All (IsNumbered n (s ∷ slots)) (filter_map numbered_edge (enumerate_from (n + 1) slots)) →
+        All (IsNumbered n (s ∷ slots)) (cons_option (option_map (λ y. (n, y)) o) (filter_map numbered_edge (enumerate_from (n + 1) slots)))
     go None here rest = rest
     go (Some y) here rest =
         let first : n - n ≡ 0 = omega arith in
@@ -154,9 +165,13 @@ edges-at t x = go (object_at t.objects x)
   where
     go : (o : Option Object) → All (λ e. option_map_or (λ u. edge_of (get_or u.slots e.0 empty_slot)) o None ≡ Some e.1) (option_map_or (λ u. edges_of u.slots) o [])
     go None = All-nil _
-    go (Some o) = All-weaker (IsNumbered 0 o.slots) (λ e. edge_of (get_or o.slots e.0 empty_slot) ≡ Some e.1) (λ e at. let same : e.0 - 0 ≡ e.0 = omega arith in ap (λ k. edge_of (get_or o.slots k empty_slot)) (sym same) ∙ at.1) (edges_of o.slots) (numbered 0 o.slots)
+    go (Some o) =
+        All-weaker (IsNumbered 0 o.slots) (λ e. edge_of (get_or o.slots e.0 empty_slot) ≡ Some e.1)
+        (λ e at. let same : e.0 - 0 ≡ e.0 = omega arith in ap (λ k. edge_of (get_or o.slots k empty_slot)) (sym same) ∙ at.1) (edges_of o.slots)
+        (numbered 0 o.slots)
 
-LeadsAlong-snoc : (t : Table) (x : ℕ) (steps : List PathStep) (y : ℕ) (e : ℕ × ℕ) → LeadsAlong t x steps y → edge_at t y e.0 ≡ Some e.1 → LeadsAlong t x (steps ++ record { slot = e.0; id = e.1; kind = kind_at t e.1 } ∷ []) e.1
+LeadsAlong-snoc : (t : Table) (x : ℕ) (steps : List PathStep) (y : ℕ) (e : ℕ × ℕ) → LeadsAlong t x steps y → edge_at t y e.0 ≡ Some e.1 →
+    LeadsAlong t x (steps ++ record { slot = e.0; id = e.1; kind = kind_at t e.1 } ∷ []) e.1
 LeadsAlong-snoc t x [] y e leads edge = (subst (λ z. edge_at t z e.0 ≡ Some e.1) (sym leads) edge, refl, refl)
 LeadsAlong-snoc t x (s ∷ steps) y e leads edge = (leads.0, leads.1, LeadsAlong-snoc t s.id steps y e leads.2 edge)
 
@@ -202,7 +217,9 @@ sources_are_ways h =
       All-map (λ w. IsWay t w × (length w.steps ≡ 0)) (root_way t) t.roots (λ k d within. (refl, refl)),
       All-flat_map (λ w. IsWay t w × (length w.steps ≡ 1)) (λ o. map (way_by_edge t (owner_way t o)) (edges t o))
           (λ o. All-map (λ w. IsWay t w × (length w.steps ≡ 1)) (way_by_edge t (owner_way t o)) (edges t o)
-          (All-weaker (λ e. edge_at t o e.0 ≡ Some e.1) (λ e. IsWay t (way_by_edge t (owner_way t o) e) × (length (way_by_edge t (owner_way t o) e).steps ≡ 1)) (λ e edge. (IsWay-way_by_edge t (owner_way t o) e refl edge, refl)) (edges t o) (edges-at t o)))
+          (All-weaker (λ e. edge_at t o e.0 ≡ Some e.1)
+          (λ e. IsWay t (way_by_edge t (owner_way t o) e) × (length (way_by_edge t (owner_way t o) e).steps ≡ 1))
+          (λ e edge. (IsWay-way_by_edge t (owner_way t o) e refl edge, refl)) (edges t o) (edges-at t o)))
           (owner_ids h),
     )
 

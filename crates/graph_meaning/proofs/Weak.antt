@@ -54,7 +54,10 @@ step_strong h Collect not none = none
 -- a slot that is emptied is weak or not as before
 without_strong : (gone : ℕ → Bool) (objects : List Object) → All AreStrong objects → All AreStrong (map (object_without gone) objects)
 without_strong gone objects none =
-    All-map AreStrong (object_without gone) objects (All-weaker AreStrong (λ o. AreStrong (object_without gone o)) (λ o old. All-map IsStrong (slot_without gone) o.slots (All-weaker IsStrong (λ s. IsStrong (slot_without gone s)) (λ s was. go s (option_map_or gone s.held false) was) o.slots old)) objects none)
+    All-map AreStrong (object_without gone) objects
+    (All-weaker AreStrong (λ o. AreStrong (object_without gone o))
+    (λ o old. All-map IsStrong (slot_without gone) o.slots
+    (All-weaker IsStrong (λ s. IsStrong (slot_without gone s)) (λ s was. go s (option_map_or gone s.held false) was) o.slots old)) objects none)
   where
     go : (s : Slot) (b : Bool) → IsStrong s → IsStrong (cond b (record s { held = None }) s)
     go s true old = old

@@ -40,7 +40,8 @@ abbrev pub RootTracedByPath : Type 0
 RootTracedByPath =
     (h : Heap) (x : ℕ) →
     IsTrue (has_id (root_traced h) x)
-    ↔ ((start : ℕ) × (steps : List ℕ) × IsTrue (has_id (root_ids h.table) start) × IsTrue (is_live h.table start) × IsPath (object_graph h.table) start steps x × All (λ y. has_id (under_owners h) y ≡ false) (start ∷ steps))
+    ↔ ((start : ℕ) × (steps : List ℕ) × IsTrue (has_id (root_ids h.table) start) × IsTrue (is_live h.table start)
+    × IsPath (object_graph h.table) start steps x × All (λ y. has_id (under_owners h) y ≡ false) (start ∷ steps))
 
 -- ---- what the definitions say of one another
 
@@ -61,7 +62,9 @@ MetHasLevel =
 -- A canonical path from sources of k steps each has the fewest steps: no path from a source is shorter.
 abbrev pub CanonicalIsShortest : Type 0
 CanonicalIsShortest =
-    (t : Table) (is_shut : ℕ → Bool) (sources : List Way) (k y : ℕ) (w : Way) → All (λ s. length s.steps ≡ k) sources → canonical_way t is_shut sources y ≡ Some w → (x : ℕ) (steps : List ℕ) → IsTrue (has_id (way_ends sources) x) → IsTrue (is_live t x) → IsPath (open_graph t is_shut) x steps y → length w.steps ≤ k + length steps
+    (t : Table) (is_shut : ℕ → Bool) (sources : List Way) (k y : ℕ) (w : Way) → All (λ s. length s.steps ≡ k) sources →
+    canonical_way t is_shut sources y ≡ Some w → (x : ℕ) (steps : List ℕ) → IsTrue (has_id (way_ends sources) x) → IsTrue (is_live t x) →
+    IsPath (open_graph t is_shut) x steps y → length w.steps ≤ k + length steps
 
 -- There is a canonical path exactly to what is reached from the sources.
 abbrev pub CanonicalExists : Type 0

@@ -1,6 +1,7 @@
 -- What one operation of a trace does to a heap: a new heap, or the first refusal whose condition holds. A collection
 -- is none of these steps: it follows the rules of the audit, and Collecting says what it finds and leaves.
-use Rattle.std.specs.Prelude.{ℕ, ◌+◌, ◌==◌, List, [], ◌∷◌, ◌++◌, length, map, replicate, fold, drop, Bool, ◌&&◌, not, nat_le, nat_lt, if◌then◌else◌, Option, None, Some, is_some, Result, Ok, Err, slice_set, slice_index_or}
+use Rattle.std.specs.Prelude.{ℕ, ◌+◌, ◌==◌, List, [], ◌∷◌, ◌++◌, length, map, replicate, fold, drop, Bool, ◌&&◌, not, nat_le, nat_lt, if◌then◌else◌}
+use Rattle.std.specs.Prelude.{Option, None, Some, is_some, Result, Ok, Err, slice_set, slice_index_or}
 use Rattle.std.specs.Option.{option_map_or}
 use Rattle.std.specs.Ordering.{nat_cmp}
 use Rattle.std.specs.Map.{lookup, remove_entry}

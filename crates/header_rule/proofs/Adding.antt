@@ -1,5 +1,6 @@
 -- An add keeps the rule.
-use Rattle.std.proofs.Common.{◌≡◌, ◌≢◌, ℕ, zero, suc, ◌+◌, ◌*◌, ◌%◌, ◌^◌, ◌<◌, eqb, Bool, true, false, cond, List, [], ◌∷◌, ◌++◌, length, get_or, set, sym, refl, ap, ◌∙◌, subst, arith, length-append, ne_eqb}
+use Rattle.std.proofs.Common.{◌≡◌, ◌≢◌, ℕ, zero, suc, ◌+◌, ◌*◌, ◌%◌, ◌^◌, ◌<◌, eqb, Bool, true, false, cond, List, [], ◌∷◌, ◌++◌, length, get_or}
+use Rattle.std.proofs.Common.{set, sym, refl, ap, ◌∙◌, subst, arith, length-append, ne_eqb}
 use mathlib.Core.Logic.{dite}
 use native.Mathlib.Decide.{ℕ_discrete}
 use mathlib.Core.Option.{none, some}
@@ -71,7 +72,8 @@ module _ (views : List View) (id x : ℕ) (v : View) (at : get_elem? views id �
       omega arith
 
 -- the step: the word of the cell x, and the view of the seat
-pub adds_cell : (cells slots id x : ℕ) (v : View) → x < cells → length v.adds < v.rights * 2 ^ 51 → Allows (KeepsRule cells) slots id (v, []) (x + 1) (λ n. (n + 1) % 2 ^ 64) (AddsCell (step slots (x + 1) 1 0 none) (v, []))
+pub adds_cell : (cells slots id x : ℕ) (v : View) → x < cells → length v.adds < v.rights * 2 ^ 51 →
+    Allows (KeepsRule cells) slots id (v, []) (x + 1) (λ n. (n + 1) % 2 ^ 64) (AddsCell (step slots (x + 1) 1 0 none) (v, []))
 adds_cell cells slots id x v within room s k _ at _ =
     let n : ℕ = get_or s.words (x + 1) 0 in
     let a : ℕ = adds_in x s.views in

@@ -74,7 +74,8 @@ bit-lt b = let l = bit-le b in omega arith
 
 or-three : (a b c p q r : Bool) → bit_or (three a b c) (three p q r) ≡ three (a || p) (b || q) (c || r)
 or-three a b c p q r =
-    let high : bit_or (bit c * 2 + bit b) (bit r * 2 + bit q) ≡ bit (c || r) * 2 + bit (b || q) = or_block 1 (bit c) (bit r) (bit b) (bit q) (bit-lt b) (bit-lt q) ∙ (λ i. or-bit c r i * 2 + or-bit b q i) in
+    let high : bit_or (bit c * 2 + bit b) (bit r * 2 + bit q) ≡ bit (c || r) * 2 + bit (b || q) =
+    or_block 1 (bit c) (bit r) (bit b) (bit q) (bit-lt b) (bit-lt q) ∙ (λ i. or-bit c r i * 2 + or-bit b q i) in
     or_block 1 (bit c * 2 + bit b) (bit r * 2 + bit q) (bit a) (bit p) (bit-lt a) (bit-lt p) ∙ (λ i. high i * 2 + or-bit a p i)
 
 -- the word after marks are set

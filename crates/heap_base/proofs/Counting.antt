@@ -164,7 +164,8 @@ as_often-from_times (x ∷ xs) ys e f =
     let o : bit (eqb x x) ≡ 1 = ap bit (eq-eqb x x refl) in
     let s = e x in
     let r = split_at x ys (omega arith) in
-    let rest : (z : ℕ) → times z xs ≡ times z (r.0 ++ r.1) = λ z. (let a = e z in let b = ap (times z) r.2 in let c = total-append (λ y. bit (eqb y z)) r.0 (x ∷ r.1) in let d = total-append (λ y. bit (eqb y z)) r.0 r.1 in omega arith) in
+    let rest : (z : ℕ) → times z xs ≡ times z (r.0 ++ r.1) =
+    λ z. (let a = e z in let b = ap (times z) r.2 in let c = total-append (λ y. bit (eqb y z)) r.0 (x ∷ r.1) in let d = total-append (λ y. bit (eqb y z)) r.0 r.1 in omega arith) in
     let w = as_often-from_times xs (r.0 ++ r.1) rest f in
     let b = ap (total f) r.2 in
     let c = total-append f r.0 (x ∷ r.1) in

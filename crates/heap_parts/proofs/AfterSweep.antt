@@ -42,7 +42,8 @@ slots-live t n (s ∷ slots) y live at =
     rest : List (ℕ × ℕ)
     rest = filter_map numbered_edge (enumerate_from (n + 1) slots)
 
-    go : (o : Option ℕ) → edge_of s ≡ o → (has_id (map (λ e. e.1) rest) y ≡ true → is_live t y ≡ true) → has_id (map (λ e. e.1) (cons_option (option_map (λ z. (n, z)) o) rest)) y ≡ true → is_live t y ≡ true
+    go : (o : Option ℕ) → edge_of s ≡ o → (has_id (map (λ e. e.1) rest) y ≡ true → is_live t y ≡ true) →
+        has_id (map (λ e. e.1) (cons_option (option_map (λ z. (n, z)) o) rest)) y ≡ true → is_live t y ≡ true
     go None edge later at = later at
     go (Some z) edge later at =
         ⊎_elim
@@ -125,7 +126,8 @@ module _ (s : Parts) (are : AreParts s) (placed : IsPlaced s.placed) (kept : Lis
         let id = (get_or s.placed.table.roots k d).1 in
         let same : get_or (root_ids s.placed.table) k 0 ≡ id = get_or-map (λ (r : List ℕ × ℕ). r.1) s.placed.table.roots k d 0 within in
         let alive : IsTrue (is_live s.placed.table id) = subst (λ x. IsTrue (is_live s.placed.table x)) same (are.heap.refers.roots k 0 (rw length-map within)) in
-        let named : IsTrue (has_id (root_ids s.placed.table) id) = subst (λ x. IsTrue (has_id (root_ids s.placed.table) x)) same ((has_id-Contains (root_ids s.placed.table) _).1 (Contains-get_or (root_ids s.placed.table) k 0 (rw length-map within))) in
+        let named : IsTrue (has_id (root_ids s.placed.table) id) =
+        subst (λ x. IsTrue (has_id (root_ids s.placed.table) x)) same ((has_id-Contains (root_ids s.placed.table) _).1 (Contains-get_or (root_ids s.placed.table) k 0 (rw length-map within))) in
         kept_traced id ∙ traced_from_root h id named (has_id-ids s.placed.table id ∙ alive);
     by_edges = λ x y at edge.
         kept_traced y ∙ traced_along h x y (sym (kept_traced x) ∙ at) edge (has_id-ids s.placed.table y ∙ target-live s.placed.table x y are.heap.refers.slots edge);
@@ -134,7 +136,8 @@ module _ (s : Parts) (are : AreParts s) (placed : IsPlaced s.placed) (kept : Lis
   pub parts_of_heap : ArePartsOf h s
   parts_of_heap = record { table = refl; dead = refl; unshared = refl; regions = refl; owners = refl }
 
-  module _ (after : Parts) (freed : ℕ) (sweeps : SweepsHeap h after freed) (table : after.placed.table ≡ with_only stay s.placed.table) (assertions : after.assertions ≡ assertions_on stay s.assertions) where
+  module _ (after : Parts) (freed : ℕ) (sweeps : SweepsHeap h after freed) (table : after.placed.table ≡ with_only stay s.placed.table)
+      (assertions : after.assertions ≡ assertions_on stay s.assertions) where
     same_kinds : after.placed.table.kinds ≡ s.placed.table.kinds
     same_kinds = ap (λ (t : Table). t.kinds) table ∙ kinds-with_only stay s.placed.table
 

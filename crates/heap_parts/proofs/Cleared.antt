@@ -42,7 +42,8 @@ swapped false true = refl
 swapped false false = refl
 
 -- The roles and the trace tell of each object whether it is asserted dead and traced.
-pub flags_tell : (h : PlacedHeap) → IsPlaced (placed_in h) → (r : RoleTable) → StandFor (placed_in h) r h.heap → (kept : List Bool) → FlagTraced h kept → (cells : ℕ) → cells ≡ length h.cells → AreDeadAndTraced h (dead_below r kept cells)
+pub flags_tell : (h : PlacedHeap) → IsPlaced (placed_in h) → (r : RoleTable) → StandFor (placed_in h) r h.heap → (kept : List Bool) →
+    FlagTraced h kept → (cells : ℕ) → cells ≡ length h.cells → AreDeadAndTraced h (dead_below r kept cells)
 flags_tell h placed r roles kept traced cells many = record {
   each = length-map (range_with_len 0 cells) flag ∙ length-range_with_len 0 cells ∙ many;
   tell = λ cell id at.
@@ -64,18 +65,22 @@ flags_tell h placed r roles kept traced cells many = record {
 
 -- ---- after the sweep
 
-module _ (before after : Placed) (placed : IsPlaced before) (swept : IsPlaced after) (kept : List Bool) (table : after.table ≡ with_only (kept_ids before.cells kept) before.table) (keeps : KeepsCells before after (kept_ids before.cells kept)) where
+module _ (before after : Placed) (placed : IsPlaced before) (swept : IsPlaced after) (kept : List Bool)
+    (table : after.table ≡ with_only (kept_ids before.cells kept) before.table) (keeps : KeepsCells before after (kept_ids before.cells kept)) where
   -- an object that stays stood in its cell before
   stood : (cell id : ℕ) → id_in after cell ≡ Some id → id_in before cell ≡ Some id
   stood cell id at =
-      let alive : (has_id (kept_ids before.cells kept) id && is_live before.table id) ≡ true = sym (is_live-with_only (kept_ids before.cells kept) before.table id) ∙ ap (λ (t : Table). is_live t id) (sym table) ∙ swept.live cell id at in
+      let alive : (has_id (kept_ids before.cells kept) id && is_live before.table id) ≡ true =
+      sym (is_live-with_only (kept_ids before.cells kept) before.table id) ∙ ap (λ (t : Table). is_live t id) (sym table) ∙ swept.live cell id at in
       let parts = and_parts _ _ alive in
       let there = placed.somewhere id parts.1 in
       let same : cell ≡ there.0 = swept.once cell there.0 id at (keeps.others there.0 id there.1 parts.0) in
       subst (λ c. id_in before c ≡ Some id) (sym same) there.1
 
   -- the objects in the flagged cells are those that are asserted dead and were traced
-  pub cleared_are : (h : Heap) → AreTraced h (kept_ids before.cells kept) → (flags : List Bool) → AreDeadAndTraced (let q : PlacedHeap = record { heap = h; cells = before.cells } in q) flags → (id : ℕ) → has_id (kept_ids after.cells flags) id ≡ has_id (violating_dead h) id
+  pub cleared_are : (h : Heap) → AreTraced h (kept_ids before.cells kept) → (flags : List Bool) →
+      AreDeadAndTraced (let q : PlacedHeap = record { heap = h; cells = before.cells } in q) flags → (id : ℕ) →
+      has_id (kept_ids after.cells flags) id ≡ has_id (violating_dead h) id
   cleared_are h traced flags are id = both_ways _ _ there back
     where
       there : has_id (kept_ids after.cells flags) id ≡ true → has_id (violating_dead h) id ≡ true
@@ -101,7 +106,10 @@ holds_none (Some x) = refl
 
 nothing_held : (t : Table) → holders_of (has_id []) t ≡ 0
 nothing_held t =
-    let slots = zero_sum (λ (o : Object). count_by (λ s. option_map_or (has_id []) s.held false) o.slots) (λ o. zero_sum (λ (s : Slot). cond (option_map_or (has_id []) s.held false) 1 0) (λ s. ap (λ b. cond b 1 0) (holds_none s.held)) o.slots) t.objects in
+    let slots =
+    zero_sum (λ (o : Object). count_by (λ s. option_map_or (has_id []) s.held false) o.slots)
+    (λ o. zero_sum (λ (s : Slot). cond (option_map_or (has_id []) s.held false) 1 0) (λ s. ap (λ b. cond b 1 0) (holds_none s.held)) o.slots)
+    t.objects in
     let roots = zero_sum (λ (r : List ℕ × ℕ). cond (has_id [] r.1) 1 0) (λ r. refl) t.roots in
     omega arith
 
@@ -122,7 +130,9 @@ left_without h left is rules force =
     is ∙ sym (plain_leaves_swept rules.paths h) ∙ ap (λ f. after_collection (let rs : Rules = record { paths = rules.paths; force = f } in rs) h) (sym force)
 
 -- by force the objects that are asserted dead and were traced are cut off
-pub left_by_force : (h : Heap) (swept after : Parts) → heap_of swept ≡ after_sweep h → (gone : ℕ → Bool) → gone ≡ has_id (violating_dead h) → after.placed.table ≡ cut_off gone swept.placed.table → after.assertions ≡ swept.assertions → after.regions ≡ swept.regions → (rules : Rules) → rules.force ≡ true → heap_of after ≡ after_collection rules h
+pub left_by_force : (h : Heap) (swept after : Parts) → heap_of swept ≡ after_sweep h → (gone : ℕ → Bool) → gone ≡ has_id (violating_dead h) →
+    after.placed.table ≡ cut_off gone swept.placed.table → after.assertions ≡ swept.assertions → after.regions ≡ swept.regions → (rules : Rules) →
+    rules.force ≡ true → heap_of after ≡ after_collection rules h
 unfolding after_collection
 left_by_force h swept after left gone are table assertions regions rules force =
     heap_is
@@ -155,7 +165,10 @@ module _ (s : Parts) (are : AreParts s) (placed : IsPlaced s.placed) (kept : Lis
   abbrev ids : List ℕ
   ids = kept_ids s.placed.cells kept
 
-  module _ (swept : Parts) (still : IsPlaced swept.placed) (freed : ℕ) (sweeps : SweepsHeap h swept freed) (table : swept.placed.table ≡ with_only ids s.placed.table) (keeps : KeepsCells s.placed swept.placed ids) (assertions : swept.assertions ≡ assertions_on ids s.assertions) (regions : swept.regions ≡ regions_with ids s.regions) (flags : List Bool) (to_clear : AreDeadAndTraced (placed_heap s) flags) where
+  module _ (swept : Parts) (still : IsPlaced swept.placed) (freed : ℕ) (sweeps : SweepsHeap h swept freed)
+      (table : swept.placed.table ≡ with_only ids s.placed.table) (keeps : KeepsCells s.placed swept.placed ids)
+      (assertions : swept.assertions ≡ assertions_on ids s.assertions) (regions : swept.regions ≡ regions_with ids s.regions) (flags : List Bool)
+      (to_clear : AreDeadAndTraced (placed_heap s) flags) where
     left : heap_of swept ≡ after_sweep h
     left = heap_left s are placed kept tell swept freed sweeps table assertions
 
@@ -171,13 +184,20 @@ module _ (s : Parts) (are : AreParts s) (placed : IsPlaced s.placed) (kept : Lis
     abbrev by_force : Rules
     by_force = record { paths = 0; force = true }
 
-    pub swept_by_force : (after : Parts) (cleared : ℕ) → after.placed.table ≡ cut_off gone swept.placed.table → after.assertions ≡ swept.assertions → after.regions ≡ swept.regions → cleared ≡ holders_of gone swept.placed.table → IsSweptByForce h after cleared
+    pub swept_by_force : (after : Parts) (cleared : ℕ) → after.placed.table ≡ cut_off gone swept.placed.table →
+        after.assertions ≡ swept.assertions → after.regions ≡ swept.regions → cleared ≡ holders_of gone swept.placed.table →
+        IsSweptByForce h after cleared
     swept_by_force after cleared cut same_assertions same_regions count = record {
       left = all_left;
       parts = record {
         heap = subst IsWellFormed (sym (all_left by_force refl)) (well_formed-collection by_force h are.heap);
-        seen = λ kind. subst (λ kinds. AreOfSeenTypes after.assertions.limits kinds) (sym (ap (λ (u : Table). u.kinds) cut)) (subst (λ (a : Assertions). AreOfSeenTypes a.limits swept.placed.table.kinds) (sym same_assertions) seen) kind;
-        unasserted = subst (λ (a : Assertions). AreUnasserted (record after { assertions = a })) (sym same_assertions) (subst (λ (r : RegionTable). AreUnasserted (record swept { regions = r })) (sym same_regions) (unasserted_left s are placed kept tell swept freed sweeps table assertions regions));
+        seen =
+            λ kind. subst (λ kinds. AreOfSeenTypes after.assertions.limits kinds) (sym (ap (λ (u : Table). u.kinds) cut))
+            (subst (λ (a : Assertions). AreOfSeenTypes a.limits swept.placed.table.kinds) (sym same_assertions) seen) kind;
+        unasserted =
+            subst (λ (a : Assertions). AreUnasserted (record after { assertions = a })) (sym same_assertions)
+            (subst (λ (r : RegionTable). AreUnasserted (record swept { regions = r })) (sym same_regions)
+            (unasserted_left s are placed kept tell swept freed sweeps table assertions regions));
       };
       count = count ∙ ap (λ f. holders_of f swept.placed.table) gone_are ∙ ap (λ (l : Heap). holders_of (has_id (violating_dead h)) l.table) left;
     }

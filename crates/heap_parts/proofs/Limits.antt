@@ -57,7 +57,8 @@ past_head : (name : List ℕ) (e : List ℕ × ℕ) (es : List (List ℕ × ℕ)
 past_head name e es s at =
     lookup-none (is_at (name_cmp name)) es (none_past_head (eq_by_cmp_equiv nat_list_cmp_total) name e es (IsDistinct-from_sorted name_cmp (keys_of (e ∷ es)) s) at)
 
-module _ (e f : List ℕ × ℕ) (es fs : List (List ℕ × ℕ)) (s : IsStrictlySortedBy name_cmp (keys_of (e ∷ es))) (t : IsStrictlySortedBy name_cmp (keys_of (f ∷ fs))) (agree : (name : List ℕ) → found (e ∷ es) name ≡ found (f ∷ fs) name) where
+module _ (e f : List ℕ × ℕ) (es fs : List (List ℕ × ℕ)) (s : IsStrictlySortedBy name_cmp (keys_of (e ∷ es)))
+    (t : IsStrictlySortedBy name_cmp (keys_of (f ∷ fs))) (agree : (name : List ℕ) → found (e ∷ es) name ≡ found (f ∷ fs) name) where
   heads : e.0 ≡ f.0
   heads = exact_bytes e.0 f.0 (go (name_cmp e.0 f.0) refl)
     where
@@ -67,7 +68,8 @@ module _ (e f : List ℕ × ℕ) (es fs : List (List ℕ × ℕ)) (s : IsStrictl
           cc
       go Equal is = is
       go Greater is =
-          let gone : Some f.1 ≡ None = sym (at_head f fs) ∙ sym (agree f.0) ∙ lookup-none _ (e ∷ es) (none_below_head nat_list_cmp_total f.0 e es s (nat_list_cmp_total.antisymm f.0 e.0 ∙ ap ordering_reverse is)) in
+          let gone : Some f.1 ≡ None =
+          sym (at_head f fs) ∙ sym (agree f.0) ∙ lookup-none _ (e ∷ es) (none_below_head nat_list_cmp_total f.0 e es s (nat_list_cmp_total.antisymm f.0 e.0 ∙ ap ordering_reverse is)) in
           cc
 
   values : e.1 ≡ f.1
@@ -97,7 +99,8 @@ sorted-insert : (es : List (List ℕ × ℕ)) (kind : List ℕ) (limit : ℕ) �
 sorted-insert = sorted-insert_entry name_cmp nat_list_cmp_total
 
 -- a later limit of a type takes the place of an earlier one
-insert-twice : (es : List (List ℕ × ℕ)) (kind : List ℕ) (limit earlier : ℕ) → IsStrictlySortedBy name_cmp (keys_of es) → insert_entry name_cmp es kind limit ≡ insert_entry name_cmp (insert_entry name_cmp es kind earlier) kind limit
+insert-twice : (es : List (List ℕ × ℕ)) (kind : List ℕ) (limit earlier : ℕ) → IsStrictlySortedBy name_cmp (keys_of es) →
+    insert_entry name_cmp es kind limit ≡ insert_entry name_cmp (insert_entry name_cmp es kind earlier) kind limit
 insert-twice es kind limit earlier s =
     same_entries _ _ (sorted-insert es kind limit s) (sorted-insert (insert_entry name_cmp es kind earlier) kind limit (sorted-insert es kind earlier s))
     (λ name.
@@ -106,15 +109,20 @@ insert-twice es kind limit earlier s =
     ∙ sym (lookup-insert_entry (insert_entry name_cmp es kind earlier) kind name limit ∙ ap (cond (is_at (name_cmp name) kind) (Some limit)) (lookup-insert_entry es kind name earlier)))
 
 -- limits of two types may be set in either order
-insert-swapped : (es : List (List ℕ × ℕ)) (kind other : List ℕ) (limit limit_of_other : ℕ) → bytes_eq kind other ≡ false → IsStrictlySortedBy name_cmp (keys_of es) → insert_entry name_cmp (insert_entry name_cmp es kind limit) other limit_of_other ≡ insert_entry name_cmp (insert_entry name_cmp es other limit_of_other) kind limit
+insert-swapped : (es : List (List ℕ × ℕ)) (kind other : List ℕ) (limit limit_of_other : ℕ) → bytes_eq kind other ≡ false →
+    IsStrictlySortedBy name_cmp (keys_of es) →
+    insert_entry name_cmp (insert_entry name_cmp es kind limit) other limit_of_other ≡ insert_entry name_cmp (insert_entry name_cmp es other limit_of_other) kind limit
 insert-swapped es kind other limit limit_of_other ne s =
-    same_entries _ _ (sorted-insert (insert_entry name_cmp es kind limit) other limit_of_other (sorted-insert es kind limit s)) (sorted-insert (insert_entry name_cmp es other limit_of_other) kind limit (sorted-insert es other limit_of_other s))
+    same_entries _ _ (sorted-insert (insert_entry name_cmp es kind limit) other limit_of_other (sorted-insert es kind limit s))
+    (sorted-insert (insert_entry name_cmp es other limit_of_other) kind limit (sorted-insert es other limit_of_other s))
     (λ name.
     lookup-insert_entry (insert_entry name_cmp es kind limit) other name limit_of_other
     ∙ ap (cond (is_at (name_cmp name) other) (Some limit_of_other)) (lookup-insert_entry es kind name limit)
     ∙ cond_swapped (is_at (name_cmp name) other) (is_at (name_cmp name) kind) limit limit_of_other (lookup (is_at (name_cmp name)) es)
     (λ first later. false≢true (sym ne ∙ ap (bytes_eq kind) (sym (name-same name other first) ∙ name-same name kind later) ∙ bytes-itself kind))
-    ∙ sym (lookup-insert_entry (insert_entry name_cmp es other limit_of_other) kind name limit ∙ ap (cond (is_at (name_cmp name) kind) (Some limit)) (lookup-insert_entry es other name limit_of_other)))
+    ∙ sym
+    (lookup-insert_entry (insert_entry name_cmp es other limit_of_other) kind name limit
+    ∙ ap (cond (is_at (name_cmp name) kind) (Some limit)) (lookup-insert_entry es other name limit_of_other)))
 
 -- ---- limits by number
 
@@ -164,7 +172,9 @@ named-with_kind kinds kind limits seen = go (is_seen kinds kind)
     go false = named-pushed kinds kind limits (no_limit limits kinds seen)
 
 -- the limit of a type is set by its number as it is set by its name
-pub named-set : (kinds : List (List ℕ)) (limits : List (Option ℕ)) (kind : List ℕ) (number limit : ℕ) → position (bytes_eq kind) kinds ≡ Some number → number < length limits → named_limits kinds (slice_set limits number (Some limit)) ≡ insert_entry name_cmp (named_limits kinds limits) kind limit
+pub named-set : (kinds : List (List ℕ)) (limits : List (Option ℕ)) (kind : List ℕ) (number limit : ℕ) →
+    position (bytes_eq kind) kinds ≡ Some number → number < length limits →
+    named_limits kinds (slice_set limits number (Some limit)) ≡ insert_entry name_cmp (named_limits kinds limits) kind limit
 named-set [] limits kind number limit at within = cc
 named-set (k ∷ kinds) [] kind number limit at within = absurd (omega arith)
 named-set (k ∷ kinds) (l ∷ limits) kind number limit at within =
@@ -174,12 +184,17 @@ named-set (k ∷ kinds) (l ∷ limits) kind number limit at within =
     here None = refl
     here (Some earlier) = insert-twice (named_limits kinds limits) k limit earlier (named-sorted kinds limits)
 
-    later : (l : Option ℕ) (n : ℕ) → bytes_eq kind k ≡ false → named_limits kinds (slice_set limits n (Some limit)) ≡ insert_entry name_cmp (named_limits kinds limits) kind limit → named_limits (k ∷ kinds) (l ∷ slice_set limits n (Some limit)) ≡ insert_entry name_cmp (named_limits (k ∷ kinds) (l ∷ limits)) kind limit
+    later : (l : Option ℕ) (n : ℕ) → bytes_eq kind k ≡ false →
+        named_limits kinds (slice_set limits n (Some limit)) ≡ insert_entry name_cmp (named_limits kinds limits) kind limit →
+        named_limits (k ∷ kinds) (l ∷ slice_set limits n (Some limit)) ≡ insert_entry name_cmp (named_limits (k ∷ kinds) (l ∷ limits)) kind limit
     later None n ne rest = rest
     later (Some own) n ne rest =
         ap (λ named. insert_entry name_cmp named k own) rest ∙ insert-swapped (named_limits kinds limits) kind k limit own ne (named-sorted kinds limits)
 
-    go : (b : Bool) → bytes_eq kind k ≡ b → (o : Option ℕ) → position (bytes_eq kind) kinds ≡ o → cond b (Some 0) (option_map suc o) ≡ Some number → ((n : ℕ) → position (bytes_eq kind) kinds ≡ Some n → n < length limits → named_limits kinds (slice_set limits n (Some limit)) ≡ insert_entry name_cmp (named_limits kinds limits) kind limit) → named_limits (k ∷ kinds) (slice_set (l ∷ limits) number (Some limit)) ≡ insert_entry name_cmp (named_limits (k ∷ kinds) (l ∷ limits)) kind limit
+    go : (b : Bool) → bytes_eq kind k ≡ b → (o : Option ℕ) → position (bytes_eq kind) kinds ≡ o →
+        cond b (Some 0) (option_map suc o) ≡ Some number →
+        ((n : ℕ) → position (bytes_eq kind) kinds ≡ Some n → n < length limits → named_limits kinds (slice_set limits n (Some limit)) ≡ insert_entry name_cmp (named_limits kinds limits) kind limit) →
+        named_limits (k ∷ kinds) (slice_set (l ∷ limits) number (Some limit)) ≡ insert_entry name_cmp (named_limits (k ∷ kinds) (l ∷ limits)) kind limit
     go true same o is first rest =
         let zeroth : 0 ≡ number = cc in
         let name : k ≡ kind = sym ((bytes_eq-Decides kind k).0 same) in
@@ -219,7 +234,9 @@ named-agree (k ∷ kinds) (None ∷ limits) distinct name =
     go (bytes_eq name k) refl (named-agree kinds limits (IsDistinct-tail bytes_eq k kinds distinct) name)
     ∙ sym (ap (option_and_then (limit_of (None ∷ limits))) (position-cons (bytes_eq name) k kinds))
   where
-    go : (b : Bool) → bytes_eq name k ≡ b → lookup (is_at (name_cmp name)) (named_limits kinds limits) ≡ option_and_then (limit_of limits) (position (bytes_eq name) kinds) → lookup (is_at (name_cmp name)) (named_limits kinds limits) ≡ option_and_then (limit_of (None ∷ limits)) (cond b (Some 0) (option_map suc (position (bytes_eq name) kinds)))
+    go : (b : Bool) → bytes_eq name k ≡ b →
+        lookup (is_at (name_cmp name)) (named_limits kinds limits) ≡ option_and_then (limit_of limits) (position (bytes_eq name) kinds) →
+        lookup (is_at (name_cmp name)) (named_limits kinds limits) ≡ option_and_then (limit_of (None ∷ limits)) (cond b (Some 0) (option_map suc (position (bytes_eq name) kinds)))
     go true same rest =
         let names : k ≡ name = sym ((bytes_eq-Decides name k).0 same) in
         rest ∙ ap (option_and_then (limit_of limits)) (subst (λ x. position (bytes_eq x) kinds ≡ None) names (not_again k kinds distinct))
@@ -230,6 +247,9 @@ named-agree (k ∷ kinds) (Some limit ∷ limits) distinct name =
     ∙ go (bytes_eq name k) (named-agree kinds limits (IsDistinct-tail bytes_eq k kinds distinct) name)
     ∙ sym (ap (option_and_then (limit_of (Some limit ∷ limits))) (position-cons (bytes_eq name) k kinds))
   where
-    go : (b : Bool) → lookup (is_at (name_cmp name)) (named_limits kinds limits) ≡ option_and_then (limit_of limits) (position (bytes_eq name) kinds) → cond b (Some limit) (lookup (is_at (name_cmp name)) (named_limits kinds limits)) ≡ option_and_then (limit_of (Some limit ∷ limits)) (cond b (Some 0) (option_map suc (position (bytes_eq name) kinds)))
+    go : (b : Bool) →
+        lookup (is_at (name_cmp name)) (named_limits kinds limits) ≡ option_and_then (limit_of limits) (position (bytes_eq name) kinds) →
+        cond b (Some limit) (lookup (is_at (name_cmp name)) (named_limits kinds limits))
+        ≡ option_and_then (limit_of (Some limit ∷ limits)) (cond b (Some 0) (option_map suc (position (bytes_eq name) kinds)))
     go true rest = refl
     go false rest = rest ∙ sym (shifted (Some limit) limits (position (bytes_eq name) kinds))

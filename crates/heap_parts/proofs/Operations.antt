@@ -1,5 +1,6 @@
 -- The operations of a trace, each on the parts of a heap.
-use Rattle.std.proofs.Common.{◌≡◌, ℕ, ◌+◌, ◌<◌, ◌≤◌, Bool, true, false, cond, ◌-◌, List, [], ◌∷◌, ◌++◌, length, fold, replicate, All, Option, None, Some, Result, Ok, Err, sym, ap, refl, subst, ◌∙◌, arith, slice_set, ⊎_elim, eqb-true, eq-eqb, is_some}
+use Rattle.std.proofs.Common.{◌≡◌, ℕ, ◌+◌, ◌<◌, ◌≤◌, Bool, true, false, cond, ◌-◌, List, [], ◌∷◌, ◌++◌, length, fold, replicate, All, Option, None}
+use Rattle.std.proofs.Common.{Some, Result, Ok, Err, sym, ap, refl, subst, ◌∙◌, arith, slice_set, ⊎_elim, eqb-true, eq-eqb, is_some}
 use Rattle.std.specs.Prelude.{◌==◌}
 use Rattle.std.specs.BTreeMap.{insert_entry}
 use Rattle.std.specs.BTreeSet.{insert_key}
@@ -20,7 +21,9 @@ use Rattle.graph_meaning.specs.declared.refusal.Stop.{Stop}
 use Rattle.graph_meaning.specs.Answers.{RefusesBy}
 use Rattle.graph_meaning.specs.Heap.{Slot, Table, Heap, name_cmp, is_seen, regions_of}
 use Rattle.graph_meaning.specs.Laws.{AllLive}
-use Rattle.graph_meaning.specs.Step.{first_refusal, refusal_where, not_live, kind_refusal, alloc_refusal, with_object, store_refusal, slot_refusal, with_changed_slot, slot_holding, slot_made_weak, root_refusal, with_root, with_kind, with_member, heap_unless, step}
+use Rattle.graph_meaning.specs.Step.{first_refusal, refusal_where, not_live, kind_refusal, alloc_refusal, with_object, store_refusal, slot_refusal}
+use Rattle.graph_meaning.specs.Step.{with_changed_slot, slot_holding, slot_made_weak, root_refusal, with_root, with_kind, with_member, heap_unless}
+use Rattle.graph_meaning.specs.Step.{step}
 use Rattle.graph_meaning.proofs.Rising.{alloc_refusal-None}
 use Rattle.object_table.specs.Placed.{Placed}
 use Rattle.assert_registry.specs.Assertions.{Assertions, AreOfSeenTypes, with_room}
@@ -36,15 +39,18 @@ use Rattle.heap_parts.proofs.Unasserted.{Agree, Within, agree-finish, agree-more
 
 -- ---- what `step` says of each operation
 
-step-alloc : (h : Heap) (id : ℕ) (kind : List ℕ) (slots thread : ℕ) → step h (Alloc id kind slots thread) ≡ heap_unless (alloc_refusal h.table id kind slots) (record h { table = with_object h.table id kind slots; regions = with_member h.regions thread id })
+step-alloc : (h : Heap) (id : ℕ) (kind : List ℕ) (slots thread : ℕ) →
+    step h (Alloc id kind slots thread) ≡ heap_unless (alloc_refusal h.table id kind slots) (record h { table = with_object h.table id kind slots; regions = with_member h.regions thread id })
 unfolding step
 step-alloc h id kind slots thread = refl
 
-step-store : (h : Heap) (at slot : ℕ) (to : Option ℕ) → step h (Store at slot to) ≡ heap_unless (store_refusal h.table at slot to) (record h { table = with_changed_slot h.table at slot (slot_holding to) })
+step-store : (h : Heap) (at slot : ℕ) (to : Option ℕ) →
+    step h (Store at slot to) ≡ heap_unless (store_refusal h.table at slot to) (record h { table = with_changed_slot h.table at slot (slot_holding to) })
 unfolding step
 step-store h at slot to = refl
 
-step-set_weak : (h : Heap) (at slot : ℕ) (weak : Bool) → step h (SetWeak at slot weak) ≡ heap_unless (slot_refusal h.table at slot) (record h { table = with_changed_slot h.table at slot (slot_made_weak weak) })
+step-set_weak : (h : Heap) (at slot : ℕ) (weak : Bool) →
+    step h (SetWeak at slot weak) ≡ heap_unless (slot_refusal h.table at slot) (record h { table = with_changed_slot h.table at slot (slot_made_weak weak) })
 unfolding step
 step-set_weak h at slot weak = refl
 
@@ -65,11 +71,14 @@ abbrev pub ownedby_refusal : Table → ℕ → ℕ → Option Refusal
 ownedby_refusal t owner ownee =
     first_refusal (not_live t owner) (first_refusal (not_live t ownee) (refusal_where (owner == ownee) (SelfOwned owner)))
 
-step-assert_ownedby : (h : Heap) (owner ownee : ℕ) → step h (AssertOwnedBy owner ownee) ≡ heap_unless (ownedby_refusal h.table owner ownee) (record h { owners = insert_entry nat_cmp h.owners ownee owner })
+step-assert_ownedby : (h : Heap) (owner ownee : ℕ) →
+    step h (AssertOwnedBy owner ownee) ≡ heap_unless (ownedby_refusal h.table owner ownee) (record h { owners = insert_entry nat_cmp h.owners ownee owner })
 unfolding step
 step-assert_ownedby h owner ownee = refl
 
-step-assert_instances : (h : Heap) (kind : List ℕ) (limit : ℕ) → step h (AssertInstances kind limit) ≡ heap_unless (kind_refusal h.table kind) (record h { table = record h.table { kinds = with_kind h.table.kinds kind }; limits = insert_entry name_cmp h.limits kind limit })
+step-assert_instances : (h : Heap) (kind : List ℕ) (limit : ℕ) →
+    step h (AssertInstances kind limit)
+    ≡ heap_unless (kind_refusal h.table kind) (record h { table = record h.table { kinds = with_kind h.table.kinds kind }; limits = insert_entry name_cmp h.limits kind limit })
 unfolding step
 step-assert_instances h kind limit = refl
 
@@ -104,7 +113,8 @@ module _ {T : Type 0} (s : Parts) (are : AreParts s) (after : Placed) (result : 
 
   abbrev table_change : Event → Option Refusal → Table → Type 0
   table_change event refusal t =
-      step (heap_of s) event ≡ heap_unless refusal (record (heap_of s) { table = t }) → t.kinds ≡ s.placed.table.kinds → RefusesBy result refusal → OnOk result (after.table ≡ t) → OnErr result (after ≡ s.placed) → Steps (placed_heap s) event result (placed_heap s') × AreParts s'
+      step (heap_of s) event ≡ heap_unless refusal (record (heap_of s) { table = t }) → t.kinds ≡ s.placed.table.kinds → RefusesBy result refusal →
+      OnOk result (after.table ≡ t) → OnErr result (after ≡ s.placed) → Steps (placed_heap s) event result (placed_heap s') × AreParts s'
 
   steps-table : (event : Event) (refusal : Option Refusal) (t : Table) → table_change event refusal t
   steps-table event refusal t means kinds refused leaves err = (steps, parts-after s s' event result steps are seen are.unasserted)
@@ -112,7 +122,8 @@ module _ {T : Type 0} (s : Parts) (are : AreParts s) (after : Placed) (result : 
       left : OnOk result (heap_of s' ≡ record (heap_of s) { table = t })
       left =
           on_ok_weaker result
-          (λ e. ap (λ table. record (heap_of s) { table = table; limits = named_limits table.kinds s.assertions.limits }) e ∙ ap (λ ks. record (heap_of s) { table = t; limits = named_limits ks s.assertions.limits }) kinds) leaves
+          (λ e. ap (λ table. record (heap_of s) { table = table; limits = named_limits table.kinds s.assertions.limits }) e
+          ∙ ap (λ ks. record (heap_of s) { table = t; limits = named_limits ks s.assertions.limits }) kinds) leaves
 
       steps : Steps (placed_heap s) event result (placed_heap s')
       steps =
@@ -126,17 +137,24 @@ module _ {T : Type 0} (s : Parts) (are : AreParts s) (after : Placed) (result : 
       seen : AreOfSeenTypes s.assertions.limits after.table.kinds
       seen = subst (AreOfSeenTypes s.assertions.limits) (sym (same_kinds result leaves err)) are.seen
 
-  pub steps-store : (at slot : ℕ) (to : Option ℕ) → RefusesBy result (store_refusal s.placed.table at slot to) → OnOk result (after.table ≡ with_changed_slot s.placed.table at slot (slot_holding to)) → OnErr result (after ≡ s.placed) → Steps (placed_heap s) (Store at slot to) result (placed_heap s') × AreParts s'
+  pub steps-store : (at slot : ℕ) (to : Option ℕ) → RefusesBy result (store_refusal s.placed.table at slot to) →
+      OnOk result (after.table ≡ with_changed_slot s.placed.table at slot (slot_holding to)) → OnErr result (after ≡ s.placed) →
+      Steps (placed_heap s) (Store at slot to) result (placed_heap s') × AreParts s'
   steps-store at slot to =
       let t = s.placed.table in
       steps-table (Store at slot to) (store_refusal t at slot to) (with_changed_slot t at slot (slot_holding to)) (step-store (heap_of s) at slot to) (kinds-with_change t at slot (slot_holding to))
 
-  pub steps-set_weak : (at slot : ℕ) (weak : Bool) → RefusesBy result (slot_refusal s.placed.table at slot) → OnOk result (after.table ≡ with_changed_slot s.placed.table at slot (slot_made_weak weak)) → OnErr result (after ≡ s.placed) → Steps (placed_heap s) (SetWeak at slot weak) result (placed_heap s') × AreParts s'
+  pub steps-set_weak : (at slot : ℕ) (weak : Bool) → RefusesBy result (slot_refusal s.placed.table at slot) →
+      OnOk result (after.table ≡ with_changed_slot s.placed.table at slot (slot_made_weak weak)) → OnErr result (after ≡ s.placed) →
+      Steps (placed_heap s) (SetWeak at slot weak) result (placed_heap s') × AreParts s'
   steps-set_weak at slot weak =
       let t = s.placed.table in
-      steps-table (SetWeak at slot weak) (slot_refusal t at slot) (with_changed_slot t at slot (slot_made_weak weak)) (step-set_weak (heap_of s) at slot weak) (kinds-with_change t at slot (slot_made_weak weak))
+      steps-table (SetWeak at slot weak) (slot_refusal t at slot) (with_changed_slot t at slot (slot_made_weak weak))
+      (step-set_weak (heap_of s) at slot weak) (kinds-with_change t at slot (slot_made_weak weak))
 
-  pub steps-root : (name : List ℕ) (to : Option ℕ) → RefusesBy result (root_refusal s.placed.table name to) → OnOk result (after.table ≡ with_root s.placed.table name to) → OnErr result (after ≡ s.placed) → Steps (placed_heap s) (Root name to) result (placed_heap s') × AreParts s'
+  pub steps-root : (name : List ℕ) (to : Option ℕ) → RefusesBy result (root_refusal s.placed.table name to) →
+      OnOk result (after.table ≡ with_root s.placed.table name to) → OnErr result (after ≡ s.placed) →
+      Steps (placed_heap s) (Root name to) result (placed_heap s') × AreParts s'
   steps-root name to =
       let t = s.placed.table in
       steps-table (Root name to) (root_refusal t name to) (with_root t name to) (step-root (heap_of s) name to) (kinds-with_root t name to)
@@ -147,8 +165,12 @@ module _ {T : Type 0} (s : Parts) (are : AreParts s) (after : Assertions) (resul
   abbrev r' : Parts
   r' = record s { assertions = after }
 
-  steps-assertions : (event : Event) (refusal : Option Refusal) (a : Assertions) → step (heap_of s) event ≡ heap_unless refusal (heap_of (record s { assertions = a })) → a.limits ≡ s.assertions.limits → Within s.assertions.dead a.dead → RefusesBy result refusal → OnOk result (after ≡ a) → OnErr result (after ≡ s.assertions) → Steps (placed_heap s) event result (placed_heap r') × AreParts r'
-  steps-assertions event refusal a means limits within refused leaves err = (steps, parts-after s r' event result steps are seen (agree-more s.assertions.dead after.dead (still_within result leaves err) s.regions.regions s.regions.unasserted are.unasserted))
+  steps-assertions : (event : Event) (refusal : Option Refusal) (a : Assertions) →
+      step (heap_of s) event ≡ heap_unless refusal (heap_of (record s { assertions = a })) → a.limits ≡ s.assertions.limits →
+      Within s.assertions.dead a.dead → RefusesBy result refusal → OnOk result (after ≡ a) → OnErr result (after ≡ s.assertions) →
+      Steps (placed_heap s) event result (placed_heap r') × AreParts r'
+  steps-assertions event refusal a means limits within refused leaves err =
+      (steps, parts-after s r' event result steps are seen (agree-more s.assertions.dead after.dead (still_within result leaves err) s.regions.regions s.regions.unasserted are.unasserted))
     where
       steps : Steps (placed_heap s) event result (placed_heap r')
       steps =
@@ -167,46 +189,76 @@ module _ {T : Type 0} (s : Parts) (are : AreParts s) (after : Assertions) (resul
       seen : AreOfSeenTypes after.limits s.placed.table.kinds
       seen = subst (λ limits. AreOfSeenTypes limits s.placed.table.kinds) (sym (same_limits result leaves err)) are.seen
 
-  pub steps-assert_dead : (id : ℕ) → RefusesBy result (not_live s.placed.table id) → OnOk result (after ≡ record s.assertions { dead = insert_key nat_cmp s.assertions.dead id }) → OnErr result (after ≡ s.assertions) → Steps (placed_heap s) (AssertDead id) result (placed_heap r') × AreParts r'
+  pub steps-assert_dead : (id : ℕ) → RefusesBy result (not_live s.placed.table id) →
+      OnOk result (after ≡ record s.assertions { dead = insert_key nat_cmp s.assertions.dead id }) → OnErr result (after ≡ s.assertions) →
+      Steps (placed_heap s) (AssertDead id) result (placed_heap r') × AreParts r'
   steps-assert_dead id =
-      steps-assertions (AssertDead id) (not_live s.placed.table id) (record s.assertions { dead = insert_key nat_cmp s.assertions.dead id }) (step-assert_dead (heap_of s) id) refl (within-insert s.assertions.dead id)
+      steps-assertions (AssertDead id) (not_live s.placed.table id) (record s.assertions { dead = insert_key nat_cmp s.assertions.dead id })
+      (step-assert_dead (heap_of s) id) refl (within-insert s.assertions.dead id)
 
-  pub steps-assert_unshared : (id : ℕ) → RefusesBy result (not_live s.placed.table id) → OnOk result (after ≡ record s.assertions { unshared = insert_key nat_cmp s.assertions.unshared id }) → OnErr result (after ≡ s.assertions) → Steps (placed_heap s) (AssertUnshared id) result (placed_heap r') × AreParts r'
+  pub steps-assert_unshared : (id : ℕ) → RefusesBy result (not_live s.placed.table id) →
+      OnOk result (after ≡ record s.assertions { unshared = insert_key nat_cmp s.assertions.unshared id }) → OnErr result (after ≡ s.assertions) →
+      Steps (placed_heap s) (AssertUnshared id) result (placed_heap r') × AreParts r'
   steps-assert_unshared id =
-      steps-assertions (AssertUnshared id) (not_live s.placed.table id) (record s.assertions { unshared = insert_key nat_cmp s.assertions.unshared id }) (step-assert_unshared (heap_of s) id) refl (λ other there. there)
+      steps-assertions (AssertUnshared id) (not_live s.placed.table id)
+      (record s.assertions { unshared = insert_key nat_cmp s.assertions.unshared id }) (step-assert_unshared (heap_of s) id) refl
+      (λ other there. there)
 
-  pub steps-assert_ownedby : (owner ownee : ℕ) → RefusesBy result (ownedby_refusal s.placed.table owner ownee) → OnOk result (after ≡ record s.assertions { owners = insert_entry nat_cmp s.assertions.owners ownee owner }) → OnErr result (after ≡ s.assertions) → Steps (placed_heap s) (AssertOwnedBy owner ownee) result (placed_heap r') × AreParts r'
+  pub steps-assert_ownedby : (owner ownee : ℕ) → RefusesBy result (ownedby_refusal s.placed.table owner ownee) →
+      OnOk result (after ≡ record s.assertions { owners = insert_entry nat_cmp s.assertions.owners ownee owner }) →
+      OnErr result (after ≡ s.assertions) → Steps (placed_heap s) (AssertOwnedBy owner ownee) result (placed_heap r') × AreParts r'
   steps-assert_ownedby owner ownee =
-      steps-assertions (AssertOwnedBy owner ownee) (ownedby_refusal s.placed.table owner ownee) (record s.assertions { owners = insert_entry nat_cmp s.assertions.owners ownee owner }) (step-assert_ownedby (heap_of s) owner ownee) refl (λ other there. there)
+      steps-assertions (AssertOwnedBy owner ownee) (ownedby_refusal s.placed.table owner ownee)
+      (record s.assertions { owners = insert_entry nat_cmp s.assertions.owners ownee owner }) (step-assert_ownedby (heap_of s) owner ownee) refl
+      (λ other there. there)
 
 -- ---- the others
 
 -- an object is added, also to the regions
-pub steps-alloc : {T : Type 0} (s : Parts) → AreParts s → (after : Placed) (regions : RegionTable) (result : Result T Stop) (id : ℕ) (kind : List ℕ) (slots thread : ℕ) → RefusesBy result (alloc_refusal s.placed.table id kind slots) → OnOk result ((after.table ≡ with_object s.placed.table id kind slots) × (regions.regions ≡ with_member s.regions.regions thread id)) → OnErr result ((after ≡ s.placed) × (regions.regions ≡ s.regions.regions)) → Steps (placed_heap s) (Alloc id kind slots thread) result (placed_heap (record s { placed = after; regions = regions }))
+pub steps-alloc : {T : Type 0} (s : Parts) → AreParts s →
+    (after : Placed) (regions : RegionTable) (result : Result T Stop) (id : ℕ) (kind : List ℕ) (slots thread : ℕ) →
+    RefusesBy result (alloc_refusal s.placed.table id kind slots) →
+    OnOk result ((after.table ≡ with_object s.placed.table id kind slots) × (regions.regions ≡ with_member s.regions.regions thread id)) →
+    OnErr result ((after ≡ s.placed) × (regions.regions ≡ s.regions.regions)) →
+    Steps (placed_heap s) (Alloc id kind slots thread) result (placed_heap (record s { placed = after; regions = regions }))
 steps-alloc {T} s are after regions result id kind slots thread refused leaves err =
-    steps-by (placed_heap s) (placed_heap (record s { placed = after; regions = regions })) (Alloc id kind slots thread) (alloc_refusal t id kind slots) (record (heap_of s) { table = with_object t id kind slots; regions = with_member s.regions.regions thread id }) (step-alloc (heap_of s) id kind slots thread) result refused
+    steps-by (placed_heap s) (placed_heap (record s { placed = after; regions = regions })) (Alloc id kind slots thread)
+    (alloc_refusal t id kind slots) (record (heap_of s) { table = with_object t id kind slots; regions = with_member s.regions.regions thread id })
+    (step-alloc (heap_of s) id kind slots thread) result refused
     (on_ok_weaker result
     (λ e.
     (λ i. record (heap_of s) { table = e.0 i; regions = e.1 i; limits = named_limits (e.0 i).kinds s.assertions.limits })
-    ∙ ap (λ named. record (heap_of s) { table = with_object t id kind slots; regions = with_member s.regions.regions thread id; limits = named }) (ap (λ ks. named_limits ks s.assertions.limits) (kinds-with_object t id kind slots) ∙ named-with_kind t.kinds kind s.assertions.limits are.seen))
+    ∙ ap (λ named. record (heap_of s) { table = with_object t id kind slots; regions = with_member s.regions.regions thread id; limits = named })
+    (ap (λ ks. named_limits ks s.assertions.limits) (kinds-with_object t id kind slots) ∙ named-with_kind t.kinds kind s.assertions.limits are.seen))
     leaves)
-    (on_err_weaker result (λ e. λ i. record { heap = record (heap_of s) { table = (e.0 i).table; regions = e.1 i; limits = named_limits (e.0 i).table.kinds s.assertions.limits }; cells = (e.0 i).cells }) err)
+    (on_err_weaker result
+    (λ e. λ i. record {
+      heap = record (heap_of s) { table = (e.0 i).table; regions = e.1 i; limits = named_limits (e.0 i).table.kinds s.assertions.limits };
+      cells = (e.0 i).cells;
+    }) err)
   where
     t : Table
     t = s.placed.table
 
 -- a region begins
-pub steps-start_region : {T : Type 0} (s : Parts) → AreParts s → (after : RegionTable) (result : Result T Stop) (thread : ℕ) → RefusesBy result (start_refusal s.regions.regions thread) → OnOk result ((after.regions ≡ with_region s.regions.regions thread) × (after.unasserted ≡ with_region s.regions.unasserted thread)) → OnErr result (after ≡ s.regions) → Steps (placed_heap s) (StartRegion thread) result (placed_heap (record s { regions = after })) × AreParts (record s { regions = after })
+pub steps-start_region : {T : Type 0} (s : Parts) → AreParts s → (after : RegionTable) (result : Result T Stop) (thread : ℕ) →
+    RefusesBy result (start_refusal s.regions.regions thread) →
+    OnOk result ((after.regions ≡ with_region s.regions.regions thread) × (after.unasserted ≡ with_region s.regions.unasserted thread)) →
+    OnErr result (after ≡ s.regions) →
+    Steps (placed_heap s) (StartRegion thread) result (placed_heap (record s { regions = after })) × AreParts (record s { regions = after })
 steps-start_region {T} s are after result thread refused leaves err =
     (steps, parts-after s (record s { regions = after }) (StartRegion thread) result steps are are.seen (agree result leaves err))
   where
     steps : Steps (placed_heap s) (StartRegion thread) result (placed_heap (record s { regions = after }))
     steps =
-        steps-by (placed_heap s) (placed_heap (record s { regions = after })) (StartRegion thread) (start_refusal s.regions.regions thread) (record (heap_of s) { regions = with_region s.regions.regions thread }) (step-start_region (heap_of s) thread) result refused
+        steps-by (placed_heap s) (placed_heap (record s { regions = after })) (StartRegion thread) (start_refusal s.regions.regions thread)
+        (record (heap_of s) { regions = with_region s.regions.regions thread }) (step-start_region (heap_of s) thread) result refused
         (on_ok_weaker result (λ e. ap (λ rs. record (heap_of s) { regions = rs }) e.0) leaves)
         (on_err_weaker result (λ e. ap (λ (r : RegionTable). placed_heap (record s { regions = r })) e) err)
 
-    agree : (r : Result T Stop) → OnOk r ((after.regions ≡ with_region s.regions.regions thread) × (after.unasserted ≡ with_region s.regions.unasserted thread)) → OnErr r (after ≡ s.regions) → Agree s.assertions.dead after.regions after.unasserted
+    agree : (r : Result T Stop) →
+        OnOk r ((after.regions ≡ with_region s.regions.regions thread) × (after.unasserted ≡ with_region s.regions.unasserted thread)) →
+        OnErr r (after ≡ s.regions) → Agree s.assertions.dead after.regions after.unasserted
     agree (Ok x) done undone =
         agree-same s.assertions.dead done.0 done.1 (agree-start s.assertions.dead s.regions.regions s.regions.unasserted are.unasserted thread)
     agree (Err e) done undone = subst (λ (r : RegionTable). Agree s.assertions.dead r.regions r.unasserted) (sym undone) are.unasserted
@@ -220,7 +272,9 @@ pub record EndsRegion (s : Parts) (thread : ℕ) (after : Parts) : Type 0 where
   pub nested : AreNested (regions_of s.regions.unasserted thread)
 
 -- a region ends, and its objects are asserted dead
-pub steps-assert_all_dead : {T : Type 0} (s : Parts) → AreParts s → (after : Parts) (result : Result T Stop) (thread : ℕ) → RefusesBy result (end_refusal s.regions.regions thread) → OnOk result (EndsRegion s thread after) → OnErr result (after ≡ s) → Steps (placed_heap s) (AssertAllDead thread) result (placed_heap after) × AreParts after
+pub steps-assert_all_dead : {T : Type 0} (s : Parts) → AreParts s → (after : Parts) (result : Result T Stop) (thread : ℕ) →
+    RefusesBy result (end_refusal s.regions.regions thread) → OnOk result (EndsRegion s thread after) → OnErr result (after ≡ s) →
+    Steps (placed_heap s) (AssertAllDead thread) result (placed_heap after) × AreParts after
 steps-assert_all_dead {T} s are after result thread refused leaves err =
     (steps, parts-after s after (AssertAllDead thread) result steps are (seen result leaves err) (agree result leaves err))
   where
@@ -267,7 +321,8 @@ refused_ownee t owner ownee r live gone =
     λ i. first_refusal (live i) (first_refusal (gone i) (refusal_where (owner == ownee) (SelfOwned owner)))
 
 -- where both are live, only an object that is to own itself is refused
-pub refused_self : {T : Type 0} (t : Table) (owner ownee : ℕ) (result : Result T Stop) → not_live t owner ≡ None → not_live t ownee ≡ None → RefusesBy result (refusal_where (owner == ownee) (SelfOwned owner)) → RefusesBy result (ownedby_refusal t owner ownee)
+pub refused_self : {T : Type 0} (t : Table) (owner ownee : ℕ) (result : Result T Stop) → not_live t owner ≡ None → not_live t ownee ≡ None →
+    RefusesBy result (refusal_where (owner == ownee) (SelfOwned owner)) → RefusesBy result (ownedby_refusal t owner ownee)
 refused_self t owner ownee result live other_live refused =
     subst (RefusesBy result) (λ i. first_refusal (sym live i) (first_refusal (sym other_live i) (refusal_where (owner == ownee) (SelfOwned owner)))) refused
 
@@ -284,14 +339,19 @@ regions-live t regions thread live =
 -- the id of a new object is above all in them
 pub new_id-above : (s : Parts) → AreParts s → (id : ℕ) (kind : List ℕ) (slots thread : ℕ) → alloc_refusal s.placed.table id kind slots ≡ None → IsAbove id (regions_of s.regions.regions thread)
 new_id-above s are id kind slots thread none =
-    IsAbove-live s.placed.table (regions_of s.regions.regions thread) id are.heap.rising (alloc_refusal-None s.placed.table id kind slots none) (regions-live s.placed.table s.regions.regions thread are.heap.refers.regions)
+    IsAbove-live s.placed.table (regions_of s.regions.regions thread) id are.heap.rising (alloc_refusal-None s.placed.table id kind slots none)
+    (regions-live s.placed.table s.regions.regions thread are.heap.refers.regions)
 
 -- the parts with a new object
-pub parts-alloc : (s : Parts) → AreParts s → (after : Placed) (regions : RegionTable) (id : ℕ) (kind : List ℕ) (slots thread : ℕ) → alloc_refusal s.placed.table id kind slots ≡ None → after.table ≡ with_object s.placed.table id kind slots → regions.regions ≡ with_member s.regions.regions thread id → regions.unasserted ≡ with_member s.regions.unasserted thread id → AreParts (record s { placed = after; regions = regions })
+pub parts-alloc : (s : Parts) → AreParts s → (after : Placed) (regions : RegionTable) (id : ℕ) (kind : List ℕ) (slots thread : ℕ) →
+    alloc_refusal s.placed.table id kind slots ≡ None → after.table ≡ with_object s.placed.table id kind slots →
+    regions.regions ≡ with_member s.regions.regions thread id → regions.unasserted ≡ with_member s.regions.unasserted thread id →
+    AreParts (record s { placed = after; regions = regions })
 parts-alloc s are after regions id kind slots thread none added noted unasserted =
     parts-after s (record s { placed = after; regions = regions }) (Alloc id kind slots thread) (Ok tt)
     (steps-alloc {T = Unit {0}} s are after regions (Ok tt) id kind slots thread none (added, noted) tt) are
-    (subst (AreOfSeenTypes s.assertions.limits) (sym (ap (λ (t : Table). t.kinds) added ∙ kinds-with_object s.placed.table id kind slots)) (seen-with_kind s.assertions.limits s.placed.table.kinds kind are.seen))
+    (subst (AreOfSeenTypes s.assertions.limits) (sym (ap (λ (t : Table). t.kinds) added ∙ kinds-with_object s.placed.table id kind slots))
+    (seen-with_kind s.assertions.limits s.placed.table.kinds kind are.seen))
     (agree-same s.assertions.dead noted unasserted (agree-note s.assertions.dead s.regions.regions s.regions.unasserted are.unasserted thread id))
 
 -- ---- a limit
@@ -327,13 +387,18 @@ module _ (s : Parts) (are : AreParts s) (kind : List ℕ) (limit : ℕ) where
       record (heap_of s) { table = record t { kinds = with_kind t.kinds kind }; limits = insert_entry name_cmp (heap_of s).limits kind limit }
 
   -- Where it fails, there may be more room.
-  pub steps-no_limit : {T : Type 0} (e : Stop) (after : Placed) (assertions : Assertions) (room : ℕ) → RefusesBy {T = T} (Err e) refusal → after ≡ s.placed → assertions ≡ record s.assertions { limits = with_room s.assertions.limits room } → Steps {T = T} (placed_heap s) (AssertInstances kind limit) (Err e) (placed_heap (record s { placed = after; assertions = assertions }))
+  pub steps-no_limit : {T : Type 0} (e : Stop) (after : Placed) (assertions : Assertions) (room : ℕ) → RefusesBy {T = T} (Err e) refusal →
+      after ≡ s.placed → assertions ≡ record s.assertions { limits = with_room s.assertions.limits room } →
+      Steps {T = T} (placed_heap s) (AssertInstances kind limit) (Err e) (placed_heap (record s { placed = after; assertions = assertions }))
   steps-no_limit {T} e after assertions room refused same more =
-      steps-by (placed_heap s) (placed_heap (record s { placed = after; assertions = assertions })) (AssertInstances kind limit) refusal limited (step-assert_instances (heap_of s) kind limit) (Err e) refused tt
+      steps-by (placed_heap s) (placed_heap (record s { placed = after; assertions = assertions })) (AssertInstances kind limit) refusal limited
+      (step-assert_instances (heap_of s) kind limit) (Err e) refused tt
       ((λ i. placed_heap (record s { placed = same i; assertions = more i }))
       ∙ ap (λ named. record { heap = record (heap_of s) { limits = named }; cells = s.placed.cells }) (named-with_room t.kinds s.assertions.limits room))
 
-  pub parts-no_limit : (after : Placed) (assertions : Assertions) (room : ℕ) → after ≡ s.placed → assertions ≡ record s.assertions { limits = with_room s.assertions.limits room } → AreParts (record s { placed = after; assertions = assertions })
+  pub parts-no_limit : (after : Placed) (assertions : Assertions) (room : ℕ) → after ≡ s.placed →
+      assertions ≡ record s.assertions { limits = with_room s.assertions.limits room } →
+      AreParts (record s { placed = after; assertions = assertions })
   parts-no_limit after assertions room same more =
       subst (λ (p : Placed). AreParts (record s { placed = p; assertions = assertions })) (sym same)
       (subst (λ (a : Assertions). AreParts (record s { assertions = a })) (sym more)
@@ -343,7 +408,10 @@ module _ (s : Parts) (are : AreParts s) (kind : List ℕ) (limit : ℕ) where
         unasserted = are.unasserted;
       }))
 
-  module _ (after : Placed) (assertions : Assertions) (room number : ℕ) (none : refusal ≡ None) (seen : after.table ≡ record t { kinds = with_kind t.kinds kind }) (at : position (bytes_eq kind) after.table.kinds ≡ Some number) (set : assertions ≡ record s.assertions { limits = slice_set (with_room s.assertions.limits room) number (Some limit) }) (within : number < length (with_room s.assertions.limits room)) where
+  module _ (after : Placed) (assertions : Assertions) (room number : ℕ) (none : refusal ≡ None)
+      (seen : after.table ≡ record t { kinds = with_kind t.kinds kind }) (at : position (bytes_eq kind) after.table.kinds ≡ Some number)
+      (set : assertions ≡ record s.assertions { limits = slice_set (with_room s.assertions.limits room) number (Some limit) })
+      (within : number < length (with_room s.assertions.limits room)) where
     abbrev kinds : List (List ℕ)
     kinds = with_kind t.kinds kind
 
@@ -360,7 +428,8 @@ module _ (s : Parts) (are : AreParts s) (kind : List ℕ) (limit : ℕ) where
 
     pub steps-limit : {T : Type 0} (x : T) → Steps (placed_heap s) (AssertInstances kind limit) (Ok x) (placed_heap (record s { placed = after; assertions = assertions }))
     steps-limit {T} x =
-        steps-by (placed_heap s) (placed_heap (record s { placed = after; assertions = assertions })) (AssertInstances kind limit) refusal limited (step-assert_instances (heap_of s) kind limit) (Ok x) none
+        steps-by (placed_heap s) (placed_heap (record s { placed = after; assertions = assertions })) (AssertInstances kind limit) refusal limited
+        (step-assert_instances (heap_of s) kind limit) (Ok x) none
         ((λ i. record (heap_of (record s { assertions = set i })) { table = seen i; limits = named_limits (seen i).kinds (set i).limits })
         ∙ ap (λ es. record (heap_of s) { table = record t { kinds = kinds }; limits = es }) named)
         tt
@@ -370,11 +439,13 @@ module _ (s : Parts) (are : AreParts s) (kind : List ℕ) (limit : ℕ) where
         parts-after s (record s { placed = after; assertions = assertions }) (AssertInstances kind limit) (Ok tt) (steps-limit {T = Unit {0}} tt) are
         (subst (AreOfSeenTypes assertions.limits) (sym same_kinds)
         (subst (λ limits. AreOfSeenTypes limits kinds) (sym (ap (λ (a : Assertions). a.limits) set))
-        (seen-set (with_room s.assertions.limits room) number limit kinds (position-Some (bytes_eq kind) kinds number [] at_kinds).0 (seen-with_room s.assertions.limits room kinds (seen-with_kind s.assertions.limits t.kinds kind are.seen)))))
+        (seen-set (with_room s.assertions.limits room) number limit kinds (position-Some (bytes_eq kind) kinds number [] at_kinds).0
+        (seen-with_room s.assertions.limits room kinds (seen-with_kind s.assertions.limits t.kinds kind are.seen)))))
         (subst (λ (a : Assertions). AreUnasserted (record s { assertions = a })) (sym set) are.unasserted)
 
 -- there is room for the limit of each type that was seen, and for one more
-pub room_for_kind : (limits : List (Option ℕ)) (kinds : List (List ℕ)) (kind : List ℕ) (number : ℕ) → position (bytes_eq kind) (with_kind kinds kind) ≡ Some number → number < length (with_room limits (length kinds + 1))
+pub room_for_kind : (limits : List (Option ℕ)) (kinds : List (List ℕ)) (kind : List ℕ) (number : ℕ) →
+    position (bytes_eq kind) (with_kind kinds kind) ≡ Some number → number < length (with_room limits (length kinds + 1))
 room_for_kind limits kinds kind number at =
     let found = (position-Some (bytes_eq kind) (with_kind kinds kind) number [] at).0 in
     let few = with_kind-length kinds kind in

@@ -55,7 +55,9 @@ well_formed-after before after event (Err e) steps well =
     subst IsWellFormed (sym (ap (λ (h : PlacedHeap). h.heap) steps.err)) well
 
 -- after an operation the parts are those of a heap, where types with a limit were seen
-pub parts-after : {T : Type 0} (before after : Parts) (event : Event) (result : Result T Stop) → Steps (placed_heap before) event result (placed_heap after) → AreParts before → AreOfSeenTypes after.assertions.limits after.placed.table.kinds → AreUnasserted after → AreParts after
+pub parts-after : {T : Type 0} (before after : Parts) (event : Event) (result : Result T Stop) →
+    Steps (placed_heap before) event result (placed_heap after) → AreParts before →
+    AreOfSeenTypes after.assertions.limits after.placed.table.kinds → AreUnasserted after → AreParts after
 parts-after before after event result steps are seen unasserted = record {
   heap = well_formed-after (placed_heap before) (placed_heap after) event result steps are.heap;
   seen = seen;

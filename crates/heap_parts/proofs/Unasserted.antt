@@ -41,7 +41,8 @@ without_more : (dead more : List ℕ) → Within dead more → (ids : List ℕ) 
 without_more dead more within [] = refl
 without_more dead more within (x ∷ ids) = go (has_id dead x) refl (without_more dead more within ids)
   where
-    go : (b : Bool) → has_id dead x ≡ b → without_dead more (without_dead dead ids) ≡ without_dead more ids → without_dead more (cond (not b) (x ∷ without_dead dead ids) (without_dead dead ids)) ≡ without_dead more (x ∷ ids)
+    go : (b : Bool) → has_id dead x ≡ b → without_dead more (without_dead dead ids) ≡ without_dead more ids →
+        without_dead more (cond (not b) (x ∷ without_dead dead ids) (without_dead dead ids)) ≡ without_dead more (x ∷ ids)
     go true is rest = rw (within x is) rest
     go false is rest = ap (λ (xs : List ℕ). cond (not (has_id more x)) (x ∷ xs) xs) rest
 
@@ -55,7 +56,9 @@ without-kept : (keeps : ℕ → Bool) (dead ids : List ℕ) → without_dead (fi
 without-kept keeps dead [] = refl
 without-kept keeps dead (x ∷ ids) = go (keeps x) refl (has_id dead x) refl (without-kept keeps dead ids)
   where
-    go : (k : Bool) → keeps x ≡ k → (b : Bool) → has_id dead x ≡ b → without_dead (filter keeps dead) (filter keeps ids) ≡ filter keeps (without_dead dead ids) → without_dead (filter keeps dead) (cond k (x ∷ filter keeps ids) (filter keeps ids)) ≡ filter keeps (cond (not b) (x ∷ without_dead dead ids) (without_dead dead ids))
+    go : (k : Bool) → keeps x ≡ k → (b : Bool) → has_id dead x ≡ b →
+        without_dead (filter keeps dead) (filter keeps ids) ≡ filter keeps (without_dead dead ids) →
+        without_dead (filter keeps dead) (cond k (x ∷ filter keeps ids) (filter keeps ids)) ≡ filter keeps (cond (not b) (x ∷ without_dead dead ids) (without_dead dead ids))
     go true stays true is rest = rw (has_id-filter keeps dead x, stays, is) rest
     go true stays false is rest = rw (has_id-filter keeps dead x, stays, is) (ap (λ (xs : List ℕ). x ∷ xs) rest)
     go false goes true is rest = rest
@@ -73,7 +76,8 @@ agree-more dead more within regions others agree =
         map_agree (map (without_dead dead)) (map (without_dead more)) (map_agree (without_dead dead) (without_dead more) (without_more dead more within))
 
 -- and they do where some ids stay
-pub agree-kept : (keeps : ℕ → Bool) (dead : List ℕ) (regions others : List (List (List ℕ))) → Agree dead regions others → Agree (filter keeps dead) (map (map (filter keeps)) regions) (map (map (filter keeps)) others)
+pub agree-kept : (keeps : ℕ → Bool) (dead : List ℕ) (regions others : List (List (List ℕ))) → Agree dead regions others →
+    Agree (filter keeps dead) (map (map (filter keeps)) regions) (map (map (filter keeps)) others)
 agree-kept keeps dead regions others agree = each regions ∙ (ap (map (map (filter keeps))) agree ∙ sym (each others))
   where
     of_thread : (rs : List (List ℕ)) → map (without_dead (filter keeps dead)) (map (filter keeps) rs) ≡ map (filter keeps) (map (without_dead dead) rs)
@@ -114,7 +118,8 @@ module _ (dead : List ℕ) (regions others : List (List (List ℕ))) (agree : Ag
       ∙ (ap (λ (rs : List (List ℕ)). get_or rs 0 []) of_thread ∙ get_or-map (without_dead dead) (regions_of others thread) 0 [])
 
   -- where what is unasserted in the innermost region is asserted dead, and it ends
-  pub agree-finish : AreNested (regions_of others thread) → All (λ id. has_id dead id ≡ true) (innermost others thread) → Agree dead (without_innermost regions thread) (without_innermost_ids others thread)
+  pub agree-finish : AreNested (regions_of others thread) → All (λ id. has_id dead id ≡ true) (innermost others thread) →
+      Agree dead (without_innermost regions thread) (without_innermost_ids others thread)
   agree-finish nested asserted =
       changed (drop 1 (regions_of regions thread)) (outer_without (regions_of others thread))
       (sym (drop-map (without_dead dead) 1 (regions_of regions thread))
@@ -154,7 +159,11 @@ insert-there (x ∷ dead) id sorted there = go (nat_cmp id x) refl (insert-there
     not_below : nat_cmp id x ≡ Less → ⊥
     not_below below =
         let found = (has_id-Contains (x ∷ dead) id).0 there in
-        let least = All-contains (λ y. x ≤ y) (x ∷ dead) id (All-cons (λ y. x ≤ y) x dead (omega arith) (All-weaker (λ y. nat_cmp x y ≡ Less) (λ y. x ≤ y) (λ y above. let more = less_from_cmp x y above in omega arith) dead (All-after_first nat_cmp x dead sorted))) found in
+        let least =
+        All-contains (λ y. x ≤ y) (x ∷ dead) id
+        (All-cons (λ y. x ≤ y) x dead (omega arith)
+        (All-weaker (λ y. nat_cmp x y ≡ Less) (λ y. x ≤ y) (λ y above. let more = less_from_cmp x y above in omega arith) dead
+        (All-after_first nat_cmp x dead sorted))) found in
         let less = less_from_cmp id x below in
         omega arith
 
@@ -174,18 +183,22 @@ insert-there (x ∷ dead) id sorted there = go (nat_cmp id x) refl (insert-there
     go Greater is rest = ap (λ (xs : List ℕ). x ∷ xs) (rest (later is))
 
 -- Ids of which some are there already are put in as the others alone are.
-inserted-without : (some dead : List ℕ) → Within some dead → IsStrictlySortedBy nat_cmp dead → (ids : List ℕ) → fold (insert_key nat_cmp) dead (without_dead some ids) ≡ fold (insert_key nat_cmp) dead ids
+inserted-without : (some dead : List ℕ) → Within some dead → IsStrictlySortedBy nat_cmp dead → (ids : List ℕ) →
+    fold (insert_key nat_cmp) dead (without_dead some ids) ≡ fold (insert_key nat_cmp) dead ids
 inserted-without some dead within sorted [] = refl
 inserted-without some dead within sorted (x ∷ ids) = go (has_id some x) refl (λ more grown still. inserted-without some more grown still ids)
   where
-    go : (b : Bool) → has_id some x ≡ b → ((more : List ℕ) → Within some more → IsStrictlySortedBy nat_cmp more → fold (insert_key nat_cmp) more (without_dead some ids) ≡ fold (insert_key nat_cmp) more ids) → fold (insert_key nat_cmp) dead (cond (not b) (x ∷ without_dead some ids) (without_dead some ids)) ≡ fold (insert_key nat_cmp) (insert_key nat_cmp dead x) ids
+    go : (b : Bool) → has_id some x ≡ b →
+        ((more : List ℕ) → Within some more → IsStrictlySortedBy nat_cmp more → fold (insert_key nat_cmp) more (without_dead some ids) ≡ fold (insert_key nat_cmp) more ids) →
+        fold (insert_key nat_cmp) dead (cond (not b) (x ∷ without_dead some ids) (without_dead some ids)) ≡ fold (insert_key nat_cmp) (insert_key nat_cmp dead x) ids
     go true is rest =
         rest dead within sorted ∙ ap (λ (ks : List ℕ). fold (insert_key nat_cmp) ks ids) (sym (insert-there dead x sorted (within x is)))
     go false is rest =
         rest (insert_key nat_cmp dead x) (λ id there. within-insert dead x id (within id there)) (sorted-insert_key nat_cmp nat_cmp_total dead x sorted)
 
 -- What is unasserted in the innermost region is asserted dead as all that is in it.
-pub inserted_agree : (dead : List ℕ) → IsStrictlySortedBy nat_cmp dead → (regions others : List (List (List ℕ))) → Agree dead regions others → (thread : ℕ) → fold (insert_key nat_cmp) dead (innermost others thread) ≡ fold (insert_key nat_cmp) dead (innermost regions thread)
+pub inserted_agree : (dead : List ℕ) → IsStrictlySortedBy nat_cmp dead → (regions others : List (List (List ℕ))) → Agree dead regions others →
+    (thread : ℕ) → fold (insert_key nat_cmp) dead (innermost others thread) ≡ fold (insert_key nat_cmp) dead (innermost regions thread)
 inserted_agree dead sorted regions others agree thread =
     sym (inserted-without dead dead (λ id there. there) sorted (innermost others thread))
     ∙ (ap (fold (insert_key nat_cmp) dead) (sym (innermost_agree dead regions others agree thread)) ∙ inserted-without dead dead (λ id there. there) sorted (innermost regions thread))

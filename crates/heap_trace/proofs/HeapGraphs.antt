@@ -1,5 +1,6 @@
 -- The graph of a table by cells is that of the heap by ids, under other numbers.
-use Rattle.std.proofs.Common.{◌≡◌, ℕ, zero, suc, ◌+◌, ◌<◌, ◌≤◌, Bool, true, false, ◌||◌, cond, List, [], ◌∷◌, length, map, filter, sym, refl, ap, ◌∙◌, subst, arith, eqb, eqb-true, Option, None, Some, IsTrue}
+use Rattle.std.proofs.Common.{◌≡◌, ℕ, zero, suc, ◌+◌, ◌<◌, ◌≤◌, Bool, true, false, ◌||◌, cond, List, [], ◌∷◌, length, map, filter, sym, refl, ap}
+use Rattle.std.proofs.Common.{◌∙◌, subst, arith, eqb, eqb-true, Option, None, Some, IsTrue}
 use Rattle.std.specs.Prelude.{AllPairs, is_some, unwrap_or, option_and_then}
 use Rattle.std.specs.List.{All, filter_map, cons_option, enumerate_from, position, flat_map}
 use Rattle.std.specs.Option.{option_map, option_map_or, IfSome}
@@ -105,7 +106,8 @@ rising-ids (y ∷ ys) rises x =
         let same = c.2 in
         omega arith)
 
-once-map : (base : ℕ → Bool) (f : ℕ → ℕ) → ((x y : ℕ) → base x ≡ true → base y ≡ true → f x ≡ f y → x ≡ y) → (xs : List ℕ) → ((y : ℕ) → has_id xs y ≡ true → base y ≡ true) → IsOnce xs → IsOnce (map f xs)
+once-map : (base : ℕ → Bool) (f : ℕ → ℕ) → ((x y : ℕ) → base x ≡ true → base y ≡ true → f x ≡ f y → x ≡ y) → (xs : List ℕ) →
+    ((y : ℕ) → has_id xs y ≡ true → base y ≡ true) → IsOnce xs → IsOnce (map f xs)
 once-map base f alone xs are once z = go (times z (map f xs)) refl
   where
     go : (n : ℕ) → times z (map f xs) ≡ n → times z (map f xs) ≤ 1
@@ -175,7 +177,8 @@ module _ (p : Placed) (r : RoleTable) (placed : IsPlaced p) (sound : IsSound p.t
   nodes-often : IsOnce g.nodes → AsOften (ids p.table) (map id_of g.nodes)
   nodes-often once =
       as_often-from_times (ids p.table) (map id_of g.nodes)
-      (λ x. once-times (ids p.table) (rising-ids (ids p.table) sound.ids.rising) x ∙ ap bit (nodes-named x) ∙ sym (once-times (map id_of g.nodes) (once-map (has_id g.nodes) id_of alone g.nodes (λ y at. at) once) x))
+      (λ x. once-times (ids p.table) (rising-ids (ids p.table) sound.ids.rising) x ∙ ap bit (nodes-named x)
+      ∙ sym (once-times (map id_of g.nodes) (once-map (has_id g.nodes) id_of alone g.nodes (λ y at. at) once) x))
 
   -- the cell of a live object, by its id
   cell-live : (id : ℕ) → is_live p.table id ≡ true → (cell : ℕ) × (cell_of p id ≡ Some cell) × (id_of cell ≡ id)
@@ -188,13 +191,18 @@ module _ (p : Placed) (r : RoleTable) (placed : IsPlaced p) (sound : IsSound p.t
   slots-named n (s ∷ slots) live =
       go (edge_of s) refl (slots-named (n + 1) slots (All-tail (HoldsLive p.table) s slots live))
     where
-      go : (o : Option ℕ) → edge_of s ≡ o → map (λ e. e.1) (filter_map numbered_edge (enumerate_from (n + 1) slots)) ≡ map id_of (filter_map (target_of p) slots) → map (λ (e : ℕ × ℕ). e.1) (cons_option (option_map (λ y. (n, y)) o) (filter_map numbered_edge (enumerate_from (n + 1) slots))) ≡ map id_of (cons_option (option_and_then (cell_of p) o) (filter_map (target_of p) slots))
+      go : (o : Option ℕ) → edge_of s ≡ o →
+          map (λ e. e.1) (filter_map numbered_edge (enumerate_from (n + 1) slots)) ≡ map id_of (filter_map (target_of p) slots) →
+          map (λ (e : ℕ × ℕ). e.1) (cons_option (option_map (λ y. (n, y)) o) (filter_map numbered_edge (enumerate_from (n + 1) slots)))
+          ≡ map id_of (cons_option (option_and_then (cell_of p) o) (filter_map (target_of p) slots))
       go None e rest = rest
       go (Some y) e rest =
           let c = cell-live y (edge-live p.table s y (All-head (HoldsLive p.table) s slots live) e) in
           rest-of c.0 c.2 rest ∙ ap (λ (o : Option ℕ). map id_of (cons_option o (filter_map (target_of p) slots))) (sym c.1)
         where
-          rest-of : (cell : ℕ) → id_of cell ≡ y → map (λ e. e.1) (filter_map numbered_edge (enumerate_from (n + 1) slots)) ≡ map id_of (filter_map (target_of p) slots) → y ∷ map (λ e. e.1) (filter_map numbered_edge (enumerate_from (n + 1) slots)) ≡ id_of cell ∷ map id_of (filter_map (target_of p) slots)
+          rest-of : (cell : ℕ) → id_of cell ≡ y →
+              map (λ e. e.1) (filter_map numbered_edge (enumerate_from (n + 1) slots)) ≡ map id_of (filter_map (target_of p) slots) →
+              y ∷ map (λ e. e.1) (filter_map numbered_edge (enumerate_from (n + 1) slots)) ≡ id_of cell ∷ map id_of (filter_map (target_of p) slots)
           rest-of cell is_so rest = λ i. sym is_so i ∷ rest i
 
   targets-named : (cell : ℕ) → has_id g.nodes cell ≡ true → targets p.table (id_of cell) ≡ map id_of (g.targets cell)
@@ -202,12 +210,15 @@ module _ (p : Placed) (r : RoleTable) (placed : IsPlaced p) (sound : IsSound p.t
       go (object_at p.table.objects (id_of cell)) refl
       ∙ ap (λ (o : Option ℕ). map id_of (filter_map (target_of p) (option_map_or (λ (u : Object). u.slots) (option_and_then (object_at p.table.objects) o) []))) (sym (node-held cell at))
     where
-      go : (o : Option Object) → object_at p.table.objects (id_of cell) ≡ o → map (λ (e : ℕ × ℕ). e.1) (option_map_or (λ (u : Object). filter_map numbered_edge (enumerate_from 0 u.slots)) o []) ≡ map id_of (filter_map (target_of p) (option_map_or (λ (u : Object). u.slots) o []))
+      go : (o : Option Object) → object_at p.table.objects (id_of cell) ≡ o →
+          map (λ (e : ℕ × ℕ). e.1) (option_map_or (λ (u : Object). filter_map numbered_edge (enumerate_from 0 u.slots)) o [])
+          ≡ map id_of (filter_map (target_of p) (option_map_or (λ (u : Object). u.slots) o []))
       go None e = refl
       go (Some u) e =
           slots-named 0 u.slots (find_All (λ w. eqb w.id (id_of cell)) (λ w. All (HoldsLive p.table) w.slots) p.table.objects u sound.slots e)
 
-  roots-named : (roots : List (List ℕ × ℕ)) → All (λ id. IsTrue (is_live p.table id)) (map (λ n. n.1) roots) → map (λ (n : List ℕ × ℕ). n.1) roots ≡ map id_of (filter_map (λ (n : List ℕ × ℕ). cell_of p n.1) roots)
+  roots-named : (roots : List (List ℕ × ℕ)) → All (λ id. IsTrue (is_live p.table id)) (map (λ n. n.1) roots) →
+      map (λ (n : List ℕ × ℕ). n.1) roots ≡ map id_of (filter_map (λ (n : List ℕ × ℕ). cell_of p n.1) roots)
   roots-named [] live = refl
   roots-named (n ∷ roots) live =
       let P = λ (id : ℕ). IsTrue (is_live p.table id) in
@@ -221,7 +232,8 @@ module _ (p : Placed) (r : RoleTable) (placed : IsPlaced p) (sound : IsSound p.t
       go (object_at p.table.objects (id_of cell)) (placed.live cell (id_of cell) (node-held cell at))
       ∙ ap (λ (o : Option ℕ). unwrap_or (option_and_then (λ (u : Object). position (bytes_eq u.kind) p.table.kinds) (option_and_then (object_at p.table.objects) o)) 0) (sym (node-held cell at))
     where
-      go : (o : Option Object) → is_some o ≡ true → unwrap_or (position (bytes_eq (option_map_or (λ (u : Object). u.kind) o [])) p.table.kinds) 0 ≡ unwrap_or (option_and_then (λ (u : Object). position (bytes_eq u.kind) p.table.kinds) o) 0
+      go : (o : Option Object) → is_some o ≡ true →
+          unwrap_or (position (bytes_eq (option_map_or (λ (u : Object). u.kind) o [])) p.table.kinds) 0 ≡ unwrap_or (option_and_then (λ (u : Object). position (bytes_eq u.kind) p.table.kinds) o) 0
       go None live = absurd (false≢true live)
       go (Some u) live = refl
 

@@ -51,11 +51,15 @@ seen-position kind kinds seen =
 
     go : (o : Option (List ℕ)) → slice_get kinds (position_or_len (bytes_eq kind) kinds) ≡ o → is_some o ≡ true → (n : ℕ) × (position (bytes_eq kind) kinds ≡ Some n)
     go None e some = absurd (false≢true some)
-    go (Some x) e some =
-        (position_or_len (bytes_eq kind) kinds, ap (λ b. cond b (Some (position_or_len (bytes_eq kind) kinds)) None) (lt-ltb (position_or_len (bytes_eq kind) kinds) (length kinds) (slice_get_within kinds (position_or_len (bytes_eq kind) kinds) x e)))
+    go (Some x) e some = (
+      position_or_len (bytes_eq kind) kinds,
+      ap (λ b. cond b (Some (position_or_len (bytes_eq kind) kinds)) None)
+          (lt-ltb (position_or_len (bytes_eq kind) kinds) (length kinds) (slice_get_within kinds (position_or_len (bytes_eq kind) kinds) x e)),
+    )
 
 -- The number of a type is that of the name.
-kind-is : (kinds : List (List ℕ)) → IsDistinct bytes_eq kinds → (kind : ℕ) (name : List ℕ) → slice_get kinds kind ≡ Some name → (k : List ℕ) → is_seen kinds k ≡ true → eqb (unwrap_or (position (bytes_eq k) kinds) 0) kind ≡ bytes_eq k name
+kind-is : (kinds : List (List ℕ)) → IsDistinct bytes_eq kinds → (kind : ℕ) (name : List ℕ) → slice_get kinds kind ≡ Some name → (k : List ℕ) →
+    is_seen kinds k ≡ true → eqb (unwrap_or (position (bytes_eq k) kinds) 0) kind ≡ bytes_eq k name
 kind-is kinds distinct kind name e k seen =
     let n = seen-position k kinds seen in
     let at = position-Some (bytes_eq k) kinds n.0 [] n.1 in
@@ -88,26 +92,32 @@ kind-is kinds distinct kind name e k seen =
     apart i j less within equal =
         false≢true (sym (apart_from_distinct bytes_eq kinds i j [] distinct less within) ∙ (bytes_eq-Decides (get_or kinds i []) (get_or kinds j [])).1 equal)
 
-instances-heap : (h : Heap) → IsSound h.table → (kind : ℕ) (name : List ℕ) → slice_get h.table.kinds kind ≡ Some name → kind_count (heap_graph h) kind (traced_cells (heap_graph h)) ≡ length (instances h name)
+instances-heap : (h : Heap) → IsSound h.table → (kind : ℕ) (name : List ℕ) → slice_get h.table.kinds kind ≡ Some name →
+    kind_count (heap_graph h) kind (traced_cells (heap_graph h)) ≡ length (instances h name)
 unfolding instances traced_ids under_owners root_traced
 instances-heap h sound kind name e =
     let ts = filter (is_traced h) (ids h.table) in
     let is_of = λ (id : ℕ). bytes_eq (kind_at h.table id) name in
     let ones = total-ones (filter is_of ts) in
     let chosen = total-filter (λ _. 1) is_of ts in
-    let same = total-same_on (λ x. bit (eqb ((heap_graph h).kind x) kind)) (λ x. cond (is_of x) 1 0) ts (λ x at. each x (object_at h.table.objects x) refl (sym (has_id-ids h.table x) ∙ (filter-at (is_traced h) (ids h.table) x at).1)) in
+    let same =
+    total-same_on (λ x. bit (eqb ((heap_graph h).kind x) kind)) (λ x. cond (is_of x) 1 0) ts
+    (λ x at. each x (object_at h.table.objects x) refl (sym (has_id-ids h.table x) ∙ (filter-at (is_traced h) (ids h.table) x at).1)) in
     omega arith
   where
-    each : (x : ℕ) (o : Option Object) → object_at h.table.objects x ≡ o → is_some (object_at h.table.objects x) ≡ true → bit (eqb (unwrap_or (position (bytes_eq (kind_at h.table x)) h.table.kinds) 0) kind) ≡ cond (bytes_eq (kind_at h.table x) name) 1 0
+    each : (x : ℕ) (o : Option Object) → object_at h.table.objects x ≡ o → is_some (object_at h.table.objects x) ≡ true →
+        bit (eqb (unwrap_or (position (bytes_eq (kind_at h.table x)) h.table.kinds) 0) kind) ≡ cond (bytes_eq (kind_at h.table x) name) 1 0
     each x None at live = absurd (false≢true (sym (ap is_some at) ∙ live))
     each x (Some u) at live =
         let seen = find_All (λ w. eqb w.id x) (λ w. IsTrue (is_seen h.table.kinds w.kind)) h.table.objects u sound.seen at in
-        subst (λ (o : Option Object). bit (eqb (unwrap_or (position (bytes_eq (option_map_or (λ (w : Object). w.kind) o [])) h.table.kinds) 0) kind) ≡ cond (bytes_eq (option_map_or (λ (w : Object). w.kind) o []) name) 1 0) (sym at)
+        subst (λ (o : Option Object). bit (eqb (unwrap_or (position (bytes_eq (option_map_or (λ (w : Object). w.kind) o [])) h.table.kinds) 0) kind)
+        ≡ cond (bytes_eq (option_map_or (λ (w : Object). w.kind) o []) name) 1 0) (sym at)
         (ap bit (kind-is h.table.kinds sound.kinds kind name e u.kind seen) ∙ sym (one_or_none (bytes_eq u.kind name)))
 
 -- ---- all that is said of the heap
 
-module _ (p : Placed) (r : RoleTable) (h : Heap) (js : List ScanState) (placed : IsPlaced p) (sound : IsSound p.table) (roles : AreRolesOf p.cells (length p.table.kinds) r) (stand : OwnersAgree p r h) (t : AreTraced (graph_of p r) js) where
+module _ (p : Placed) (r : RoleTable) (h : Heap) (js : List ScanState) (placed : IsPlaced p) (sound : IsSound p.table)
+    (roles : AreRolesOf p.cells (length p.table.kinds) r) (stand : OwnersAgree p r h) (t : AreTraced (graph_of p r) js) where
   abbrev g : StoppedGraph
   g = graph_of p r
 
@@ -148,7 +158,10 @@ module _ (p : Placed) (r : RoleTable) (h : Heap) (js : List ScanState) (placed :
   unfolding traced_ids under_owners root_traced
   many =
       let cells = range_with_len 0 (length p.cells) in
-      let a = total-same (λ cell. bit (is_positive (all_adds cell (passes_of js)))) (λ cell. cond (is_some (id_in p cell)) (cond (Cells.is_traced g cell) 1 0) 0) (λ cell. ap bit (t.kept cell) ∙ each cell (Cells.is_traced g cell) refl) cells in
+      let a =
+      total-same (λ cell. bit (is_positive (all_adds cell (passes_of js))))
+      (λ cell. cond (is_some (id_in p cell)) (cond (Cells.is_traced g cell) 1 0) 0)
+      (λ cell. ap bit (t.kept cell) ∙ each cell (Cells.is_traced g cell) refl) cells in
       let b = total-filter (λ cell. cond (Cells.is_traced g cell) 1 0) (λ cell. is_some (id_in p cell)) cells in
       let c = total-filter (λ _. 1) (Cells.is_traced g) g.nodes in
       let d = Renaming.traced-total f g k whole named (λ _. 1) (λ _. 1) (λ x at. refl) in

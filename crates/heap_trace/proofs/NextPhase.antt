@@ -35,7 +35,9 @@ turns-enough n m js less turns =
     All-weaker (λ j. m < turns_of j) (λ j. n < turns_of j) (λ j more. omega arith) js turns
 
 -- Jobs that went through a phase can begin the next, whoever ran them, and have so many turns left.
-pub next-begins : (n : ℕ) (s : Shared) (mode : Mode) (P : Gain → Type 0) (js ks : List ScanState) (first then : FirstLists) → 2 ^ 25 ≤ n → CanBegin s js first → IsDone s mode P js ks → All (λ j. n + 33554433 < turns_of j) js → length then.lists ≡ length js → then.room ≡ first.room → CanBegin s ks then × All (λ j. n < turns_of j) ks
+pub next-begins : (n : ℕ) (s : Shared) (mode : Mode) (P : Gain → Type 0) (js ks : List ScanState) (first then : FirstLists) → 2 ^ 25 ≤ n →
+    CanBegin s js first → IsDone s mode P js ks → All (λ j. n + 33554433 < turns_of j) js → length then.lists ≡ length js → then.room ≡ first.room →
+    CanBegin s ks then × All (λ j. n < turns_of j) ks
 next-begins n s mode P js ks first then enough can done turns lists first_room =
     let some = can.some in
     let few = can.few in
@@ -53,7 +55,10 @@ next-begins n s mode P js ks first then enough can done turns lists first_room =
     )
 
 -- The same where a crew ran them, which is as large as before.
-pub next-scans : (n : ℕ) (s : ScanShared) (mode : Mode) (P : Gain → Type 0) (js ks : List ScanState) (crew next : Crew ScanState) (first then : FirstLists) → 2 ^ 25 ≤ n → CanScan s js crew first → IsDone (lent s) mode P js ks → All (λ j. n + 33554433 < turns_of j) js → length then.lists ≡ workers_of crew → then.room ≡ first.room → room_of next ≡ room_of crew → workers_of next ≡ workers_of crew → CanScan s ks next then × All (λ j. n < turns_of j) ks
+pub next-scans : (n : ℕ) (s : ScanShared) (mode : Mode) (P : Gain → Type 0) (js ks : List ScanState) (crew next : Crew ScanState) (first then : FirstLists) →
+    2 ^ 25 ≤ n → CanScan s js crew first → IsDone (lent s) mode P js ks → All (λ j. n + 33554433 < turns_of j) js →
+    length then.lists ≡ workers_of crew → then.room ≡ first.room → room_of next ≡ room_of crew → workers_of next ≡ workers_of crew →
+    CanScan s ks next then × All (λ j. n < turns_of j) ks
 next-scans n s mode P js ks crew next first then enough can done turns lists first_room room workers =
     let went = next-begins n (lent s) mode P js ks first then enough (can-begin s js crew first can) done turns (lists ∙ sym can.jobs) first_room in
     let begins = went.0 in

@@ -21,9 +21,11 @@ use Rattle.heap_trace.proofs.ThreePhases as Phases
 
 -- ---- after one phase
 
-module _ {X : Type 0} (g : StoppedGraph) (h : X → ℕ) (list : Pass → List X) (gained : Gain → List X) (longer : (j k : ScanState) (a : Gain) → Grows g j a k → list k.pass ≡ list j.pass ++ gained a) where
+module _ {X : Type 0} (g : StoppedGraph) (h : X → ℕ) (list : Pass → List X) (gained : Gain → List X)
+    (longer : (j k : ScanState) (a : Gain) → Grows g j a k → list k.pass ≡ list j.pass ++ gained a) where
   -- a sum over all passes rose by what was gained
-  grown-total : (js : List ScanState) (gains : List Gain) (ks : List ScanState) → Each (Grows g) js gains ks → total (λ p. total h (list p)) (passes_of ks) ≡ total (λ p. total h (list p)) (passes_of js) + total h (flat_map gained gains)
+  grown-total : (js : List ScanState) (gains : List Gain) (ks : List ScanState) → Each (Grows g) js gains ks →
+      total (λ p. total h (list p)) (passes_of ks) ≡ total (λ p. total h (list p)) (passes_of js) + total h (flat_map gained gains)
   grown-total [] gains ks e =
       let a = ap (λ (zs : List ScanState). total (λ p. total h (list p)) (passes_of zs)) e.1 in
       let b = ap (λ (bs : List Gain). total h (flat_map gained bs)) e.0 in
@@ -37,7 +39,8 @@ module _ {X : Type 0} (g : StoppedGraph) (h : X → ℕ) (list : Pass → List X
       let t = total-append h (gained a) (flat_map gained gains) in
       omega arith
 
-grown-tallies : (g : StoppedGraph) (kind : ℕ) (js : List ScanState) (gains : List Gain) (ks : List ScanState) → Each (Grows g) js gains ks → all_tallies kind ks ≡ all_tallies kind js + kind_count g kind (all_gains gains).wins
+grown-tallies : (g : StoppedGraph) (kind : ℕ) (js : List ScanState) (gains : List Gain) (ks : List ScanState) → Each (Grows g) js gains ks →
+    all_tallies kind ks ≡ all_tallies kind js + kind_count g kind (all_gains gains).wins
 grown-tallies g kind [] gains ks e =
     let a = ap (all_tallies kind) e.1 in
     let b = ap (λ (bs : List Gain). kind_count g kind (all_gains bs).wins) e.0 in
@@ -104,7 +107,8 @@ phases_trace g js ms whole new phases once =
     omega arith) in
     let counts : (x : ℕ) → all_adds x (passes_of ms) ≡ times x (a.adds ++ (b.adds ++ c.adds)) = λ x. met (λ y. bit (eqb y x)) in
     let wins-are : (x : ℕ) → all_wins x (passes_of ms) ≡ times x (a.wins ++ (b.wins ++ c.wins)) = λ x. won (λ y. bit (eqb y x)) in
-    let once-all : (x : ℕ) → times x (a.wins ++ (b.wins ++ c.wins)) ≡ bit (is_positive (times x (a.adds ++ (b.adds ++ c.adds)))) = λ x. sym (wins-are x) ∙ once x ∙ ap (λ n. bit (is_positive n)) (counts x) in
+    let once-all : (x : ℕ) → times x (a.wins ++ (b.wins ++ c.wins)) ≡ bit (is_positive (times x (a.adds ++ (b.adds ++ c.adds)))) =
+    λ x. sym (wins-are x) ∙ once x ∙ ap (λ n. bit (is_positive n)) (counts x) in
     record {
       count = λ x. counts x ∙ Phases.count g a b c whole own.all up-held root.all once-all x;
       kept = λ x. ap is_positive (counts x) ∙ Phases.kept g a b c whole own.all up-held root.all once-all x;

@@ -37,7 +37,8 @@ at-map f xs z at =
     (s.0, s.1, eqb-true (f s.0) z s.2)
 
 -- how often a name stands in a list of names that are given once each
-pub times-map : (base : ℕ → Bool) (f : ℕ → ℕ) → ((x y : ℕ) → base x ≡ true → base y ≡ true → f x ≡ f y → x ≡ y) → (xs : List ℕ) → ((y : ℕ) → has_id xs y ≡ true → base y ≡ true) → (x : ℕ) → base x ≡ true → times (f x) (map f xs) ≡ times x xs
+pub times-map : (base : ℕ → Bool) (f : ℕ → ℕ) → ((x y : ℕ) → base x ≡ true → base y ≡ true → f x ≡ f y → x ≡ y) → (xs : List ℕ) →
+    ((y : ℕ) → has_id xs y ≡ true → base y ≡ true) → (x : ℕ) → base x ≡ true → times (f x) (map f xs) ≡ times x xs
 times-map base f once xs are x b =
     total-map (λ z. bit (eqb z (f x))) f xs ∙ total-same_on (λ y. bit (eqb (f y) (f x))) (λ y. bit (eqb y x)) xs (λ y at. ap bit (same y (are y at)))
   where
@@ -69,7 +70,9 @@ module _ (base : ℕ → Bool) (f : ℕ → ℕ) (d k : Graph) (from to : List �
         along_edges = λ y z found passes edge.
             (let p = and_parts _ _ found in
             let b = r.based z edge.1 in
-            and_from _ _ b ((reached_nodes-closed k to).along_edges (f y) (f z) p.1 (r.passes y p.0 ∙ passes) (ap (λ ts. has_id ts (f z)) (r.targets y p.0) ∙ map-at f (d.targets y) z edge.0, r.nodes z b ∙ edge.1)));
+            and_from _ _ b
+            ((reached_nodes-closed k to).along_edges (f y) (f z) p.1 (r.passes y p.0 ∙ passes)
+            (ap (λ ts. has_id ts (f z)) (r.targets y p.0) ∙ map-at f (d.targets y) z edge.0, r.nodes z b ∙ edge.1)));
       })
       x
       ((reached_is_reachable d from x).0 at))).1
@@ -204,7 +207,10 @@ module _ (f : ℕ → ℕ) (g h : StoppedGraph) (w : IsWhole g) (r : IsRenamed f
       let c = times-map base f r.once g.roots w.named x b in
       let n = r.nodes (slots_to h (f x)) in
       let m = total-map (slots_to h (f x)) f g.nodes in
-      let s = total-same_on (λ s. slots_to h (f x) (f s)) (slots_to g x) g.nodes (λ s at i. cond (traced-same s at i || r.owner s at i) ((ap (times (f x)) (r.targets s at) ∙ times-map base f r.once (g.targets s) (w.edges s) x b) i) 0) in
+      let s =
+      total-same_on (λ s. slots_to h (f x) (f s)) (slots_to g x) g.nodes
+      (λ s at i. cond (traced-same s at i || r.owner s at i)
+      ((ap (times (f x)) (r.targets s at) ∙ times-map base f r.once (g.targets s) (w.edges s) x b) i) 0) in
       omega arith
 
   pub found-same : (o x : ℕ) → base o ≡ true → base x ≡ true → is_found_from h (f o) (f x) ≡ is_found_from g o x

@@ -69,11 +69,19 @@ module _ (g : StoppedGraph) where
         IsClosed-reachable (whole_graph g) g.roots (is_traced g) traced-closed x ((reached_is_reachable (whole_graph g) g.roots x).0 at)
 
   -- A test that passes the roots, and what the slots of each object lead to that it passes, passes what is traced from the roots.
-  pub root_traced-passes : (m : ℕ → Bool) → ((x : ℕ) → has_id g.roots x ≡ true → m x ≡ true) → ((x y : ℕ) → m x ≡ true → has_id (g.targets x) y ≡ true → m y ≡ true) → (x : ℕ) → is_root_traced g x ≡ true → m x ≡ true
+  pub root_traced-passes : (m : ℕ → Bool) → ((x : ℕ) → has_id g.roots x ≡ true → m x ≡ true) →
+      ((x y : ℕ) → m x ≡ true → has_id (g.targets x) y ≡ true → m y ≡ true) → (x : ℕ) → is_root_traced g x ≡ true → m x ≡ true
   root_traced-passes m from along x at =
-      IsClosed-reachable (free_graph g) g.roots m (record { from_sources = λ y named node. from y named; along_edges = λ y z it_is passes edge. along y z it_is edge.0 }) x ((reached_is_reachable (free_graph g) g.roots x).0 at)
+      IsClosed-reachable (free_graph g) g.roots m
+      (record { from_sources = λ y named node. from y named; along_edges = λ y z it_is passes edge. along y z it_is edge.0 }) x
+      ((reached_is_reachable (free_graph g) g.roots x).0 at)
 
   -- the same from the slots of the owners
-  pub under-passes : (m : ℕ → Bool) → ((o y : ℕ) → g.is_owner o ≡ true → has_id (g.targets o) y ≡ true → m y ≡ true) → ((x y : ℕ) → m x ≡ true → has_id (g.targets x) y ≡ true → m y ≡ true) → (x : ℕ) → is_under_owners g x ≡ true → m x ≡ true
+  pub under-passes : (m : ℕ → Bool) → ((o y : ℕ) → g.is_owner o ≡ true → has_id (g.targets o) y ≡ true → m y ≡ true) →
+      ((x y : ℕ) → m x ≡ true → has_id (g.targets x) y ≡ true → m y ≡ true) → (x : ℕ) → is_under_owners g x ≡ true → m x ≡ true
   under-passes m from along x at =
-      IsClosed-reachable (whole_graph g) (all_targets g (owners g)) m (record { from_sources = λ y held node. (let o = origin g.targets (owners g) y held in from o.0 y (filter-at g.is_owner g.nodes o.0 o.1).0 o.2); along_edges = λ y z it_is passes edge. along y z it_is edge.0 }) x ((reached_is_reachable (whole_graph g) (all_targets g (owners g)) x).0 at)
+      IsClosed-reachable (whole_graph g) (all_targets g (owners g)) m
+      (record {
+        from_sources = λ y held node. (let o = origin g.targets (owners g) y held in from o.0 y (filter-at g.is_owner g.nodes o.0 o.1).0 o.2);
+        along_edges = λ y z it_is passes edge. along y z it_is edge.0;
+      }) x ((reached_is_reachable (whole_graph g) (all_targets g (owners g)) x).0 at)

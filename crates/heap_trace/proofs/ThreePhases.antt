@@ -29,7 +29,8 @@ split_owner true false n = refl
 split_owner false true n = omega arith
 split_owner false false n = omega arith
 
-module _ (g : StoppedGraph) (a b c : Gain) (w : IsWhole g) (own : OwnerGains g a) (up : TakeUpGains g a.held b) (root : RootGains g c) (once : (x : ℕ) → times x (a.wins ++ (b.wins ++ c.wins)) ≡ bit (is_positive (times x (a.adds ++ (b.adds ++ c.adds))))) where
+module _ (g : StoppedGraph) (a b c : Gain) (w : IsWhole g) (own : OwnerGains g a) (up : TakeUpGains g a.held b) (root : RootGains g c)
+    (once : (x : ℕ) → times x (a.wins ++ (b.wins ++ c.wins)) ≡ bit (is_positive (times x (a.adds ++ (b.adds ++ c.adds))))) where
   abbrev pub adds : List ℕ
   adds = a.adds ++ (b.adds ++ c.adds)
 
@@ -156,7 +157,8 @@ module _ (g : StoppedGraph) (a b c : Gain) (w : IsWhole g) (own : OwnerGains g a
       let u = total-filter k (is_traced g) g.nodes in
       let v = total-filter f g.is_owner g.nodes in
       let s = total-sum (λ z. cond (g.is_owner z) (f z) 0) (λ z. cond (is_traced g z) (k z) 0) g.nodes in
-      let r = total-same (λ z. cond (g.is_owner z) (f z) 0 + cond (is_traced g z) (k z) 0) (λ z. cond (is_traced g z || g.is_owner z) (f z) 0) (λ z. either (is_traced g z) (g.is_owner z) (f z)) g.nodes in
+      let r =
+      total-same (λ z. cond (g.is_owner z) (f z) 0 + cond (is_traced g z) (k z) 0) (λ z. cond (is_traced g z || g.is_owner z) (f z) 0) (λ z. either (is_traced g z) (g.is_owner z) (f z)) g.nodes in
       omega arith
 
   -- ---- the marks

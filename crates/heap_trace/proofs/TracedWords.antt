@@ -59,74 +59,80 @@ pub record AreClosed (cells : ℕ) (w : Words) (ms : List ScanState) : Type 0 wh
   pub once : AreWonOnce ms
 
 -- from what the close of these passes says
-pub are-closed : (cells many : ℕ) (w : Words) (ms : List ScanState) (ps : List Pass) → many ≡ cells → ps ≡ passes_of ms → ((x : ℕ) → x < many → count_in w x ≡ all_adds x ps) → ((m : Mark) (x : ℕ) → x < many → has_mark_in m w x ≡ is_positive (all_marks m x ps)) → ((x : ℕ) → all_wins x ps ≡ bit (is_positive (all_adds x ps))) → AreClosed cells w ms
+pub are-closed : (cells many : ℕ) (w : Words) (ms : List ScanState) (ps : List Pass) → many ≡ cells → ps ≡ passes_of ms →
+    ((x : ℕ) → x < many → count_in w x ≡ all_adds x ps) → ((m : Mark) (x : ℕ) → x < many → has_mark_in m w x ≡ is_positive (all_marks m x ps)) →
+    ((x : ℕ) → all_wins x ps ≡ bit (is_positive (all_adds x ps))) → AreClosed cells w ms
 are-closed cells many w ms ps fits same counts marks wins = record {
   counts = λ x less. counts x (omega arith) ∙ ap (all_adds x) same;
   marks = λ m x less. marks m x (omega arith) ∙ ap (λ qs. is_positive (all_marks m x qs)) same;
   once = λ x. ap (all_wins x) (sym same) ∙ wins x ∙ ap (λ qs. bit (is_positive (all_adds x qs))) same;
 }
 
-module _ (p : Placed) (r : RoleTable) (placed : IsPlaced p) (sound : IsSound p.table) (roles : AreRolesOf p.cells (length p.table.kinds) r) (js ms : List ScanState) (new : All IsNew js) (phases : ThreePhases (graph_of p r) js ms) (w : Words) (closed : AreClosed (length p.cells) w ms) where
-  are-traced : AreTraced (graph_of p r) ms
-  are-traced = phases_trace (graph_of p r) js ms (is-whole p r roles) new phases closed.once
+module _ (p : Placed) (r : RoleTable) (placed : IsPlaced p) (sound : IsSound p.table) (roles : AreRolesOf p.cells (length p.table.kinds) r)
+    (js ms : List ScanState) (new : All IsNew js) (phases : ThreePhases (graph_of p r) js ms) (w : Words) (closed : AreClosed (length p.cells) w ms)
+  where
+    are-traced : AreTraced (graph_of p r) ms
+    are-traced = phases_trace (graph_of p r) js ms (is-whole p r roles) new phases closed.once
 
-  pub of-heap : (h : Heap) → StandFor p r h → HeapIsTraced p h ms
-  of-heap h stand = heap-traced p r h ms placed sound roles (owners_agree p r h placed stand) are-traced
+    pub of-heap : (h : Heap) → StandFor p r h → HeapIsTraced p h ms
+    of-heap h stand = heap-traced p r h ms placed sound roles (owners_agree p r h placed stand) are-traced
 
-  below : (cell id : ℕ) → id_in p cell ≡ Some id → cell < length p.cells
-  below cell id e = held-below p cell (ap is_some e)
+    below : (cell id : ℕ) → id_in p cell ≡ Some id → cell < length p.cells
+    below cell id e = held-below p cell (ap is_some e)
 
-  pub count-of : (h : Heap) → StandFor p r h → (cell id : ℕ) → id_in p cell ≡ Some id → count_in w cell ≡ reference_count h id
-  count-of h stand cell id e = closed.counts cell (below cell id e) ∙ (of-heap h stand).count cell id e
+    pub count-of : (h : Heap) → StandFor p r h → (cell id : ℕ) → id_in p cell ≡ Some id → count_in w cell ≡ reference_count h id
+    count-of h stand cell id e = closed.counts cell (below cell id e) ∙ (of-heap h stand).count cell id e
 
-  pub kept-of : (h : Heap) → StandFor p r h → (cell id : ℕ) → id_in p cell ≡ Some id → get_or (kept_below w (length p.cells)) cell false ≡ is_traced h id
-  kept-of h stand cell id e =
-      kept-at w (length p.cells) cell (below cell id e) ∙ ap is_positive (closed.counts cell (below cell id e)) ∙ (of-heap h stand).kept cell id e
+    pub kept-of : (h : Heap) → StandFor p r h → (cell id : ℕ) → id_in p cell ≡ Some id → get_or (kept_below w (length p.cells)) cell false ≡ is_traced h id
+    kept-of h stand cell id e =
+        kept-at w (length p.cells) cell (below cell id e) ∙ ap is_positive (closed.counts cell (below cell id e)) ∙ (of-heap h stand).kept cell id e
 
-  pub empty-of : (cell : ℕ) → id_in p cell ≡ None → get_or (kept_below w (length p.cells)) cell false ≡ false
-  empty-of cell e =
-      ⊎_elim
-      (λ less. kept-at w (length p.cells) cell less ∙ ap is_positive (closed.counts cell less) ∙ are-traced.kept cell ∙ untraced (Cells.is_traced (graph_of p r) cell) refl)
-      (λ past. kept-past w (length p.cells) cell past)
-      (cases_lt cell (length p.cells))
-    where
-      untraced : (b : Bool) → Cells.is_traced (graph_of p r) cell ≡ b → Cells.is_traced (graph_of p r) cell ≡ false
-      untraced false at = at
-      untraced true at =
-          absurd (false≢true (sym (ap is_some e) ∙ held-from_node p r cell (traced-node (graph_of p r) cell at)))
+    pub empty-of : (cell : ℕ) → id_in p cell ≡ None → get_or (kept_below w (length p.cells)) cell false ≡ false
+    empty-of cell e =
+        ⊎_elim
+        (λ less. kept-at w (length p.cells) cell less ∙ ap is_positive (closed.counts cell less) ∙ are-traced.kept cell ∙ untraced (Cells.is_traced (graph_of p r) cell) refl)
+        (λ past. kept-past w (length p.cells) cell past)
+        (cases_lt cell (length p.cells))
+      where
+        untraced : (b : Bool) → Cells.is_traced (graph_of p r) cell ≡ b → Cells.is_traced (graph_of p r) cell ≡ false
+        untraced false at = at
+        untraced true at =
+            absurd (false≢true (sym (ap is_some e) ∙ held-from_node p r cell (traced-node (graph_of p r) cell at)))
 
-  pub traced-of : (h : Heap) → StandFor p r h → many_of (kept_below w (length p.cells)) ≡ length (traced_ids h)
-  traced-of h stand =
-      total-map bit (λ x. is_positive (count_in w x)) (range_with_len 0 (length p.cells))
-      ∙ total-same_on (λ x. bit (is_positive (count_in w x))) (λ x. bit (is_positive (all_adds x (passes_of ms)))) (range_with_len 0 (length p.cells)) (λ x at. ap (λ n. bit (is_positive n)) (closed.counts x (range-below (length p.cells) x at)))
-      ∙ (of-heap h stand).traced
+    pub traced-of : (h : Heap) → StandFor p r h → many_of (kept_below w (length p.cells)) ≡ length (traced_ids h)
+    traced-of h stand =
+        total-map bit (λ x. is_positive (count_in w x)) (range_with_len 0 (length p.cells))
+        ∙ total-same_on (λ x. bit (is_positive (count_in w x))) (λ x. bit (is_positive (all_adds x (passes_of ms))))
+        (range_with_len 0 (length p.cells)) (λ x at. ap (λ n. bit (is_positive n)) (closed.counts x (range-below (length p.cells) x at)))
+        ∙ (of-heap h stand).traced
 
-  pub found-of : (h : Heap) → StandFor p r h → (cell id : ℕ) → id_in p cell ≡ Some id → IsTrue (has_mark_in Found w cell) → (owner : ℕ) × IsTrue (owns h owner id) × IsTrue (finds h owner id)
-  found-of h stand cell id e at =
-      (of-heap h stand).found cell id e (sym (closed.marks Found cell (below cell id e)) ∙ at)
+    pub found-of : (h : Heap) → StandFor p r h → (cell id : ℕ) → id_in p cell ≡ Some id → IsTrue (has_mark_in Found w cell) → (owner : ℕ) × IsTrue (owns h owner id) × IsTrue (finds h owner id)
+    found-of h stand cell id e at =
+        (of-heap h stand).found cell id e (sym (closed.marks Found cell (below cell id e)) ∙ at)
 
-  pub marked-of : (h : Heap) → StandFor p r h → (cell id owner : ℕ) → id_in p cell ≡ Some id → IsTrue (owns h owner id) → IsTrue (has_id (targets h.table owner) id) → IsTrue (has_mark_in Found w cell)
-  marked-of h stand cell id owner e owned leads =
-      closed.marks Found cell (below cell id e) ∙ (of-heap h stand).marked cell id owner e owned leads
+    pub marked-of : (h : Heap) → StandFor p r h → (cell id owner : ℕ) → id_in p cell ≡ Some id → IsTrue (owns h owner id) → IsTrue (has_id (targets h.table owner) id) → IsTrue (has_mark_in Found w cell)
+    marked-of h stand cell id owner e owned leads =
+        closed.marks Found cell (below cell id e) ∙ (of-heap h stand).marked cell id owner e owned leads
 
-  pub met-of : (h : Heap) → StandFor p r h → (cell id : ℕ) → id_in p cell ≡ Some id → IsTrue (is_ownee h id) → IsTrue (is_met h id) → IsTrue (has_mark_in MetByRoots w cell)
-  met-of h stand cell id e ownee is_so =
-      closed.marks MetByRoots cell (below cell id e) ∙ (of-heap h stand).met cell id e ownee is_so
+    pub met-of : (h : Heap) → StandFor p r h → (cell id : ℕ) → id_in p cell ≡ Some id → IsTrue (is_ownee h id) → IsTrue (is_met h id) → IsTrue (has_mark_in MetByRoots w cell)
+    met-of h stand cell id e ownee is_so =
+        closed.marks MetByRoots cell (below cell id e) ∙ (of-heap h stand).met cell id e ownee is_so
 
-  -- The result whose words these are, and whose tally is that of all jobs, says all this.
-  pub is-trace : (h : Heap) → StandFor p r h → (t : TraceResult) → t.words ≡ w → w.cells ≡ length p.cells → IsByCounts t → length t.instances ≡ length p.table.kinds → ((kind : ℕ) → slice_index t.instances kind ≡ Cells.all_tallies kind ms) → IsTraceOf p h t
-  is-trace h stand t same cells by kinds sums =
-      let kept_is : t.kept ≡ kept_below w (length p.cells) = by.kept_are ∙ (λ i. kept_below (same i) ((same i).cells)) ∙ ap (kept_below w) cells in
-      record {
-        cells = ap (λ (v : Words). v.cells) same ∙ cells;
-        each = ap length kept_is ∙ length-map (range_with_len 0 (length p.cells)) (λ x. is_positive (count_in w x)) ∙ length-range_with_len 0 (length p.cells);
-        kinds = kinds;
-        kept = λ cell id e. ap (λ k. get_or k cell false) kept_is ∙ kept-of h stand cell id e;
-        empty = λ cell e. ap (λ k. get_or k cell false) kept_is ∙ empty-of cell e;
-        many = λ cell id e. ap (λ (v : Words). nat_le 2 (count_in v cell)) same ∙ ap (nat_le 2) (count-of h stand cell id e);
-        instances = λ kind name e. sums kind ∙ (of-heap h stand).instances kind name e;
-        traced = by.traced_are ∙ ap many_of kept_is ∙ traced-of h stand;
-        found = λ cell id e at. found-of h stand cell id e (ap (λ (v : Words). has_mark_in Found v cell) (sym same) ∙ at);
-        marked = λ cell id owner e owned leads. ap (λ (v : Words). has_mark_in Found v cell) same ∙ marked-of h stand cell id owner e owned leads;
-        met = λ cell id e ownee is_so. ap (λ (v : Words). has_mark_in MetByRoots v cell) same ∙ met-of h stand cell id e ownee is_so;
-      }
+    -- The result whose words these are, and whose tally is that of all jobs, says all this.
+    pub is-trace : (h : Heap) → StandFor p r h → (t : TraceResult) → t.words ≡ w → w.cells ≡ length p.cells → IsByCounts t →
+        length t.instances ≡ length p.table.kinds → ((kind : ℕ) → slice_index t.instances kind ≡ Cells.all_tallies kind ms) → IsTraceOf p h t
+    is-trace h stand t same cells by kinds sums =
+        let kept_is : t.kept ≡ kept_below w (length p.cells) = by.kept_are ∙ (λ i. kept_below (same i) ((same i).cells)) ∙ ap (kept_below w) cells in
+        record {
+          cells = ap (λ (v : Words). v.cells) same ∙ cells;
+          each = ap length kept_is ∙ length-map (range_with_len 0 (length p.cells)) (λ x. is_positive (count_in w x)) ∙ length-range_with_len 0 (length p.cells);
+          kinds = kinds;
+          kept = λ cell id e. ap (λ k. get_or k cell false) kept_is ∙ kept-of h stand cell id e;
+          empty = λ cell e. ap (λ k. get_or k cell false) kept_is ∙ empty-of cell e;
+          many = λ cell id e. ap (λ (v : Words). nat_le 2 (count_in v cell)) same ∙ ap (nat_le 2) (count-of h stand cell id e);
+          instances = λ kind name e. sums kind ∙ (of-heap h stand).instances kind name e;
+          traced = by.traced_are ∙ ap many_of kept_is ∙ traced-of h stand;
+          found = λ cell id e at. found-of h stand cell id e (ap (λ (v : Words). has_mark_in Found v cell) (sym same) ∙ at);
+          marked = λ cell id owner e owned leads. ap (λ (v : Words). has_mark_in Found v cell) same ∙ marked-of h stand cell id owner e owned leads;
+          met = λ cell id e ownee is_so. ap (λ (v : Words). has_mark_in MetByRoots v cell) same ∙ met-of h stand cell id e ownee is_so;
+        }

@@ -37,7 +37,8 @@ pub record FitsTable (s : Shared) (js : List ScanState) (first : FirstLists) : T
   pub lists : length first.lists ≡ length js
   pub list_room : s.headers.cells ≤ first.room
 
-module _ (s : Shared) (js : List ScanState) (first : FirstLists) (fits : FitsTable s js first) (roles : AreRolesOf s.table.cells (length s.table.table.kinds) s.roles) (placed : IsPlaced s.table) (sound : IsSound s.table.table) where
+module _ (s : Shared) (js : List ScanState) (first : FirstLists) (fits : FitsTable s js first)
+    (roles : AreRolesOf s.table.cells (length s.table.table.kinds) s.roles) (placed : IsPlaced s.table) (sound : IsSound s.table.table) where
   pub can-begin : CanBegin s js first
   can-begin = record {
     some = fits.some;

@@ -41,4 +41,5 @@ pub record HeapIsTraced (p : Placed) (h : Heap) (js : List ScanState) : Type 0 w
 -- Where the graph of a table and its roles is traced by cells, so is the heap that they stand for.
 abbrev pub CellsTraceHeaps : Type 0
 CellsTraceHeaps =
-    (p : Placed) (r : RoleTable) (h : Heap) (js : List ScanState) → IsPlaced p → IsSound p.table → AreRolesOf p.cells (length p.table.kinds) r → StandFor p r h → AreTraced (graph_of p r) js → HeapIsTraced p h js
+    (p : Placed) (r : RoleTable) (h : Heap) (js : List ScanState) → IsPlaced p → IsSound p.table → AreRolesOf p.cells (length p.table.kinds) r →
+    StandFor p r h → AreTraced (graph_of p r) js → HeapIsTraced p h js

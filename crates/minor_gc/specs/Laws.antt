@@ -15,4 +15,5 @@ MinorKeepsOld = (g : Generations) (x : ℕ) → IsTrue (is_live g.table x) → i
 -- No object is young after a collection.
 abbrev pub NoneYoungAfter : Type 0
 NoneYoungAfter =
-    (g : Generations) (x : ℕ) → IdsRise g.table → (IsTrue (is_live (after_minor g).table x) → is_young (after_minor g) x ≡ false) × (IsTrue (is_live (after_full g).table x) → is_young (after_full g) x ≡ false)
+    (g : Generations) (x : ℕ) → IdsRise g.table →
+    (IsTrue (is_live (after_minor g).table x) → is_young (after_minor g) x ≡ false) × (IsTrue (is_live (after_full g).table x) → is_young (after_full g) x ≡ false)

@@ -36,7 +36,8 @@ first-some n k (Empty next ∷ cells) some =
 
 -- ---- an object is put
 
-pub linked_put : (n j : ℕ) (cells : List Cell) (o : Resident) → IsLinked n cells → first_empty n cells ≡ Some (n + j) → (first_empty n (set cells j (Taken o)) ≡ next_in (get_or cells j (Empty None))) × IsLinked n (set cells j (Taken o))
+pub linked_put : (n j : ℕ) (cells : List Cell) (o : Resident) → IsLinked n cells → first_empty n cells ≡ Some (n + j) →
+    (first_empty n (set cells j (Taken o)) ≡ next_in (get_or cells j (Empty None))) × IsLinked n (set cells j (Taken o))
 linked_put n j [] o linked some = absurd cc
 linked_put n zero (Taken q ∷ cells) o linked some =
     let rest = first-some (n + 1) (n + 0) cells some in absurd (omega (arith, rest.0))
@@ -65,7 +66,8 @@ module _ (slot : ℕ) (value : Slot) where
   leads-put (Taken o) later leads = tt
   leads-put (Empty next) later leads = leads
 
-  pub linked_slot : (n k : ℕ) (cells : List Cell) (d : Cell) → IsLinked n cells → (first_empty n (set cells k (with_slot_put slot value (get_or cells k d))) ≡ first_empty n cells) × IsLinked n (set cells k (with_slot_put slot value (get_or cells k d)))
+  pub linked_slot : (n k : ℕ) (cells : List Cell) (d : Cell) → IsLinked n cells →
+      (first_empty n (set cells k (with_slot_put slot value (get_or cells k d))) ≡ first_empty n cells) × IsLinked n (set cells k (with_slot_put slot value (get_or cells k d)))
   linked_slot n k [] d linked = (refl, tt)
   linked_slot n zero (c ∷ cells) d linked = (empty-put n c (first_empty (n + 1) cells), (leads-put c (first_empty (n + 1) cells) linked.0, linked.1))
   linked_slot n (suc k) (c ∷ cells) d linked =
@@ -84,7 +86,8 @@ module _ (marked : List Bool) where
   leads-cleared (Taken o) later leads = tt
   leads-cleared (Empty next) later leads = leads
 
-  pub linked_cleared : (n : ℕ) (cells : List Cell) → IsLinked n cells → (first_empty n (map (with_slots_cleared marked) cells) ≡ first_empty n cells) × IsLinked n (map (with_slots_cleared marked) cells)
+  pub linked_cleared : (n : ℕ) (cells : List Cell) → IsLinked n cells →
+      (first_empty n (map (with_slots_cleared marked) cells) ≡ first_empty n cells) × IsLinked n (map (with_slots_cleared marked) cells)
   linked_cleared n [] linked = (refl, tt)
   linked_cleared n (c ∷ cells) linked =
       let (first, rest) = linked_cleared (n + 1) cells linked.1 in
@@ -132,7 +135,8 @@ none-cond : (b : Bool) → cond {A = Option Resident} b None None ≡ None
 none-cond true = refl
 none-cond false = refl
 
-pub held_at-after : (kept : List Bool) (n k : ℕ) (cells : List Cell) → held_at (map resident_in (cells_after kept n cells)) k ≡ cond (is_flagged kept (n + k)) (option_map (resident_after kept) (held_at (map resident_in cells) k)) None
+pub held_at-after : (kept : List Bool) (n k : ℕ) (cells : List Cell) →
+    held_at (map resident_in (cells_after kept n cells)) k ≡ cond (is_flagged kept (n + k)) (option_map (resident_after kept) (held_at (map resident_in cells) k)) None
 held_at-after kept n k [] = sym (none-cond (is_flagged kept (n + k)))
 held_at-after kept n zero (c ∷ cells) =
     let same : n ≡ n + 0 = omega arith in

@@ -1,11 +1,14 @@
 -- What each change of the parts is to the table, and that the parts stay laid out.
-use Rattle.std.proofs.Common.{◌≡◌, ℕ, zero, suc, ◌+◌, ◌<◌, ◌≤◌, ◌≢◌, ◌==◌, List, [], ◌∷◌, ◌++◌, length, map, filter, replicate, set, get_or, slice_get, Bool, true, false, not, ◌&&◌, ◌||◌, cond, eqb, eq-eqb, ne_eqb, IsTrue, Option, Some, None, IfSome, is_some, unwrap_or, position, refl, sym, ◌∙◌, ap, subst, ⊎_elim, arith}
+use Rattle.std.proofs.Common.{◌≡◌, ℕ, zero, suc, ◌+◌, ◌<◌, ◌≤◌, ◌≢◌, ◌==◌, List, [], ◌∷◌, ◌++◌, length, map, filter, replicate, set, get_or}
+use Rattle.std.proofs.Common.{slice_get, Bool, true, false, not, ◌&&◌, ◌||◌, cond, eqb, eq-eqb, ne_eqb, IsTrue, Option, Some, None, IfSome, is_some}
+use Rattle.std.proofs.Common.{unwrap_or, position, refl, sym, ◌∙◌, ap, subst, ⊎_elim, arith}
 use Rattle.std.specs.List.{All, sum_by, list_any}
 use Rattle.std.specs.Option.{option_map}
 use Rattle.std.specs.Str.{bytes_eq}
 use Rattle.std.proofs.lemmas.Bool.{false≢true, cases_eq, cases_lt}
 use Rattle.std.proofs.lemmas.Bool.Decides.{nat_tests}
-use Rattle.std.proofs.lemmas.List.{length-map, length-replicate, length-set, length_push, map-append, map-set, get_or-map, get_or_past, get_or_push, get_or_append_left, get_or-set_same, get_or-set_other, set-get_or}
+use Rattle.std.proofs.lemmas.List.{length-map, length-replicate, length-set, length_push, map-append, map-set, get_or-map, get_or_past, get_or_push}
+use Rattle.std.proofs.lemmas.List.{get_or_append_left, get_or-set_same, get_or-set_other, set-get_or}
 use Rattle.std.proofs.lemmas.List.Elements.{All-head, All-tail, All-push, All-weaker, All-replicate, All-set, All-map, All-filter, filter_passes}
 use Rattle.std.proofs.lemmas.List.Kept.{AllPairs-filter}
 use Rattle.std.proofs.lemmas.List.Quantifiers.{all_pairs_push, position-Some}
@@ -36,7 +39,8 @@ same_objects (e ∷ ids) f g same =
     ap (λ o. o ∷ map (λ e. f e.1) ids) (same 0 e (omega arith)) ∙ ap (λ l. g e.1 ∷ l) (same_objects ids f g (λ k d h. same (suc k) d (omega arith)))
 
 -- slots whose cells have the same ids stay as they are
-same_slots : (cells later : List (Option Resident)) (slots : List CellSlot) → All (HoldsTaken cells) slots → ((cell : ℕ) → IsTrue (is_taken cells cell) → id_held later cell ≡ id_held cells cell) → map (slot_of later) slots ≡ map (slot_of cells) slots
+same_slots : (cells later : List (Option Resident)) (slots : List CellSlot) → All (HoldsTaken cells) slots →
+    ((cell : ℕ) → IsTrue (is_taken cells cell) → id_held later cell ≡ id_held cells cell) → map (slot_of later) slots ≡ map (slot_of cells) slots
 same_slots cells later [] taken same = refl
 same_slots cells later (s ∷ slots) taken same =
     ap (λ x. x ∷ map (slot_of later) slots) (here s.held (All-head (HoldsTaken cells) s slots taken))
@@ -47,7 +51,9 @@ same_slots cells later (s ∷ slots) taken same =
     here (Some cell) h = ap (λ id. record { held = id; weak = s.weak }) (same cell h)
 
 -- an object in a cell that stays
-same_object : (kinds more : List (List ℕ)) (cells later : List (Option Resident)) (cell : ℕ) (o : Resident) → held_at cells cell ≡ Some o → held_at later cell ≡ Some o → get_or more o.kind [] ≡ get_or kinds o.kind [] → map (slot_of later) o.slots ≡ map (slot_of cells) o.slots → object_at_cell more later cell ≡ object_at_cell kinds cells cell
+same_object : (kinds more : List (List ℕ)) (cells later : List (Option Resident)) (cell : ℕ) (o : Resident) → held_at cells cell ≡ Some o →
+    held_at later cell ≡ Some o → get_or more o.kind [] ≡ get_or kinds o.kind [] → map (slot_of later) o.slots ≡ map (slot_of cells) o.slots →
+    object_at_cell more later cell ≡ object_at_cell kinds cells cell
 same_object kinds more cells later cell o is is_later kind slots =
     ap (λ c. object_of more later (unwrap_or c nobody)) is_later
     ∙ ap (λ k. record { id = o.id; kind = k; slots = map (slot_of later) o.slots }) kind
@@ -94,7 +100,8 @@ module _ (p : Parts) (laid : IsLaidOut p) (name : List ℕ) where
   objects-with_name = same_objects p.ids (object_at_cell (with_kind p.kinds name) p.cells) (object_at_cell p.kinds p.cells) (λ k d h.
       let e : ℕ × ℕ = get_or p.ids k d in
       let (o, held, same) = held_with_id p.cells e.1 e.0 (laid.stands k d h) in
-      same_object p.kinds (with_kind p.kinds name) p.cells p.cells e.1 o held held (kind_stays p.kinds name o.kind (of_some (λ q. q.kind < length p.kinds) (held_at p.cells e.1) o (laid.known e.1) held)) refl)
+      same_object p.kinds (with_kind p.kinds name) p.cells p.cells e.1 o held held
+      (kind_stays p.kinds name o.kind (of_some (λ q. q.kind < length p.kinds) (held_at p.cells e.1) o (laid.known e.1) held)) refl)
 
   pub laid-with_name : IsLaidOut with_name
   laid-with_name = record {
@@ -170,7 +177,8 @@ empty_slots cells zero = refl
 empty_slots cells (suc n) = ap (λ l. empty_slot ∷ l) (empty_slots cells n)
 
 -- what a slot holds stays taken
-still_taken : (cells later : List (Option Resident)) → ((cell : ℕ) → IsTrue (is_taken cells cell) → IsTrue (is_taken later cell)) → (o : Option Resident) → IfSome o (λ q. All (HoldsTaken cells) q.slots) → IfSome o (λ q. All (HoldsTaken later) q.slots)
+still_taken : (cells later : List (Option Resident)) → ((cell : ℕ) → IsTrue (is_taken cells cell) → IsTrue (is_taken later cell)) →
+    (o : Option Resident) → IfSome o (λ q. All (HoldsTaken cells) q.slots) → IfSome o (λ q. All (HoldsTaken later) q.slots)
 still_taken cells later more None leads = tt
 still_taken cells later more (Some o) leads = All-weaker (HoldsTaken cells) (HoldsTaken later) (λ s. one s.held) o.slots leads
   where
@@ -206,7 +214,8 @@ module _ (p : Parts) (laid : IsLaidOut p) (name : List ℕ) (id number slots : �
   new_object : object_at_cell (with_kind p.kinds name) later cell ≡ record { id = id; kind = name; slots = replicate slots empty_slot }
   new_object =
       ap (λ c. object_of (with_kind p.kinds name) later (unwrap_or c nobody)) (put_at p.cells new)
-      ∙ ap (λ k. record { id = id; kind = k; slots = map (slot_of later) (replicate slots no_edge) }) (get_or_from_slice_get (with_kind p.kinds name) number name [] (number_named p.kinds name number named))
+      ∙ ap (λ k. record { id = id; kind = k; slots = map (slot_of later) (replicate slots no_edge) })
+      (get_or_from_slice_get (with_kind p.kinds name) number name [] (number_named p.kinds name number named))
       ∙ ap (λ l. record { id = id; kind = name; slots = l }) (empty_slots later slots)
 
   pub added_is : (placed_of with_one).table ≡ with_object (placed_of p).table id name slots
@@ -227,12 +236,15 @@ module _ (p : Parts) (laid : IsLaidOut p) (name : List ℕ) (id number slots : �
         (ap (option_map (λ (o : Resident). o.id)) (put_at p.cells new));
     once = λ c. ap (times c) (map-append (λ (e : ℕ × ℕ). e.1) p.ids ((id, cell) ∷ [])) ∙ times-append c (map (λ e. e.1) p.ids) (cell ∷ []) ∙ counted c;
     known = λ c. ⊎_elim
-        (λ (same : c ≡ cell). subst (λ o. IfSome o (λ q. q.kind < length (with_kind p.kinds name))) (sym (ap (held_at later) same ∙ put_at p.cells new)) (slice_get_within (with_kind p.kinds name) number name (number_named p.kinds name number named)))
+        (λ (same : c ≡ cell). subst (λ o. IfSome o (λ q. q.kind < length (with_kind p.kinds name)))
+        (sym (ap (held_at later) same ∙ put_at p.cells new))
+        (slice_get_within (with_kind p.kinds name) number name (number_named p.kinds name number named)))
         (λ apart. subst (λ o. IfSome o (λ q. q.kind < length (with_kind p.kinds name))) (sym (put_others p.cells new c apart)) (known_more p.kinds name (held_at p.cells c) (laid.known c)))
         (cases_eq c cell);
     leads = λ c. ⊎_elim
         (λ (same : c ≡ cell). subst (λ o. IfSome o (λ q. All (HoldsTaken later) q.slots)) (sym (ap (held_at later) same ∙ put_at p.cells new)) (All-replicate (HoldsTaken later) slots no_edge tt))
-        (λ apart. subst (λ o. IfSome o (λ q. All (HoldsTaken later) q.slots)) (sym (put_others p.cells new c apart)) (still_taken p.cells later (λ k taken. ap is_some (put_stays p.cells new k taken) ∙ taken) (held_at p.cells c) (laid.leads c)))
+        (λ apart. subst (λ o. IfSome o (λ q. All (HoldsTaken later) q.slots)) (sym (put_others p.cells new c apart))
+        (still_taken p.cells later (λ k taken. ap is_some (put_stays p.cells new k taken) ∙ taken) (held_at p.cells c) (laid.leads c)))
         (cases_eq c cell);
     few = ⊎_elim
         (λ inside. omega (arith, length-put_inside p.cells new inside, laid.few))
@@ -306,7 +318,8 @@ changed_objects [] f g change same = refl
 changed_objects (e ∷ ids) f g change same =
     ap (λ o. o ∷ map (λ e. f e.1) ids) (same 0 e (omega arith)) ∙ ap (λ l. change (g e.1) ∷ l) (changed_objects ids f g change (λ k d h. same (suc k) d (omega arith)))
 
-module _ (p : Parts) (laid : IsLaidOut p) (cell slot : ℕ) (o : Resident) (s value : CellSlot) (is : held_at p.cells cell ≡ Some o) (at : slice_get o.slots slot ≡ Some s) (change : Slot → Slot) (changes : change (slot_of p.cells s) ≡ slot_of p.cells value) where
+module _ (p : Parts) (laid : IsLaidOut p) (cell slot : ℕ) (o : Resident) (s value : CellSlot) (is : held_at p.cells cell ≡ Some o)
+    (at : slice_get o.slots slot ≡ Some s) (change : Slot → Slot) (changes : change (slot_of p.cells s) ≡ slot_of p.cells value) where
   abbrev changed : Resident
   changed = record o { slots = set o.slots slot value }
 
@@ -352,7 +365,10 @@ module _ (p : Parts) (laid : IsLaidOut p) (cell slot : ℕ) (o : Resident) (s va
       let slots : map (slot_of later_cells) (set o.slots slot value) ≡ set old slot (change (get_or old slot empty_slot)) =
       all_slots (set o.slots slot value)
       ∙ map-set (slot_of p.cells) o.slots slot value
-      ∙ ap (set old slot) (sym changes ∙ ap change (sym (get_or-map (slot_of p.cells) o.slots slot s empty_slot (slice_get_within o.slots slot s at) ∙ ap (slot_of p.cells) (get_or_from_slice_get o.slots slot s s at)))) in
+      ∙ ap (set old slot)
+      (sym changes
+      ∙ ap change (sym (get_or-map (slot_of p.cells) o.slots slot s empty_slot (slice_get_within o.slots slot s at) ∙ ap (slot_of p.cells) (get_or_from_slice_get o.slots slot s s at))))
+      in
       ap (λ c. object_of p.kinds later_cells (unwrap_or c nobody)) changed_at
       ∙ ap (λ l. record { id = o.id; kind = get_or p.kinds o.kind []; slots = l }) slots
       ∙ sym (ap (λ b. cond b (record { id = o.id; kind = get_or p.kinds o.kind []; slots = set old slot (change (get_or old slot empty_slot)) }) (object_of p.kinds p.cells o)) (eq-eqb o.id o.id refl))
@@ -367,7 +383,11 @@ module _ (p : Parts) (laid : IsLaidOut p) (cell slot : ℕ) (o : Resident) (s va
       let there : id_held p.cells c ≡ Some o.id = has ∙ ap Some (sym same ∙ e) in
       apart (same_Some c cell (sym (found_held p laid o.id c there) ∙ found_held p laid o.id cell here))) in
       same_object p.kinds p.kinds p.cells later_cells c q held (changed_others c apart ∙ held) refl (all_slots q.slots)
-      ∙ sym (ap (λ b. cond b (record (object_at_cell p.kinds p.cells c) { slots = set (object_at_cell p.kinds p.cells c).slots slot (change (get_or (object_at_cell p.kinds p.cells c).slots slot empty_slot)) }) (object_at_cell p.kinds p.cells c)) its_id)
+      ∙ sym
+      (ap (λ b. cond b
+      (record (object_at_cell p.kinds p.cells c)
+      { slots = set (object_at_cell p.kinds p.cells c).slots slot (change (get_or (object_at_cell p.kinds p.cells c).slots slot empty_slot)) })
+      (object_at_cell p.kinds p.cells c)) its_id)
 
   pub changed_is : (placed_of with_changed).table ≡ with_changed_slot (placed_of p).table o.id slot change
   unfolding with_changed_slot
@@ -391,11 +411,15 @@ module _ (p : Parts) (laid : IsLaidOut p) (cell slot : ℕ) (o : Resident) (s va
     stands = λ k d h. same_ids (get_or p.ids k d).1 ∙ laid.stands k d h;
     once = λ c. laid.once c ∙ ap bit (sym (same_taken c));
     known = λ c. ⊎_elim
-        (λ (same : c ≡ cell). subst (λ q. IfSome q (λ u. u.kind < length p.kinds)) (sym (ap (held_at later_cells) same ∙ changed_at)) (of_some (λ u. u.kind < length p.kinds) (held_at p.cells cell) o (laid.known cell) is))
+        (λ (same : c ≡ cell). subst (λ q. IfSome q (λ u. u.kind < length p.kinds)) (sym (ap (held_at later_cells) same ∙ changed_at))
+        (of_some (λ u. u.kind < length p.kinds) (held_at p.cells cell) o (laid.known cell) is))
         (λ apart. subst (λ q. IfSome q (λ u. u.kind < length p.kinds)) (sym (changed_others c apart)) (laid.known c))
         (cases_eq c cell);
     leads = λ c. ⊎_elim
-        (λ (same : c ≡ cell). subst (λ q. IfSome q (λ u. All (HoldsTaken later_cells) u.slots)) (sym (ap (held_at later_cells) same ∙ changed_at)) (more (Some changed) (All-set (HoldsTaken p.cells) o.slots slot value holds (of_some (λ u. All (HoldsTaken p.cells) u.slots) (held_at p.cells cell) o (laid.leads cell) is))))
+        (λ (same : c ≡ cell). subst (λ q. IfSome q (λ u. All (HoldsTaken later_cells) u.slots)) (sym (ap (held_at later_cells) same ∙ changed_at))
+        (more (Some changed)
+        (All-set (HoldsTaken p.cells) o.slots slot value holds
+        (of_some (λ u. All (HoldsTaken p.cells) u.slots) (held_at p.cells cell) o (laid.leads cell) is))))
         (λ apart. subst (λ q. IfSome q (λ u. All (HoldsTaken later_cells) u.slots)) (sym (changed_others c apart)) (more (held_at p.cells c) (laid.leads c)))
         (cases_eq c cell);
     few = omega (arith, length-set p.cells cell (Some changed), laid.few);
@@ -469,13 +493,16 @@ module _ (p : Parts) (laid : IsLaidOut p) (kept : List Bool) (later : List (Opti
   slot_swept : (s : CellSlot) → HoldsTaken p.cells s → slot_of later (slot_after kept s) ≡ slot_without gone (slot_of p.cells s)
   slot_swept s taken = go s.held taken
     where
-      flagged : (c y : ℕ) (b : Bool) → id_held p.cells c ≡ Some y → is_flagged kept c ≡ b → slot_of later (cond (not b) (record { held = None; weak = s.weak }) (record { held = Some c; weak = s.weak })) ≡ cond (not b) (record { held = None; weak = s.weak }) (record { held = Some y; weak = s.weak })
+      flagged : (c y : ℕ) (b : Bool) → id_held p.cells c ≡ Some y → is_flagged kept c ≡ b →
+          slot_of later (cond (not b) (record { held = None; weak = s.weak }) (record { held = Some c; weak = s.weak }))
+          ≡ cond (not b) (record { held = None; weak = s.weak }) (record { held = Some y; weak = s.weak })
       flagged c y true has flag =
           let (o, held, same) = held_with_id p.cells c y has in
           ap (λ id. record { held = id; weak = s.weak }) (ap (option_map (λ (q : Resident). q.id)) (kept_held c o held flag) ∙ ap Some same)
       flagged c y false has flag = refl
 
-      go : (h : Option ℕ) → IfSome h (λ cell. IsTrue (is_taken p.cells cell)) → slot_of later (slot_after kept (record { held = h; weak = s.weak })) ≡ slot_without gone (slot_of p.cells (record { held = h; weak = s.weak }))
+      go : (h : Option ℕ) → IfSome h (λ cell. IsTrue (is_taken p.cells cell)) →
+          slot_of later (slot_after kept (record { held = h; weak = s.weak })) ≡ slot_without gone (slot_of p.cells (record { held = h; weak = s.weak }))
       go None taken = refl
       go (Some c) taken =
           let (o, held) = held_taken p.cells c taken in
@@ -496,12 +523,15 @@ module _ (p : Parts) (laid : IsLaidOut p) (kept : List Bool) (later : List (Opti
       ∙ ap (λ l. record { id = o.id; kind = get_or p.kinds o.kind []; slots = l }) (slots_swept o.slots (of_some (λ u. All (HoldsTaken p.cells) u.slots) (held_at p.cells cell) o (laid.leads cell) is))
       ∙ sym (ap (λ c. object_without gone (object_of p.kinds p.cells (unwrap_or c nobody))) is)
 
-  objects_swept : (ids : List (ℕ × ℕ)) → All (λ e. id_held p.cells e.1 ≡ Some e.0) ids → map (λ e. object_at_cell p.kinds later e.1) (filter (λ e. is_flagged kept e.1) ids) ≡ map (object_without gone) (filter (λ o. has_id kept_now o.id) (map (λ e. object_at_cell p.kinds p.cells e.1) ids))
+  objects_swept : (ids : List (ℕ × ℕ)) → All (λ e. id_held p.cells e.1 ≡ Some e.0) ids →
+      map (λ e. object_at_cell p.kinds later e.1) (filter (λ e. is_flagged kept e.1) ids)
+      ≡ map (object_without gone) (filter (λ o. has_id kept_now o.id) (map (λ e. object_at_cell p.kinds p.cells e.1) ids))
   objects_swept [] stands = refl
   objects_swept (e ∷ ids) stands =
       let (o, held, same) = held_with_id p.cells e.1 e.0 (stands 0 e (omega arith)) in
       let its_id : (object_at_cell p.kinds p.cells e.1).id ≡ e.0 = ap (λ c. (unwrap_or c nobody).id) held ∙ same in
-      go (is_flagged kept e.1) refl (ap (has_id kept_now) its_id ∙ kept_cell p laid kept e.1 e.0 (stands 0 e (omega arith))) (object_swept e.1 o held) (objects_swept ids (λ k d h. stands (suc k) d (omega arith)))
+      go (is_flagged kept e.1) refl (ap (has_id kept_now) its_id ∙ kept_cell p laid kept e.1 e.0 (stands 0 e (omega arith)))
+      (object_swept e.1 o held) (objects_swept ids (λ k d h. stands (suc k) d (omega arith)))
     where
       old : Object
       old = object_at_cell p.kinds p.cells e.1
@@ -512,7 +542,10 @@ module _ (p : Parts) (laid : IsLaidOut p) (kept : List Bool) (later : List (Opti
       back : List Object
       back = filter (λ o. has_id kept_now o.id) (map (λ e. object_at_cell p.kinds p.cells e.1) ids)
 
-      go : (b : Bool) → is_flagged kept e.1 ≡ b → has_id kept_now old.id ≡ is_flagged kept e.1 → (is_flagged kept e.1 ≡ true → object_at_cell p.kinds later e.1 ≡ object_without gone old) → front ≡ map (object_without gone) back → map (λ f. object_at_cell p.kinds later f.1) (cond (is_flagged kept e.1) (e ∷ filter (λ f. is_flagged kept f.1) ids) (filter (λ f. is_flagged kept f.1) ids)) ≡ map (object_without gone) (cond (has_id kept_now old.id) (old ∷ back) back)
+      go : (b : Bool) → is_flagged kept e.1 ≡ b → has_id kept_now old.id ≡ is_flagged kept e.1 →
+          (is_flagged kept e.1 ≡ true → object_at_cell p.kinds later e.1 ≡ object_without gone old) → front ≡ map (object_without gone) back →
+          map (λ f. object_at_cell p.kinds later f.1) (cond (is_flagged kept e.1) (e ∷ filter (λ f. is_flagged kept f.1) ids) (filter (λ f. is_flagged kept f.1) ids))
+          ≡ map (object_without gone) (cond (has_id kept_now old.id) (old ∷ back) back)
       go true flag has swept rest = rw (has, flag) (ap (λ x. x ∷ front) (swept flag) ∙ ap (λ l. object_without gone old ∷ l) rest)
       go false flag has swept rest = rw (has, flag) rest
 
@@ -527,7 +560,9 @@ module _ (p : Parts) (laid : IsLaidOut p) (kept : List Bool) (later : List (Opti
   kept_filter [] = refl
   kept_filter (e ∷ xs) = go (is_flagged kept e.1) (kept_filter xs)
     where
-      go : (b : Bool) → map (λ e. e.1) (filter (λ e. is_flagged kept e.1) xs) ≡ filter (is_flagged kept) (map (λ e. e.1) xs) → map (λ e. e.1) (cond b (e ∷ filter (λ e. is_flagged kept e.1) xs) (filter (λ e. is_flagged kept e.1) xs)) ≡ cond b (e.1 ∷ filter (is_flagged kept) (map (λ e. e.1) xs)) (filter (is_flagged kept) (map (λ e. e.1) xs))
+      go : (b : Bool) → map (λ e. e.1) (filter (λ e. is_flagged kept e.1) xs) ≡ filter (is_flagged kept) (map (λ e. e.1) xs) →
+          map (λ e. e.1) (cond b (e ∷ filter (λ e. is_flagged kept e.1) xs) (filter (λ e. is_flagged kept e.1) xs))
+          ≡ cond b (e.1 ∷ filter (is_flagged kept) (map (λ e. e.1) xs)) (filter (is_flagged kept) (map (λ e. e.1) xs))
       go true rest = ap (λ l. e.1 ∷ l) rest
       go false rest = rest
 
@@ -535,7 +570,8 @@ module _ (p : Parts) (laid : IsLaidOut p) (kept : List Bool) (later : List (Opti
   holds_after : (s : CellSlot) → HoldsTaken p.cells s → HoldsTaken later (slot_after kept s)
   holds_after s taken = go s.held taken
     where
-      flagged : (c : ℕ) (b : Bool) → is_flagged kept c ≡ b → IsTrue (is_taken p.cells c) → HoldsTaken later (cond (not b) (record { held = None; weak = s.weak }) (record { held = Some c; weak = s.weak }))
+      flagged : (c : ℕ) (b : Bool) → is_flagged kept c ≡ b → IsTrue (is_taken p.cells c) →
+          HoldsTaken later (cond (not b) (record { held = None; weak = s.weak }) (record { held = Some c; weak = s.weak }))
       flagged c true flag taken = later_taken c ∙ rw (flag, taken) refl
       flagged c false flag taken = tt
 

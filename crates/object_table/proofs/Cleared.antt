@@ -1,5 +1,6 @@
 -- What it is to the table that the slots and roots that hold the objects of marked cells are cleared.
-use Rattle.std.proofs.Common.{◌≡◌, ℕ, zero, suc, ◌+◌, ◌<◌, ◌≤◌, List, [], ◌∷◌, length, map, filter, get_or, Bool, true, false, not, cond, IsTrue, Option, Some, None, IfSome, is_some, unwrap_or, refl, sym, ◌∙◌, ap, subst, arith}
+use Rattle.std.proofs.Common.{◌≡◌, ℕ, zero, suc, ◌+◌, ◌<◌, ◌≤◌, List, [], ◌∷◌, length, map, filter, get_or, Bool, true, false, not, cond, IsTrue}
+use Rattle.std.proofs.Common.{Option, Some, None, IfSome, is_some, unwrap_or, refl, sym, ◌∙◌, ap, subst, arith}
 use Rattle.std.specs.List.{All, sum_by, count_by}
 use Rattle.std.specs.Option.{option_map, option_map_or}
 use Rattle.std.proofs.lemmas.Bool.{false≢true}
@@ -99,7 +100,8 @@ module _ (p : Parts) (laid : IsLaidOut p) (marked : List Bool) where
     where
       go : (cells : List (Option Resident)) → map (option_map (λ (q : Resident). q.id)) (map (option_map (resident_cleared marked)) cells) ≡ map (option_map (λ (q : Resident). q.id)) cells
       go [] = refl
-      go (c ∷ cells) = ap (λ x. x ∷ map (option_map (λ (q : Resident). q.id)) (map (option_map (resident_cleared marked)) cells)) (same_id c) ∙ ap (λ l. option_map (λ (q : Resident). q.id) c ∷ l) (go cells)
+      go (c ∷ cells) =
+          ap (λ x. x ∷ map (option_map (λ (q : Resident). q.id)) (map (option_map (resident_cleared marked)) cells)) (same_id c) ∙ ap (λ l. option_map (λ (q : Resident). q.id) c ∷ l) (go cells)
 
   -- ---- slots
 
@@ -107,11 +109,14 @@ module _ (p : Parts) (laid : IsLaidOut p) (marked : List Bool) where
   slot_is : (s : CellSlot) → HoldsTaken p.cells s → slot_of later (slot_cleared marked s) ≡ slot_without gone (slot_of p.cells s)
   slot_is s taken = go s.held taken
     where
-      flagged : (c y : ℕ) (b : Bool) → id_held p.cells c ≡ Some y → slot_of later (cond b (record { held = None; weak = s.weak }) (record { held = Some c; weak = s.weak })) ≡ cond b (record { held = None; weak = s.weak }) (record { held = Some y; weak = s.weak })
+      flagged : (c y : ℕ) (b : Bool) → id_held p.cells c ≡ Some y →
+          slot_of later (cond b (record { held = None; weak = s.weak }) (record { held = Some c; weak = s.weak }))
+          ≡ cond b (record { held = None; weak = s.weak }) (record { held = Some y; weak = s.weak })
       flagged c y true has = refl
       flagged c y false has = ap (λ id. record { held = id; weak = s.weak }) (same_ids c ∙ has)
 
-      go : (h : Option ℕ) → IfSome h (λ cell. IsTrue (is_taken p.cells cell)) → slot_of later (slot_cleared marked (record { held = h; weak = s.weak })) ≡ slot_without gone (slot_of p.cells (record { held = h; weak = s.weak }))
+      go : (h : Option ℕ) → IfSome h (λ cell. IsTrue (is_taken p.cells cell)) →
+          slot_of later (slot_cleared marked (record { held = h; weak = s.weak })) ≡ slot_without gone (slot_of p.cells (record { held = h; weak = s.weak }))
       go None taken = refl
       go (Some c) taken =
           let (o, held) = held_taken p.cells c taken in
@@ -124,7 +129,8 @@ module _ (p : Parts) (laid : IsLaidOut p) (marked : List Bool) where
   holds_is : (s : CellSlot) → HoldsTaken p.cells s → option_map_or gone (slot_of p.cells s).held false ≡ holds_marked marked s
   holds_is s taken = go s.held taken
     where
-      go : (h : Option ℕ) → IfSome h (λ cell. IsTrue (is_taken p.cells cell)) → option_map_or gone (slot_of p.cells (record { held = h; weak = s.weak })).held false ≡ option_map_or (is_flagged marked) h false
+      go : (h : Option ℕ) → IfSome h (λ cell. IsTrue (is_taken p.cells cell)) →
+          option_map_or gone (slot_of p.cells (record { held = h; weak = s.weak })).held false ≡ option_map_or (is_flagged marked) h false
       go None taken = refl
       go (Some c) taken =
           let (o, held) = held_taken p.cells c taken in
@@ -168,7 +174,10 @@ module _ (p : Parts) (laid : IsLaidOut p) (marked : List Bool) where
   holders_are : (cell : ℕ) (o : Resident) → held_at p.cells cell ≡ Some o → holders (object_at_cell p.kinds p.cells cell) ≡ holders_held marked (held_at p.cells cell)
   holders_are cell o is =
       ap (λ c. holders (object_of p.kinds p.cells (unwrap_or c nobody))) is
-      ∙ sum-from (λ s. cond (holds_marked marked s) 1 0) (λ s. cond (option_map_or gone s.held false) 1 0) (slot_of p.cells) o.slots (All-weaker (HoldsTaken p.cells) (λ s. ◌≡◌ {A = ℕ} (cond (option_map_or gone (slot_of p.cells s).held false) 1 0) (cond (holds_marked marked s) 1 0)) (λ s taken. ap (λ b. cond b 1 0) (holds_is s taken)) o.slots (its_slots cell o is))
+      ∙ sum-from (λ s. cond (holds_marked marked s) 1 0) (λ s. cond (option_map_or gone s.held false) 1 0) (slot_of p.cells) o.slots
+      (All-weaker (HoldsTaken p.cells)
+      (λ s. ◌≡◌ {A = ℕ} (cond (option_map_or gone (slot_of p.cells s).held false) 1 0) (cond (holds_marked marked s) 1 0))
+      (λ s taken. ap (λ b. cond b 1 0) (holds_is s taken)) o.slots (its_slots cell o is))
       ∙ sym (ap (holders_held marked) is)
 
   pub slots_counted : sum_by (holders_held marked) p.cells ≡ sum_by holders (placed_of p).table.objects
@@ -234,7 +243,14 @@ module _ (p : Parts) (is : IsTable p) (marked : List Bool) where
 
   -- no more slots are cleared than there are
   pub slots_fit : sum_by (holders_held marked) p.cells ≤ MOST_SLOTS
-  slots_fit = omega (arith, slots_counted p is.laid marked, sum_by-le-sum_by (holders p is.laid marked) (λ o. length o.slots) (placed_of p).table.objects (λ o. count_by-le-length (λ s. option_map_or (gone p is.laid marked) s.held false) o.slots), is.sound.limits.slots)
+  slots_fit =
+      omega (
+        arith,
+        slots_counted p is.laid marked,
+        sum_by-le-sum_by (holders p is.laid marked) (λ o. length o.slots) (placed_of p).table.objects (λ o. count_by-le-length (λ s. option_map_or (gone p is.laid marked) s.held false) o.slots),
+        is.sound.limits.slots,
+      )
 
-  pub holders_counted : (slots roots : ℕ) → slots ≡ sum_by (holders_held marked) p.cells → roots ≡ count_by (λ r. is_marked p.ids marked r.1) p.roots → slots + roots ≡ holders_of (gone p is.laid marked) (placed_of p).table
+  pub holders_counted : (slots roots : ℕ) → slots ≡ sum_by (holders_held marked) p.cells →
+      roots ≡ count_by (λ r. is_marked p.ids marked r.1) p.roots → slots + roots ≡ holders_of (gone p is.laid marked) (placed_of p).table
   holders_counted slots roots in_slots in_roots = omega (arith, in_slots, in_roots, slots_counted p is.laid marked, roots_counted p is.laid marked)

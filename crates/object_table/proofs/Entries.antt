@@ -39,14 +39,16 @@ module _ {K X : Type 0} {R : K → K → Ordering} (o : IsTotalOrder R) where
   insert_at_gap k v (e ∷ es) zero h gap = rw (gap.1 0 e (omega arith) (omega arith))
   insert_at_gap k v (e ∷ es) (suc i) h gap = rw (gap.0 0 e (omega arith) (omega arith)) (ap (λ l. e ∷ l) (insert_at_gap k v es i (omega arith) (gap_tail k e es i gap)))
 
-  pub insert_at_place : (k : K) (v : X) (es : List (K × X)) (i : ℕ) (d : K × X) → RisesBy es → i < length es → HoldsAt (λ e. R k e.0 ≡ Equal) es i → insert_entry R es k v ≡ set es i ((get_or es i d).0, v)
+  pub insert_at_place : (k : K) (v : X) (es : List (K × X)) (i : ℕ) (d : K × X) → RisesBy es → i < length es →
+      HoldsAt (λ e. R k e.0 ≡ Equal) es i → insert_entry R es k v ≡ set es i ((get_or es i d).0, v)
   insert_at_place k v [] i d rises h equal = absurd (omega arith)
   insert_at_place k v (e ∷ es) zero d rises h equal = rw (equal e)
   insert_at_place k v (e ∷ es) (suc i) d rises h equal = rw (above_first k e es i rises (omega arith) equal) (ap (λ l. e ∷ l) (insert_at_place k v es i d (rises_tail e es rises) (omega arith) equal))
 
   pub remove_at_gap : (k : K) (es : List (K × X)) (i : ℕ) → i ≤ length es → IsGap k es i → remove_entry (is_at (R k)) es ≡ es
   remove_at_gap k [] i h gap = refl
-  remove_at_gap k (e ∷ es) zero h gap = rw (gap.1 0 e (omega arith) (omega arith)) (ap (λ l. e ∷ l) (remove_at_gap k es zero (omega arith) (λ j d l b. absurd (omega arith), λ j d l b. gap.1 (suc j) d (omega arith) (omega arith))))
+  remove_at_gap k (e ∷ es) zero h gap =
+      rw (gap.1 0 e (omega arith) (omega arith)) (ap (λ l. e ∷ l) (remove_at_gap k es zero (omega arith) (λ j d l b. absurd (omega arith), λ j d l b. gap.1 (suc j) d (omega arith) (omega arith))))
   remove_at_gap k (e ∷ es) (suc i) h gap = rw (gap.0 0 e (omega arith) (omega arith)) (ap (λ l. e ∷ l) (remove_at_gap k es i (omega arith) (gap_tail k e es i gap)))
 
   pub remove_at_place : (k : K) (es : List (K × X)) (i : ℕ) → RisesBy es → i < length es → HoldsAt (λ e. R k e.0 ≡ Equal) es i → remove_entry (is_at (R k)) es ≡ remove es i
@@ -56,7 +58,8 @@ module _ {K X : Type 0} {R : K → K → Ordering} (o : IsTotalOrder R) where
 
   pub lookup-gap : (k : K) (es : List (K × X)) (i : ℕ) → i ≤ length es → IsGap k es i → lookup (is_at (R k)) es ≡ None
   lookup-gap k [] i h gap = refl
-  lookup-gap k (e ∷ es) zero h gap = rw (gap.1 0 e (omega arith) (omega arith)) (lookup-gap k es zero (omega arith) (λ j d l b. absurd (omega arith), λ j d l b. gap.1 (suc j) d (omega arith) (omega arith)))
+  lookup-gap k (e ∷ es) zero h gap =
+      rw (gap.1 0 e (omega arith) (omega arith)) (lookup-gap k es zero (omega arith) (λ j d l b. absurd (omega arith), λ j d l b. gap.1 (suc j) d (omega arith) (omega arith)))
   lookup-gap k (e ∷ es) (suc i) h gap = rw (gap.0 0 e (omega arith) (omega arith)) (lookup-gap k es i (omega arith) (gap_tail k e es i gap))
 
   pub lookup-place : (k : K) (es : List (K × X)) (i : ℕ) → RisesBy es → i < length es → HoldsAt (λ e. R k e.0 ≡ Equal) es i → is_some (lookup (is_at (R k)) es) ≡ true

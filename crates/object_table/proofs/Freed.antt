@@ -1,5 +1,7 @@
 -- Objects that are freed one by one, in the order opposite to that in which they were added.
-use Rattle.std.proofs.Common.{◌≡◌, ℕ, zero, suc, ◌+◌, ◌-◌, ◌<◌, ◌≤◌, List, [], ◌∷◌, length, map, take, drop, filter, set, get_or, Bool, true, false, not, cond, ◌&&◌, ◌||◌, ◌==◌, IsTrue, Option, Some, None, IsSome, refl, sym, ◌∙◌, ap, subst, eq-eqb, ne_eqb, ◌≢◌, ◌⊎◌, inl, inr, is_some, unwrap_or, arith, ⊎_elim, length-drop}
+use Rattle.std.proofs.Common.{◌≡◌, ℕ, zero, suc, ◌+◌, ◌-◌, ◌<◌, ◌≤◌, List, [], ◌∷◌, length, map, take, drop, filter, set, get_or, Bool, true, false}
+use Rattle.std.proofs.Common.{not, cond, ◌&&◌, ◌||◌, ◌==◌, IsTrue, Option, Some, None, IsSome, refl, sym, ◌∙◌, ap, subst, eq-eqb, ne_eqb, ◌≢◌, ◌⊎◌}
+use Rattle.std.proofs.Common.{inl, inr, is_some, unwrap_or, arith, ⊎_elim, length-drop}
 use Rattle.std.specs.List.{All, sum_by}
 use Rattle.std.proofs.lemmas.Bool.{cases_eq}
 use Rattle.std.proofs.lemmas.List.{length-set, drop_more, get_or-take, get_or-drop, get_or-set_other, get_or_default, length-take-le}
@@ -17,7 +19,8 @@ use Rattle.object_table.specs.Chains.{resident_in, first_empty, IsLinked, IsHous
 abbrev IsFullTo : ℕ → List Cell → Type 0
 IsFullTo cell cells = (lower : ℕ) → lower ≤ cell → IsSome (held_at (map resident_in cells) lower)
 
-freed_linked : (n j : ℕ) (cells : List Cell) → IsLinked n cells → IsFullTo j cells → (first_empty n (set cells j (Empty (first_empty n cells))) ≡ Some (n + j)) × IsLinked n (set cells j (Empty (first_empty n cells)))
+freed_linked : (n j : ℕ) (cells : List Cell) → IsLinked n cells → IsFullTo j cells →
+    (first_empty n (set cells j (Empty (first_empty n cells))) ≡ Some (n + j)) × IsLinked n (set cells j (Empty (first_empty n cells)))
 freed_linked n j [] linked full = let none = full 0 (omega arith) in absurd cc
 freed_linked n zero (Taken o ∷ cells) linked full = (ap Some (omega arith), (refl, linked.1))
 freed_linked n (suc j) (Taken o ∷ cells) linked full =
@@ -44,7 +47,8 @@ filter_all p (x ∷ xs) all =
     ap (λ b. cond b (x ∷ filter p xs) (filter p xs)) (all 0 x (omega arith)) ∙ ap (λ l. x ∷ l) (filter_all p xs (λ k d h. all (suc k) d (omega arith)))
 
 -- where the id before a place isn't above a number, no id before the place is
-pub none_before : (entries : List (ℕ × ℕ)) (place number : ℕ) (e : ℕ × ℕ) → RisesById entries → 0 < place → place ≤ length entries → e ≡ get_or entries (place - 1) e → e.0 ≤ number → All (λ x. x.0 ≤ number) (take place entries)
+pub none_before : (entries : List (ℕ × ℕ)) (place number : ℕ) (e : ℕ × ℕ) → RisesById entries → 0 < place → place ≤ length entries →
+    e ≡ get_or entries (place - 1) e → e.0 ≤ number → All (λ x. x.0 ≤ number) (take place entries)
 none_before entries place number e rises some within is low k d h =
     let long = length-take-le place entries within in
     let here : get_or (take place entries) k d ≡ get_or entries k d = get_or-take place entries k d (omega arith) in
@@ -156,7 +160,8 @@ module _ (kept : List Bool) where
           go (inr apart) = ap (λ b. (b && not (is_flagged kept cell)) || is_freed kept (drop place all) cell) (ne_eqb (here d).1 cell apart)
 
       -- it is freed
-      pub freed_more : (later : List (Option Resident)) → is_flagged kept (here d).1 ≡ false → later ≡ set now (here d).1 None → (cell : ℕ) → held_at later cell ≡ held_unless (is_freed kept (drop (place - 1) all) cell) cells cell
+      pub freed_more : (later : List (Option Resident)) → is_flagged kept (here d).1 ≡ false → later ≡ set now (here d).1 None → (cell : ℕ) →
+          held_at later cell ≡ held_unless (is_freed kept (drop (place - 1) all) cell) cells cell
       freed_more later flag put cell =
           ap (λ l. held_at l cell) put
           ∙ go (cases_eq cell (here d).1)
@@ -181,7 +186,9 @@ module _ (kept : List Bool) where
     abbrev kept_count : List (ℕ × ℕ) → ℕ
     kept_count es = count (filter (λ e. is_flagged kept e.1) es)
 
-    pub counted_kept : (all : List (ℕ × ℕ)) (place slots : ℕ) (d : ℕ × ℕ) → 0 < place → place ≤ length all → is_flagged kept (get_or all (place - 1) d).1 ≡ true → slots + kept_count (drop place all) ≡ count (drop place all) → slots + kept_count (drop (place - 1) all) ≡ count (drop (place - 1) all)
+    pub counted_kept : (all : List (ℕ × ℕ)) (place slots : ℕ) (d : ℕ × ℕ) → 0 < place → place ≤ length all →
+        is_flagged kept (get_or all (place - 1) d).1 ≡ true → slots + kept_count (drop place all) ≡ count (drop place all) →
+        slots + kept_count (drop (place - 1) all) ≡ count (drop (place - 1) all)
     counted_kept all place slots d some within flag so_far =
         let e : ℕ × ℕ = get_or all (place - 1) d in
         let next : drop (place - 1) all ≡ e ∷ drop place all = drop_more all (place - 1) d (omega arith) ∙ ap (λ k. e ∷ drop k all) (omega arith) in
@@ -189,14 +196,18 @@ module _ (kept : List Bool) where
         let two = sum_by-cons (λ (x : ℕ × ℕ). slots_at_cell cells x.1) e (filter (λ x. is_flagged kept x.1) (drop place all)) in
         rw (next, flag) (omega arith)
 
-    pub counted_freed : (all : List (ℕ × ℕ)) (place slots n : ℕ) (d : ℕ × ℕ) → 0 < place → place ≤ length all → is_flagged kept (get_or all (place - 1) d).1 ≡ false → n ≡ slots_at_cell cells (get_or all (place - 1) d).1 → slots + kept_count (drop place all) ≡ count (drop place all) → (slots + n) + kept_count (drop (place - 1) all) ≡ count (drop (place - 1) all)
+    pub counted_freed : (all : List (ℕ × ℕ)) (place slots n : ℕ) (d : ℕ × ℕ) → 0 < place → place ≤ length all →
+        is_flagged kept (get_or all (place - 1) d).1 ≡ false → n ≡ slots_at_cell cells (get_or all (place - 1) d).1 →
+        slots + kept_count (drop place all) ≡ count (drop place all) →
+        (slots + n) + kept_count (drop (place - 1) all) ≡ count (drop (place - 1) all)
     counted_freed all place slots n d some within flag is so_far =
         let e : ℕ × ℕ = get_or all (place - 1) d in
         let next : drop (place - 1) all ≡ e ∷ drop place all = drop_more all (place - 1) d (omega arith) ∙ ap (λ k. e ∷ drop k all) (omega arith) in
         let one = sum_by-cons (λ (x : ℕ × ℕ). slots_at_cell cells x.1) e (drop place all) in
         rw (next, flag) (omega arith)
 
-    pub count_fits : (all : List (ℕ × ℕ)) (place slots n : ℕ) (d : ℕ × ℕ) → 0 < place → place ≤ length all → n ≡ slots_at_cell cells (get_or all (place - 1) d).1 → slots + kept_count (drop place all) ≡ count (drop place all) → slots + n ≤ count all
+    pub count_fits : (all : List (ℕ × ℕ)) (place slots n : ℕ) (d : ℕ × ℕ) → 0 < place → place ≤ length all →
+        n ≡ slots_at_cell cells (get_or all (place - 1) d).1 → slots + kept_count (drop place all) ≡ count (drop place all) → slots + n ≤ count all
     count_fits all place slots n d some within is so_far =
         let e : ℕ × ℕ = get_or all (place - 1) d in
         let next : drop (place - 1) all ≡ e ∷ drop place all = drop_more all (place - 1) d (omega arith) ∙ ap (λ k. e ∷ drop k all) (omega arith) in

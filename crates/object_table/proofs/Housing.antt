@@ -1,5 +1,7 @@
 -- What the calls on cells leave: what each cell holds, and the list of the empty ones.
-use Rattle.std.proofs.Common.{◌≡◌, ℕ, zero, suc, ◌+◌, ◌-◌, ◌<◌, ◌≤◌, List, [], ◌∷◌, ◌++◌, length, map, take, drop, set, get_or, slice_get, Bool, true, false, cond, Option, Some, None, is_some, IfSome, IsSome, ◌⊎◌, inl, inr, ⊎_elim, refl, sym, ◌∙◌, ap, subst, arith, add-one, append_assoc, length-append}
+use Rattle.std.proofs.Common.{◌≡◌, ℕ, zero, suc, ◌+◌, ◌-◌, ◌<◌, ◌≤◌, List, [], ◌∷◌, ◌++◌, length, map, take, drop, set, get_or, slice_get, Bool}
+use Rattle.std.proofs.Common.{true, false, cond, Option, Some, None, is_some, IfSome, IsSome, ◌⊎◌, inl, inr, ⊎_elim, refl, sym, ◌∙◌, ap, subst}
+use Rattle.std.proofs.Common.{arith, add-one, append_assoc, length-append}
 use Rattle.std.specs.Option.{option_map}
 use Rattle.std.proofs.Math.ListN.{get_or-eq_default}
 use Rattle.std.proofs.Math.Seq.{drop-cons, set-append_seam, get_or-append_seam}
@@ -19,7 +21,9 @@ use Rattle.object_table.proofs.Chains.{first-none, first-some, linked_put, linke
 -- ---- one cell is changed
 
 -- the cells alone
-pub put_alone : (old later : Roomy Cell) (k : ℕ) (change : Cell → Cell) → IfSome (slice_get old.cells k) (λ c. later ≡ record old { cells = set old.cells k (change c) }) → IfSome (slice_get old.cells k) (λ c. later.cells ≡ set old.cells k (change c))
+pub put_alone : (old later : Roomy Cell) (k : ℕ) (change : Cell → Cell) →
+    IfSome (slice_get old.cells k) (λ c. later ≡ record old { cells = set old.cells k (change c) }) →
+    IfSome (slice_get old.cells k) (λ c. later.cells ≡ set old.cells k (change c))
 put_alone old later k change changed = go (slice_get old.cells k) changed
   where
     go : (o : Option Cell) → IfSome o (λ c. later ≡ record old { cells = set old.cells k (change c) }) → IfSome o (λ c. later.cells ≡ set old.cells k (change c))
@@ -38,7 +42,8 @@ next_none cells first is none = first-none 0 cells (sym is.first_is ∙ none)
 
 -- ---- an object is put
 
-pub put_housed : (cells : List Cell) (first : Option ℕ) (k : ℕ) (c : Cell) (o : Resident) → IsHoused cells first → first ≡ Some k → slice_get cells k ≡ Some c → IsHoused (set cells k (Taken o)) (next_in c)
+pub put_housed : (cells : List Cell) (first : Option ℕ) (k : ℕ) (c : Cell) (o : Resident) → IsHoused cells first → first ≡ Some k →
+    slice_get cells k ≡ Some c → IsHoused (set cells k (Taken o)) (next_in c)
 put_housed cells first k c o is some at =
     let there = linked_put 0 k cells o is.linked (sym is.first_is ∙ some ∙ ap Some (omega arith)) in
     record {
@@ -52,7 +57,8 @@ put_is cells first k o is some =
     let next = next_some cells first k is some in
     let long = length-map cells resident_in in
     let within : next_cell (map resident_in cells) < length (map resident_in cells) = omega (arith, next.0, next.1) in
-    let changed : map resident_in (set cells k (Taken o)) ≡ set (map resident_in cells) (next_cell (map resident_in cells)) (Some o) = map-set resident_in cells k (Taken o) ∙ ap (λ j. set (map resident_in cells) j (Some o)) next.0 in
+    let changed : map resident_in (set cells k (Taken o)) ≡ set (map resident_in cells) (next_cell (map resident_in cells)) (Some o) =
+    map-set resident_in cells k (Taken o) ∙ ap (λ j. set (map resident_in cells) j (Some o)) next.0 in
     grind (arith, nat_tests)
 
 pub push_few : (cells : List Cell) (first : Option ℕ) → IsHoused cells first → first ≡ None → next_cell (map resident_in cells) < MOST_OBJECTS → length cells < MOST_OBJECTS
@@ -94,7 +100,9 @@ taken_within [] k some = absurd cc
 taken_within (c ∷ cells) zero some = omega arith
 taken_within (c ∷ cells) (suc k) some = let rest = taken_within cells k some in omega arith
 
-pub slot_housed : (cells : List Cell) (first : Option ℕ) (k slot : ℕ) (value : Slot) (later : List Cell) → IsHoused cells first → IsSome (held_at (map resident_in cells) k) → IfSome (slice_get cells k) (λ c. later ≡ set cells k (with_slot_put slot value c)) → IsHoused later first
+pub slot_housed : (cells : List Cell) (first : Option ℕ) (k slot : ℕ) (value : Slot) (later : List Cell) → IsHoused cells first →
+    IsSome (held_at (map resident_in cells) k) → IfSome (slice_get cells k) (λ c. later ≡ set cells k (with_slot_put slot value c)) →
+    IsHoused later first
 slot_housed cells first k slot value later is some changed = go (held_at (map resident_in cells) k) refl some
   where
     go : (o : Option Resident) → held_at (map resident_in cells) k ≡ o → IsSome o → IsHoused later first
@@ -111,7 +119,9 @@ slot_housed cells first k slot value later is some changed = go (held_at (map re
           few = omega (arith, length-set cells k (with_slot_put slot value (get_or cells k (Empty None))), is.few);
         })
 
-pub slot_is : (cells : List Cell) (k slot : ℕ) (value : Slot) (later : List Cell) → IfSome (slice_get cells k) (λ c. later ≡ set cells k (with_slot_put slot value c)) → IfSome (held_at (map resident_in cells) k) (λ o. map resident_in later ≡ set (map resident_in cells) k (Some (record o { slots = set o.slots slot value })))
+pub slot_is : (cells : List Cell) (k slot : ℕ) (value : Slot) (later : List Cell) →
+    IfSome (slice_get cells k) (λ c. later ≡ set cells k (with_slot_put slot value c)) →
+    IfSome (held_at (map resident_in cells) k) (λ o. map resident_in later ≡ set (map resident_in cells) k (Some (record o { slots = set o.slots slot value })))
 slot_is cells k slot value later changed = go (held_at (map resident_in cells) k) refl
   where
     go : (o : Option Resident) → held_at (map resident_in cells) k ≡ o → IfSome o (λ q. map resident_in later ≡ set (map resident_in cells) k (Some (record q { slots = set q.slots slot value })))
@@ -158,7 +168,9 @@ seam_set : (xs ys : List Cell) (x y : Cell) (j : ℕ) → length xs ≡ j → se
 seam_set xs ys x y j long = ap (λ k. set (xs ++ x ∷ ys) k y) (sym long) ∙ set-append_seam xs x ys y
 
 -- the cell at j is swept, after those from j + 1 on
-swept_at : (kept : List Bool) (old now later : List Cell) (j : ℕ) (first new : Option ℕ) → IsSwept kept old now (j + 1) first → IfSome (slice_get now j) (λ c. later ≡ set now j (cell_after (is_flagged kept j) kept first c)) → IfSome (slice_get now j) (λ c. new ≡ empty_from j (cell_after (is_flagged kept j) kept first c) first) → IsSwept kept old later j new
+swept_at : (kept : List Bool) (old now later : List Cell) (j : ℕ) (first new : Option ℕ) → IsSwept kept old now (j + 1) first →
+    IfSome (slice_get now j) (λ c. later ≡ set now j (cell_after (is_flagged kept j) kept first c)) →
+    IfSome (slice_get now j) (λ c. new ≡ empty_from j (cell_after (is_flagged kept j) kept first c) first) → IsSwept kept old later j new
 swept_at kept old now later j first new is put new_is =
     let within = is.within in
     let x : Cell = get_or old j (Empty None) in
@@ -184,7 +196,10 @@ swept_at kept old now later j first new is put new_is =
           ∙ ap (λ l. first_empty j (cells_after kept j l)) (sym here);
     }
 
-pub swept_more : (kept : List Bool) (old now later : List Cell) (i : ℕ) (first new : Option ℕ) → IsSwept kept old now i first → 0 < i → IfSome (slice_get now (i - 1)) (λ c. later ≡ set now (i - 1) (cell_after (is_flagged kept (i - 1)) kept first c)) → IfSome (slice_get now (i - 1)) (λ c. new ≡ empty_from (i - 1) (cell_after (is_flagged kept (i - 1)) kept first c) first) → IsSwept kept old later (i - 1) new
+pub swept_more : (kept : List Bool) (old now later : List Cell) (i : ℕ) (first new : Option ℕ) → IsSwept kept old now i first → 0 < i →
+    IfSome (slice_get now (i - 1)) (λ c. later ≡ set now (i - 1) (cell_after (is_flagged kept (i - 1)) kept first c)) →
+    IfSome (slice_get now (i - 1)) (λ c. new ≡ empty_from (i - 1) (cell_after (is_flagged kept (i - 1)) kept first c) first) →
+    IsSwept kept old later (i - 1) new
 swept_more kept old now later i first new is positive put new_is =
     let next : i ≡ (i - 1) + 1 = omega arith in
     swept_at kept old now later (i - 1) first new (subst (λ k. IsSwept kept old now k first) next is) put new_is
@@ -223,7 +238,9 @@ front_held before after front cell within =
     ∙ ap (λ l. held_at l cell) (sym (take-map resident_in (length after) before))
     ∙ get_or-take (length after) (map resident_in before) cell None within
 
-kept_by : (kept : List Bool) (cells others : List Cell) (cell : ℕ) → held_at (map resident_in cells) cell ≡ held_at (map resident_in others) cell → held_after kept (map resident_in cells) cell ≡ held_after kept (map resident_in others) cell
+kept_by : (kept : List Bool) (cells others : List Cell) (cell : ℕ) →
+    held_at (map resident_in cells) cell ≡ held_at (map resident_in others) cell →
+    held_after kept (map resident_in cells) cell ≡ held_after kept (map resident_in others) cell
 kept_by kept cells others cell same = ap (λ o. cond (is_flagged kept cell) (option_map (resident_after kept) o) None) same
 
 beyond : (kept : List Bool) (cells : List Cell) (cell : ℕ) → length cells ≤ cell → held_after kept (map resident_in cells) cell ≡ None
@@ -246,7 +263,8 @@ module _ (kept : List Bool) where
     others = λ cell past. beyond kept cells cell past;
   }
 
-  pub front_more : (before now after : List Cell) (cell : ℕ) → IsFrontOf kept before now → length now ≡ cell + 1 → after ≡ take cell now → is_some (held_after kept (map resident_in now) cell) ≡ false → IsFrontOf kept before after
+  pub front_more : (before now after : List Cell) (cell : ℕ) → IsFrontOf kept before now → length now ≡ cell + 1 → after ≡ take cell now →
+      is_some (held_after kept (map resident_in now) cell) ≡ false → IsFrontOf kept before after
   front_more before now after cell is count popped gone =
       let shorter : length after ≡ cell = ap length popped ∙ length-take-le cell now (omega (arith, count)) in
       record {

@@ -1,5 +1,7 @@
 -- What is left where every object is kept whose id is not above a number, and the others are freed one by one.
-use Rattle.std.proofs.Common.{◌≡◌, ℕ, ◌+◌, ◌-◌, ◌<◌, ◌≤◌, List, [], ◌∷◌, ◌++◌, length, map, take, drop, filter, get_or, suc, ◌==◌, ne_eqb, Bool, true, false, not, ◌&&◌, ◌||◌, cond, IsTrue, Option, Some, None, IfSome, IsSome, is_some, unwrap_or, refl, sym, ◌∙◌, ap, subst, ⊎_elim, arith}
+use Rattle.std.proofs.Common.{◌≡◌, ℕ, ◌+◌, ◌-◌, ◌<◌, ◌≤◌, List, [], ◌∷◌, ◌++◌, length, map, take, drop, filter, get_or, suc, ◌==◌, ne_eqb, Bool}
+use Rattle.std.proofs.Common.{true, false, not, ◌&&◌, ◌||◌, cond, IsTrue, Option, Some, None, IfSome, IsSome, is_some, unwrap_or, refl, sym, ◌∙◌}
+use Rattle.std.proofs.Common.{ap, subst, ⊎_elim, arith}
 use Rattle.std.specs.List.{All, sum_by}
 use Rattle.std.specs.Option.{option_map}
 use Rattle.std.proofs.lemmas.Bool.{false≢true, cases_eq}
@@ -53,7 +55,10 @@ same_slots kept (s ∷ slots) all =
     one None h = refl
     one (Some cell) h = rw h refl
 
-module _ (p : Parts) (is : IsTable p) (kept : List Bool) (number first : ℕ) (before : All (λ e. e.0 ≤ number) (take first p.ids)) (after : All (λ e. number < e.0) (drop first p.ids)) (within : first ≤ length p.ids) (others : (id : ℕ) → IsTrue (is_live (placed_of p).table id) → id ≤ number → IsTrue (has_id (kept_ids (placed_of p).cells kept) id)) (stacked : IsStacked (placed_of p) number) (held_kept : HoldKept (placed_of p) (kept_ids (placed_of p).cells kept)) where
+module _ (p : Parts) (is : IsTable p) (kept : List Bool) (number first : ℕ) (before : All (λ e. e.0 ≤ number) (take first p.ids))
+    (after : All (λ e. number < e.0) (drop first p.ids)) (within : first ≤ length p.ids)
+    (others : (id : ℕ) → IsTrue (is_live (placed_of p).table id) → id ≤ number → IsTrue (has_id (kept_ids (placed_of p).cells kept) id))
+    (stacked : IsStacked (placed_of p) number) (held_kept : HoldKept (placed_of p) (kept_ids (placed_of p).cells kept)) where
   abbrev later_ids : List (ℕ × ℕ)
   later_ids = drop first p.ids
 
@@ -80,7 +85,10 @@ module _ (p : Parts) (is : IsTable p) (kept : List Bool) (number first : ℕ) (b
         let rest : length later_ids ≡ length p.ids - first = length-drop first p.ids in
         let a = after i d (omega arith) in
         let up = is.laid.rising (first + i) (first + j) d (omega arith) (omega arith) in
-        let low = stacked.rising (get_or p.ids (first + i) d).1 (get_or p.ids (first + j) d).1 (get_or p.ids (first + i) d).0 (get_or p.ids (first + j) d).0 (stands_in (first + i) d (omega arith)) (stands_in (first + j) d (omega arith)) (subst (λ (e : ℕ × ℕ). number < e.0) (nth i d) a) up in
+        let low =
+        stacked.rising (get_or p.ids (first + i) d).1 (get_or p.ids (first + j) d).1 (get_or p.ids (first + i) d).0
+        (get_or p.ids (first + j) d).0 (stands_in (first + i) d (omega arith)) (stands_in (first + j) d (omega arith))
+        (subst (λ (e : ℕ × ℕ). number < e.0) (nth i d) a) up in
         omega (arith, low, ap (λ (e : ℕ × ℕ). e.1) (nth i d), ap (λ (e : ℕ × ℕ). e.1) (nth j d));
     full = λ k d h lower low.
         let rest : length later_ids ≡ length p.ids - first = length-drop first p.ids in
@@ -109,17 +117,20 @@ module _ (p : Parts) (is : IsTable p) (kept : List Bool) (number first : ℕ) (b
       let taken : All (HoldsTaken p.cells) o.slots = of_some (λ q. All (HoldsTaken p.cells) q.slots) (held_at p.cells cell) o (is.laid.leads cell) held in
       ap (λ l. record o { slots = l }) (same_slots kept o.slots (each o.slots all taken))
     where
-      one : (h : Option ℕ) (weak : Bool) → HoldsOf (kept_ids (placed_of p).cells kept) (slot_of p.cells (record { held = h; weak = weak })) → IfSome h (λ c. IsTrue (is_taken p.cells c)) → IfSome h (λ c. IsTrue (is_flagged kept c))
+      one : (h : Option ℕ) (weak : Bool) → HoldsOf (kept_ids (placed_of p).cells kept) (slot_of p.cells (record { held = h; weak = weak })) →
+          IfSome h (λ c. IsTrue (is_taken p.cells c)) → IfSome h (λ c. IsTrue (is_flagged kept c))
       one None weak holds taken = tt
       one (Some c) weak holds taken =
           let (q, at) = held_taken p.cells c taken in
           let its : id_held p.cells c ≡ Some q.id = ap (option_map (λ (u : Resident). u.id)) at in
           sym (kept_cell p is.laid kept c q.id its) ∙ of_some (λ id. IsTrue (has_id (kept_ids (placed_of p).cells kept) id)) (id_held p.cells c) q.id holds its
 
-      each : (slots : List CellSlot) → All (HoldsOf (kept_ids (placed_of p).cells kept)) (map (slot_of p.cells) slots) → All (HoldsTaken p.cells) slots → All (λ s. IfSome s.held (λ c. IsTrue (is_flagged kept c))) slots
+      each : (slots : List CellSlot) → All (HoldsOf (kept_ids (placed_of p).cells kept)) (map (slot_of p.cells) slots) →
+          All (HoldsTaken p.cells) slots → All (λ s. IfSome s.held (λ c. IsTrue (is_flagged kept c))) slots
       each slots all taken k d h =
           one (get_or slots k d).held (get_or slots k d).weak
-          (subst (HoldsOf (kept_ids (placed_of p).cells kept)) (get_or-map (slot_of p.cells) slots k d (slot_of p.cells d) h) (all k (slot_of p.cells d) (omega (arith, length-map slots (slot_of p.cells)))))
+          (subst (HoldsOf (kept_ids (placed_of p).cells kept)) (get_or-map (slot_of p.cells) slots k d (slot_of p.cells d) h)
+          (all k (slot_of p.cells d) (omega (arith, length-map slots (slot_of p.cells)))))
           (taken k d h)
 
   module _ (later : List (Option Resident)) (freed : (cell : ℕ) → held_at later cell ≡ held_unless (is_freed kept later_ids cell) p.cells cell) where
@@ -161,7 +172,8 @@ module _ (p : Parts) (is : IsTable p) (kept : List Bool) (number first : ℕ) (b
     same_count (e ∷ es) all =
         let rest = same_count es (λ k d h. all (suc k) d (omega arith)) in
         let one = ap (λ (q : Option Resident). length (unwrap_or q nobody).slots) (freed e.1 ∙ ap (λ b. held_unless b p.cells e.1) (kept_stays kept later_ids e.1 (all 0 e (omega arith)))) in
-        sum_by-cons (λ (x : ℕ × ℕ). slots_at_cell later x.1) e es ∙ ap (λ n. n + sum_by (λ x. slots_at_cell later x.1) es) one ∙ ap (λ n. slots_at_cell p.cells e.1 + n) rest ∙ sym (sum_by-cons (λ (x : ℕ × ℕ). slots_at_cell p.cells x.1) e es)
+        sum_by-cons (λ (x : ℕ × ℕ). slots_at_cell later x.1) e es ∙ ap (λ n. n + sum_by (λ x. slots_at_cell later x.1) es) one
+        ∙ ap (λ n. slots_at_cell p.cells e.1 + n) rest ∙ sym (sum_by-cons (λ (x : ℕ × ℕ). slots_at_cell p.cells x.1) e es)
 
     module _ (n : ℕ) (counted : n + sum_by (λ e. slots_at_cell p.cells e.1) (filter (λ e. is_flagged kept e.1) later_ids) ≡ sum_by (λ e. slots_at_cell p.cells e.1) later_ids) where
       abbrev flagged : ℕ × ℕ → Bool
@@ -179,7 +191,9 @@ module _ (p : Parts) (is : IsTable p) (kept : List Bool) (number first : ℕ) (b
       pub slots_left : p.slots - n ≡ sum_by (λ e. slots_at_cell later e.1) (filter flagged p.ids)
       slots_left =
           let whole : filter flagged p.ids ≡ take first p.ids ++ filter flagged later_ids =
-          ap (filter flagged) (sym (take-append-drop first p.ids)) ∙ filter-append flagged (take first p.ids) later_ids ∙ ap (λ l. l ++ filter flagged later_ids) (filter_all flagged (take first p.ids) all_kept) in
-          let stay : count (filter flagged p.ids) ≡ count (take first p.ids) + count (filter flagged later_ids) = ap count whole ∙ sum_by-append (λ (e : ℕ × ℕ). slots_at_cell p.cells e.1) (take first p.ids) (filter flagged later_ids) in
+          ap (filter flagged) (sym (take-append-drop first p.ids)) ∙ filter-append flagged (take first p.ids) later_ids
+          ∙ ap (λ l. l ++ filter flagged later_ids) (filter_all flagged (take first p.ids) all_kept) in
+          let stay : count (filter flagged p.ids) ≡ count (take first p.ids) + count (filter flagged later_ids) =
+          ap count whole ∙ sum_by-append (λ (e : ℕ × ℕ). slots_at_cell p.cells e.1) (take first p.ids) (filter flagged later_ids) in
           let same = same_count (filter flagged p.ids) (filter_passes flagged p.ids) in
           omega (arith, total)

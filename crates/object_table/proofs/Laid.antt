@@ -1,5 +1,6 @@
 -- Lists that stand in runs, one after another: where a run starts, and what an edit of one run does to the list.
-use Rattle.std.proofs.Common.{◌≡◌, ℕ, zero, suc, ◌+◌, ◌<◌, ◌≤◌, List, [], ◌∷◌, ◌++◌, length, map, filter, not, Bool, cond, take, drop, get_or, true, false, leb, refl, sym, ◌∙◌, ap, arith, length-append}
+use Rattle.std.proofs.Common.{◌≡◌, ℕ, zero, suc, ◌+◌, ◌<◌, ◌≤◌, List, [], ◌∷◌, ◌++◌, length, map, filter, not, Bool, cond, take, drop, get_or, true}
+use Rattle.std.proofs.Common.{false, leb, refl, sym, ◌∙◌, ap, arith, length-append}
 use Rattle.std.specs.Prelude.{nat_lt}
 use Rattle.std.specs.List.Sorted.{IsPartitionPoint, IsNonDecreasingBy}
 use Rattle.std.proofs.lemmas.Bool.{leb-true, leb-false}
@@ -27,16 +28,26 @@ module _ {X : Type 0} where
 
   -- the runs up to the end of the k-th
   pub length-more : (runs : List (Run X)) (k : ℕ) (d : Run X) → k < length runs → length (all_roots (take (k + 1) runs)) ≡ length (all_roots (take k runs)) + length (get_or runs k d).roots
-  length-more runs k d h = ap (λ l. length (all_roots l)) (take_more runs k d h) ∙ ap length (all_roots-append (take k runs) (get_or runs k d ∷ [])) ∙ omega (arith, length-append (all_roots (take k runs)) ((get_or runs k d).roots ++ []), length-append (get_or runs k d).roots [])
+  length-more runs k d h =
+      ap (λ l. length (all_roots l)) (take_more runs k d h) ∙ ap length (all_roots-append (take k runs) (get_or runs k d ∷ []))
+      ∙ omega (arith, length-append (all_roots (take k runs)) ((get_or runs k d).roots ++ []), length-append (get_or runs k d).roots [])
 
   pub length-all : (runs : List (Run X)) (k : ℕ) → length runs ≤ k → length (all_roots (take k runs)) ≡ length (all_roots runs)
   length-all runs k h = ap (λ l. length (all_roots l)) (take_all k runs h)
 
   pub starts_rise : (runs : List (Run X)) → IsLaid 0 runs → IsNonDecreasingBy (λ r. r.start) runs
-  starts_rise runs laid = IsNonDecreasingBy-from_all_adjacent (λ r. r.start) runs (λ k d h. omega (arith, start_is runs k d laid (omega arith), start_is runs (k + 1) d laid (omega arith), length-more runs k d (omega arith)))
+  starts_rise runs laid =
+      IsNonDecreasingBy-from_all_adjacent (λ r. r.start) runs
+      (λ k d h. omega (arith, start_is runs k d laid (omega arith), start_is runs (k + 1) d laid (omega arith), length-more runs k d (omega arith)))
 
   pub length_take : (runs : List (Run X)) (k : ℕ) → length (all_roots (take k runs)) ≤ length (all_roots runs)
-  length_take runs k = omega (arith, ap (λ l. length (all_roots l)) (take-append-drop k runs), ap length (all_roots-append (take k runs) (drop k runs)), length-append (all_roots (take k runs)) (all_roots (drop k runs)))
+  length_take runs k =
+      omega (
+        arith,
+        ap (λ l. length (all_roots l)) (take-append-drop k runs),
+        ap length (all_roots-append (take k runs) (drop k runs)),
+        length-append (all_roots (take k runs)) (all_roots (drop k runs)),
+      )
 
   -- ---- the run of a place
 
@@ -48,13 +59,16 @@ module _ {X : Type 0} where
 
   -- the first run starts at 0
   pub starts_before : (runs : List (Run X)) (place i : ℕ) → IsLaid 0 runs → 0 < length runs → StartsWithin place runs i → 0 < i
-  starts_before runs place zero laid some parted = absurd (omega (arith, start_is runs 0 empty_run laid some, leb-false (get_or runs 0 empty_run).start place (parted.1 0 empty_run (omega arith) some)))
+  starts_before runs place zero laid some parted =
+      absurd (omega (arith, start_is runs 0 empty_run laid some, leb-false (get_or runs 0 empty_run).start place (parted.1 0 empty_run (omega arith) some)))
   starts_before runs place (suc i) laid some parted = omega arith
 
   pub run_found : (runs : List (Run X)) (place i k : ℕ) → IsLaid 0 runs → place ≤ length (all_roots runs) → i ≤ length runs → k + 1 ≡ i → StartsWithin place runs i → IsRunOf runs place k
   run_found runs place i k laid within h next parted =
-      let begins : length (all_roots (take k runs)) ≤ place = omega (arith, start_is runs k empty_run laid (omega arith), leb-true (get_or runs k empty_run).start place (parted.0 k empty_run (omega arith) (omega arith))) in
-      let inner : k + 1 < length runs → place < length (all_roots (take (k + 1) runs)) = λ l. omega (arith, start_is runs (k + 1) empty_run laid l, leb-false (get_or runs (k + 1) empty_run).start place (parted.1 (k + 1) empty_run (omega arith) l)) in
+      let begins : length (all_roots (take k runs)) ≤ place =
+      omega (arith, start_is runs k empty_run laid (omega arith), leb-true (get_or runs k empty_run).start place (parted.0 k empty_run (omega arith) (omega arith))) in
+      let inner : k + 1 < length runs → place < length (all_roots (take (k + 1) runs)) =
+      λ l. omega (arith, start_is runs (k + 1) empty_run laid l, leb-false (get_or runs (k + 1) empty_run).start place (parted.1 (k + 1) empty_run (omega arith) l)) in
       let last : length runs ≤ k + 1 → length (all_roots (take (k + 1) runs)) ≡ length (all_roots runs) = length-all runs (k + 1) in
       record { in_range = omega arith; begins = begins; reaches = grind (arith, inner, last); ends = λ l. grind (arith, inner, last) }
 
@@ -68,14 +82,16 @@ module _ {X : Type 0} where
   all_roots-some [] = refl
   all_roots-some (r ∷ runs) = go r.roots (all_roots-some runs)
     where
-      go : (roots : List X) → all_roots (with_roots runs) ≡ all_roots runs → all_roots (cond (nat_lt 0 (length roots)) (record { start = r.start; roots = roots } ∷ with_roots runs) (with_roots runs)) ≡ roots ++ all_roots runs
+      go : (roots : List X) → all_roots (with_roots runs) ≡ all_roots runs →
+          all_roots (cond (nat_lt 0 (length roots)) (record { start = r.start; roots = roots } ∷ with_roots runs) (with_roots runs)) ≡ roots ++ all_roots runs
       go [] rest = rest
       go (x ∷ roots) rest =
           let some : nat_lt 0 (length (x ∷ roots)) ≡ true = grind (arith, nat_tests) in
           rw some (ap (λ l. (x ∷ roots) ++ l) rest)
 
   pub none_empty-some : (runs : List (Run X)) → NoneEmpty (with_roots runs)
-  none_empty-some runs = All-weaker (λ r. nat_lt 0 (length r.roots) ≡ true) (λ r. 0 < length r.roots) (λ r some. grind (arith, nat_tests)) (with_roots runs) (filter_passes (λ r. nat_lt 0 (length r.roots)) runs)
+  none_empty-some runs =
+      All-weaker (λ r. nat_lt 0 (length r.roots) ≡ true) (λ r. 0 < length r.roots) (λ r some. grind (arith, nat_tests)) (with_roots runs) (filter_passes (λ r. nat_lt 0 (length r.roots)) runs)
 
 -- the roots of runs that were cleared
 pub all_roots-cleared : (ids : List (ℕ × ℕ)) (flags : List Bool) (runs : List (Run (List ℕ × ℕ))) → all_roots (map (run_cleared ids flags) runs) ≡ roots_cleared ids flags (all_roots runs)

@@ -1,5 +1,6 @@
 -- Where a search for an id among the rising ids ends, and what it finds after a change.
-use Rattle.std.proofs.Common.{◌≡◌, ℕ, zero, suc, ◌+◌, ◌-◌, ◌<◌, ◌≤◌, ◌≢◌, List, [], ◌∷◌, length, take, drop, length-drop, get_or, Bool, true, false, cond, Option, Some, None, refl, sym, ◌∙◌, ap, subst, arith}
+use Rattle.std.proofs.Common.{◌≡◌, ℕ, zero, suc, ◌+◌, ◌-◌, ◌<◌, ◌≤◌, ◌≢◌, List, [], ◌∷◌, length, take, drop, length-drop, get_or, Bool, true, false}
+use Rattle.std.proofs.Common.{cond, Option, Some, None, refl, sym, ◌∙◌, ap, subst, arith}
 use Rattle.std.specs.List.{All, HoldsAt}
 use Rattle.std.specs.List.Sorted.{IsNonDecreasingBy, IsPartitionPoint}
 use Rattle.std.specs.Ordering.{nat_cmp, ordering_index}
@@ -66,7 +67,8 @@ found-before (e ∷ ids) id zero above = sym (found-none (e ∷ ids) id (λ k d 
 found-before (e ∷ ids) id (suc end) above = ap (cond (is_at (nat_cmp id) e.0) (Some e.1)) (found-before ids id end above)
 
 -- Where the ids before it are below and those behind it above, the part tells what the list does.
-pub found_within : (ids : List (ℕ × ℕ)) (id begin end : ℕ) → begin ≤ end → All (λ e. e.0 < id) (take begin ids) → All (λ e. id < e.0) (drop end ids) → found (take (end - begin) (drop begin ids)) id ≡ found ids id
+pub found_within : (ids : List (ℕ × ℕ)) (id begin end : ℕ) → begin ≤ end → All (λ e. e.0 < id) (take begin ids) →
+    All (λ e. id < e.0) (drop end ids) → found (take (end - begin) (drop begin ids)) id ≡ found ids id
 found_within ids id begin end order below above =
     found-before (drop begin ids) id (end - begin) behind ∙ found-after ids id begin below
   where
@@ -83,7 +85,9 @@ pub found-somewhere : (ids : List (ℕ × ℕ)) (id cell : ℕ) → found ids id
 found-somewhere [] id cell is = absurd cc
 found-somewhere (e ∷ ids) id cell is = go (is_at (nat_cmp id) e.0) refl is (found-somewhere ids id cell)
   where
-    go : (b : Bool) → is_at (nat_cmp id) e.0 ≡ b → cond b (Some e.1) (found ids id) ≡ Some cell → (found ids id ≡ Some cell → (i : ℕ) × (i < length ids) × ((d : ℕ × ℕ) → get_or ids i d ≡ (id, cell))) → (i : ℕ) × (i < length (e ∷ ids)) × ((d : ℕ × ℕ) → get_or (e ∷ ids) i d ≡ (id, cell))
+    go : (b : Bool) → is_at (nat_cmp id) e.0 ≡ b → cond b (Some e.1) (found ids id) ≡ Some cell →
+        (found ids id ≡ Some cell → (i : ℕ) × (i < length ids) × ((d : ℕ × ℕ) → get_or ids i d ≡ (id, cell))) →
+        (i : ℕ) × (i < length (e ∷ ids)) × ((d : ℕ × ℕ) → get_or (e ∷ ids) i d ≡ (id, cell))
     go true here is rest =
         let same : e.0 ≡ id = grind (arith, nat_tests) in
         let at : e.1 ≡ cell = same_Some e.1 cell is in
@@ -98,12 +102,15 @@ comparisons_rise ids rising id i j d le in_range =
     let rise : (get_or ids i d).0 ≤ (get_or ids j d).0 = grind (arith, rising i j d, λ (same : i ≡ j). ap (λ k. (get_or ids k d).0) same) in
     grind (arith, nat_tests)
 
-pub searched_some : (ids xs : List (ℕ × ℕ)) (id key i : ℕ) (x : ℕ × ℕ) → xs ≡ ids → key ≡ id → RisesById ids → i < length ids → HoldsAt (λ e. nat_cmp e.0 key ≡ Equal) xs i → x ≡ get_or ids i x → found ids id ≡ Some x.1
+pub searched_some : (ids xs : List (ℕ × ℕ)) (id key i : ℕ) (x : ℕ × ℕ) → xs ≡ ids → key ≡ id → RisesById ids → i < length ids →
+    HoldsAt (λ e. nat_cmp e.0 key ≡ Equal) xs i → x ≡ get_or ids i x → found ids id ≡ Some x.1
 searched_some ids xs id key i x same is rises h equal at =
     let here : (get_or ids i x).0 ≡ id = ranked _ _ _ (sym (rw (same, is) at (equal x))) in
     found-here ids id i x rises h here ∙ ap (λ e. Some e.1) (sym at)
 
-pub searched_none : (ids xs : List (ℕ × ℕ)) (id key i : ℕ) → xs ≡ ids → key ≡ id → RisesById ids → (IsNonDecreasingBy (λ e. ordering_index (nat_cmp e.0 key)) xs → IsPartitionPoint (λ e. nat_cmp e.0 key ≡ Less) (λ e. nat_cmp e.0 key ≡ Greater) xs i) → found ids id ≡ None
+pub searched_none : (ids xs : List (ℕ × ℕ)) (id key i : ℕ) → xs ≡ ids → key ≡ id → RisesById ids →
+    (IsNonDecreasingBy (λ e. ordering_index (nat_cmp e.0 key)) xs → IsPartitionPoint (λ e. nat_cmp e.0 key ≡ Less) (λ e. nat_cmp e.0 key ≡ Greater) xs i) →
+    found ids id ≡ None
 searched_none ids xs id key i same is rises parted =
     let there = (rw (same, is) at parted) (comparisons_rise ids rises id) in
     found-none ids id (λ k d h at. grind (arith, nat_tests, there.0 k d, there.1 k d))

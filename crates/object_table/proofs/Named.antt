@@ -1,5 +1,6 @@
 -- A search for a name among the roots, and what an edit where it ends does.
-use Rattle.std.proofs.Common.{◌≡◌, ℕ, ◌+◌, ◌<◌, ◌≤◌, List, [], length, not, Bool, set, get_or, slice_get, IfSome, None, is_some, Result, Ok, Err, is_ok, IfOk, IfErr, OnErr, Ordering, Less, Equal, Greater, refl, sym, ◌∙◌, ap, arith}
+use Rattle.std.proofs.Common.{◌≡◌, ℕ, ◌+◌, ◌<◌, ◌≤◌, List, [], length, not, Bool, set, get_or, slice_get, IfSome, None, is_some, Result, Ok, Err}
+use Rattle.std.proofs.Common.{is_ok, IfOk, IfErr, OnErr, Ordering, Less, Equal, Greater, refl, sym, ◌∙◌, ap, arith}
 use Rattle.std.specs.List.{insert, remove, count_by}
 use Rattle.std.specs.List.Sorted.{IsNonDecreasingBy, IsSearchInRange, IsBinarySearchResult}
 use Rattle.std.specs.Ordering.{ordering_index, ordering_reverse, is_lt}
@@ -39,7 +40,8 @@ names_rise roots rises name = searchable_from_sorted total (λ r. r.0) roots nam
     ap is_lt (flipped (get_or roots k d).0 (get_or roots (k + 1) d).0 Less Greater below refl))
 
 -- what a binary search that compares the roots' names with this one answers
-pub searched : (roots xs : Roots) (name text : List ℕ) (r : Result ℕ ℕ) → xs ≡ roots → text ≡ name → RisesByName roots → IsBinarySearchResult (λ e. name_cmp e.0 text) xs r → IfOk r (IsNamedAt name roots) × IfErr r (IsGapFor name roots)
+pub searched : (roots xs : Roots) (name text : List ℕ) (r : Result ℕ ℕ) → xs ≡ roots → text ≡ name → RisesByName roots →
+    IsBinarySearchResult (λ e. name_cmp e.0 text) xs r → IfOk r (IsNamedAt name roots) × IfErr r (IsGapFor name roots)
 searched roots xs name text (Ok i) same is rises equal = (λ d. flipped (get_or roots i d).0 name Equal Equal (rw (same, is) at (equal d)) refl, tt)
 searched roots xs name text (Err i) same is rises parted =
     let there = (rw (same, is) at parted) (names_rise roots rises name) in
@@ -47,7 +49,8 @@ searched roots xs name text (Err i) same is rises parted =
 
 -- ---- where the name is
 
-pub set_is : (roots later : Roots) (name : List ℕ) (i id : ℕ) → IsOrdered roots → i < length roots → IsNamedAt name roots i → IfSome (slice_get roots i) (λ r. later ≡ set roots i (r.0, id)) → later ≡ insert_entry name_cmp roots name id
+pub set_is : (roots later : Roots) (name : List ℕ) (i id : ℕ) → IsOrdered roots → i < length roots → IsNamedAt name roots i →
+    IfSome (slice_get roots i) (λ r. later ≡ set roots i (r.0, id)) → later ≡ insert_entry name_cmp roots name id
 set_is roots later name i id ordered h named held =
     let d : List ℕ × ℕ = ([], 0) in
     let is : later ≡ set roots i ((get_or roots i d).0, id) = rw (slice_get-get_or roots i d h) at held in
@@ -80,7 +83,8 @@ pub lookup_none : (roots : Roots) (name : List ℕ) (i : ℕ) → i ≤ length r
 lookup_none roots name i h gap = lookup-gap total name roots i h gap
 
 -- the search finds the name exactly where a look-up does
-pub found_is : (roots : Roots) (name : List ℕ) (r : Result ℕ ℕ) → IsOrdered roots → IsSearchInRange r (length roots) → IfOk r (IsNamedAt name roots) → IfErr r (IsGapFor name roots) → is_ok r ≡ is_some (lookup (is_at (name_cmp name)) roots)
+pub found_is : (roots : Roots) (name : List ℕ) (r : Result ℕ ℕ) → IsOrdered roots → IsSearchInRange r (length roots) →
+    IfOk r (IsNamedAt name roots) → IfErr r (IsGapFor name roots) → is_ok r ≡ is_some (lookup (is_at (name_cmp name)) roots)
 found_is roots name (Ok i) ordered h named gap = sym (lookup-place total name roots i ordered.rising h named)
 found_is roots name (Err i) ordered h named gap = ap is_some (sym (lookup-gap total name roots i h gap))
 

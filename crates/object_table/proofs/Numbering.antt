@@ -42,7 +42,9 @@ module _ {X : Type 0} where
     here = is.runs ∙ ap (λ l. laid_from 0 (take i old) ++ l) (drop_more old i x h)
 
     x_is : x ≡ get_or old i x
-    x_is = at ∙ ap (λ l. get_or l i x) here ∙ ap (λ k. get_or (laid_from 0 (take i old) ++ (get_or old i x ∷ drop (i + 1) old)) k x) (sym long) ∙ get_or-append_seam (laid_from 0 (take i old)) (get_or old i x) (drop (i + 1) old) x
+    x_is =
+        at ∙ ap (λ l. get_or l i x) here ∙ ap (λ k. get_or (laid_from 0 (take i old) ++ (get_or old i x ∷ drop (i + 1) old)) k x) (sym long)
+        ∙ get_or-append_seam (laid_from 0 (take i old)) (get_or old i x) (drop (i + 1) old) x
 
     next_start : start + length x.roots ≡ length (all_roots (take (i + 1) old))
     next_start = ap (λ n. n + length x.roots) is.start_is ∙ ap (λ q. length (all_roots (take i old)) + length q.roots) x_is ∙ sym (length-more old i x h)
@@ -58,7 +60,9 @@ module _ {X : Type 0} where
     none_plus n = omega arith
 
     y_is : y ≡ record { start = 0 + length (all_roots (take i old)); roots = (get_or old i x).roots }
-    y_is = ap (λ n. record { start = n; roots = x.roots }) (is.start_is ∙ none_plus (length (all_roots (take i old)))) ∙ ap (λ q. record { start = 0 + length (all_roots (take i old)); roots = q.roots }) x_is
+    y_is =
+        ap (λ n. record { start = n; roots = x.roots }) (is.start_is ∙ none_plus (length (all_roots (take i old))))
+        ∙ ap (λ q. record { start = 0 + length (all_roots (take i old)); roots = q.roots }) x_is
 
     pub numbered_more : IsNumbered old (set now i (record { start = start; roots = x.roots })) (i + 1) (start + length x.roots)
     numbered_more = record {

@@ -1,5 +1,6 @@
 -- Lists in pages of 1,024: where an element stands, and what a change in a page is to the whole.
-use Rattle.std.proofs.Common.{◌≡◌, ℕ, zero, suc, ◌+◌, ◌-◌, ◌*◌, ◌/◌, ◌%◌, ◌<◌, ◌≤◌, List, [], ◌∷◌, ◌++◌, length, take, set, get_or, slice_get, Some, IfSome, refl, inl, inr, sym, ◌∙◌, ap, arith, length-append}
+use Rattle.std.proofs.Common.{◌≡◌, ℕ, zero, suc, ◌+◌, ◌-◌, ◌*◌, ◌/◌, ◌%◌, ◌<◌, ◌≤◌, List, [], ◌∷◌, ◌++◌, length, take, set, get_or, slice_get, Some}
+use Rattle.std.proofs.Common.{IfSome, refl, inl, inr, sym, ◌∙◌, ap, arith, length-append}
 use Rattle.std.specs.List.{All}
 use Rattle.std.proofs.lemmas.List.{length-set, get_or_append_left, get_or-append_right, set-append_left, set-append_right, get_or-take, length-take-le}
 use Rattle.std.proofs.lemmas.List.Elements.{All-head, All-tail, All-set}
@@ -34,7 +35,8 @@ module _ {X : Type 0} where
       ∙ ap (λ k. get_or (all_of pages) k d) (sym next)
       ∙ at_place pages q r e d (All-tail (λ q. length q ≡ 1024) p pages full) (omega arith) l
 
-  set_place : (pages : List (List X)) (q r : ℕ) (e : List X) (x : X) → AreFull pages → q < length pages → r < 1024 → set (all_of pages) (1024 * q + r) x ≡ all_of (set pages q (set (get_or pages q e) r x))
+  set_place : (pages : List (List X)) (q r : ℕ) (e : List X) (x : X) → AreFull pages → q < length pages → r < 1024 →
+      set (all_of pages) (1024 * q + r) x ≡ all_of (set pages q (set (get_or pages q e) r x))
   set_place [] q r e x full h l = absurd (omega arith)
   set_place (p ∷ pages) zero r e x full h l =
       let here : length p ≡ 1024 = All-head (λ q. length q ≡ 1024) p pages full in
@@ -101,7 +103,8 @@ module _ {X : Type 0} where
     -- one more element is used
     pub pushed_is : (x : X) → i ≡ count → paged (set pages (i / 1024) (set page (i % 1024) x)) (count + 1) ≡ record { cells = (paged pages count).cells ++ x ∷ []; room = (paged pages count).room - 1 }
     pushed_is x last =
-        let cells : take (count + 1) (set (all_of pages) i x) ≡ take count (all_of pages) ++ x ∷ [] = take-set_at (all_of pages) i (count + 1) x (omega arith) h ∙ ap (λ k. take k (all_of pages) ++ x ∷ []) last in
+        let cells : take (count + 1) (set (all_of pages) i x) ≡ take count (all_of pages) ++ x ∷ [] =
+        take-set_at (all_of pages) i (count + 1) x (omega arith) h ∙ ap (λ k. take k (all_of pages) ++ x ∷ []) last in
         let room : length (set (all_of pages) i x) - (count + 1) ≡ (length (all_of pages) - count) - 1 = omega (arith, length-set (all_of pages) i x) in
         rw (put_all x, cells, room) refl
 
@@ -130,7 +133,8 @@ module _ {X : Type 0} where
     pub used_read_back : (x : X) → slice_get (paged pages count).cells i ≡ Some x → slice_get page (i % 1024) ≡ Some x
     used_read_back x is_x = read_back pages count i page is in_all at x used_cell is_x
 
-    pub used_put : (x : X) (later : List X) → later ≡ set page (i % 1024) x → IsPaged (set pages (i / 1024) later) count × (paged (set pages (i / 1024) later) count ≡ record (paged pages count) { cells = set (paged pages count).cells i x })
+    pub used_put : (x : X) (later : List X) → later ≡ set page (i % 1024) x →
+        IsPaged (set pages (i / 1024) later) count × (paged (set pages (i / 1024) later) count ≡ record (paged pages count) { cells = set (paged pages count).cells i x })
     used_put x later put = rw put (put_keeps pages count i page is in_all at count x is.used, put_is pages count i page is in_all at x used_cell)
 
     pub used_holds : (P : X → Type 0) → IfSome (slice_get (paged pages count).cells i) P → IfSome (slice_get page (i % 1024)) P
@@ -147,7 +151,9 @@ module _ {X : Type 0} where
     ]
 
     -- the element that stood there, changed
-    pub used_change : (f : X → X) (later : List X) → IfSome (slice_get page (i % 1024)) (λ x. later ≡ set page (i % 1024) (f x)) → IsPaged (set pages (i / 1024) later) count × IfSome (slice_get (paged pages count).cells i) (λ x. paged (set pages (i / 1024) later) count ≡ record (paged pages count) { cells = set (paged pages count).cells i (f x) })
+    pub used_change : (f : X → X) (later : List X) → IfSome (slice_get page (i % 1024)) (λ x. later ≡ set page (i % 1024) (f x)) →
+        IsPaged (set pages (i / 1024) later) count
+        × IfSome (slice_get (paged pages count).cells i) (λ x. paged (set pages (i / 1024) later) count ≡ record (paged pages count) { cells = set (paged pages count).cells i (f x) })
     used_change f later changed = elim (slice_get_cases (paged pages count).cells i).1 [
       | inl there ↦
           let put = used_put (f there.0) later (rw (used_read_back there.0 there.2) at changed) in
@@ -174,7 +180,10 @@ module _ {X : Type 0} where
   pub last_used : (pages : List (List X)) (count : ℕ) → IsPaged pages count → 0 < length (paged pages count).cells → count - 1 < length (paged pages count).cells
   last_used pages count is some = let long = length-take-le count (all_of pages) is.used in omega arith
 
-  pub popped : (pages : List (List X)) (count : ℕ) (page later : List X) (x : X) → IsPaged pages count → 0 < length (paged pages count).cells → page ≡ get_or pages ((count - 1) / 1024) page → later ≡ set page ((count - 1) % 1024) x → IsPaged (set pages ((count - 1) / 1024) later) (count - 1) × ((paged (set pages ((count - 1) / 1024) later) (count - 1)).cells ≡ take (length (paged pages count).cells - 1) (paged pages count).cells)
+  pub popped : (pages : List (List X)) (count : ℕ) (page later : List X) (x : X) → IsPaged pages count → 0 < length (paged pages count).cells →
+      page ≡ get_or pages ((count - 1) / 1024) page → later ≡ set page ((count - 1) % 1024) x →
+      IsPaged (set pages ((count - 1) / 1024) later) (count - 1)
+      × ((paged (set pages ((count - 1) / 1024) later) (count - 1)).cells ≡ take (length (paged pages count).cells - 1) (paged pages count).cells)
   popped pages count page later x is some at put =
       let long : length (paged pages count).cells ≡ count = length-take-le count (all_of pages) is.used in
       let all : count - 1 < length (all_of pages) = let few = is.used in omega arith in

@@ -1,8 +1,11 @@
 -- A list in runs, parted at one of them: what an edit of that run does to the list.
-use Rattle.std.proofs.Common.{◌≡◌, ℕ, zero, suc, ◌+◌, ◌-◌, ◌<◌, ◌≤◌, List, [], ◌∷◌, ◌++◌, length, take, drop, set, get_or, slice_get, Some, IfSome, refl, sym, ◌∙◌, ap, subst, add-one, arith, length-append}
+use Rattle.std.proofs.Common.{◌≡◌, ℕ, zero, suc, ◌+◌, ◌-◌, ◌<◌, ◌≤◌, List, [], ◌∷◌, ◌++◌, length, take, drop, set, get_or, slice_get, Some, IfSome}
+use Rattle.std.proofs.Common.{refl, sym, ◌∙◌, ap, subst, add-one, arith, length-append}
 use Rattle.std.specs.List.{insert, remove}
 use Rattle.std.proofs.lemmas.Option.{slice_get-get_or, get_or_from_slice_get, slice_get_within}
-use Rattle.std.proofs.lemmas.List.{append_assoc, get_or-append-add, get_or_append_left, take-append-drop, drop_more, set_split, length-set, length-drop, set-append_left, set-append_right, take_more_set, drop-set-lt, length-take-le, get_or-set_other, get_or_default}
+use Rattle.std.proofs.lemmas.List.{append_assoc, get_or-append-add, get_or_append_left, take-append-drop, drop_more, set_split, length-set}
+use Rattle.std.proofs.lemmas.List.{length-drop, set-append_left, set-append_right, take_more_set, drop-set-lt, length-take-le, get_or-set_other}
+use Rattle.std.proofs.lemmas.List.{get_or_default}
 use Rattle.std.proofs.lemmas.List.Edits.{insert-append_left, insert-append_right, remove-append_left, remove-append_right}
 use Rattle.object_table.specs.Blocks.{Run, all_roots, IsLaid, IsRunOf, NoneEmpty}
 use Rattle.std.proofs.lemmas.List.Elements.{All-nil, All-cons, All-head, All-tail, All-append, All-take, All-drop, All-set}
@@ -73,7 +76,8 @@ module _ {X : Type 0} where
       ∙ get_or-append-add (all_roots (take k runs)) (r.roots ++ all_roots (drop (k + 1) runs)) i d
       ∙ get_or_append_left r.roots (all_roots (drop (k + 1) runs)) d i h
 
-  pub entry_is : (runs : List (Run X)) (k place n : ℕ) (r : Run X) (x : X) → IsParted runs k r → n ≡ r.start → n ≤ place → place - n < length r.roots → slice_get r.roots (place - n) ≡ Some x → slice_get (all_roots runs) place ≡ Some x
+  pub entry_is : (runs : List (Run X)) (k place n : ℕ) (r : Run X) (x : X) → IsParted runs k r → n ≡ r.start → n ≤ place →
+      place - n < length r.roots → slice_get r.roots (place - n) ≡ Some x → slice_get (all_roots runs) place ≡ Some x
   entry_is runs k place n r x p at begins h is =
       let there : place ≡ r.start + (place - n) = omega arith in
       let within : place < length (all_roots runs) = omega (arith, length_is runs k r p, p.start) in
@@ -94,10 +98,12 @@ module _ {X : Type 0} where
   -- ---- the run is written
 
   -- the list, where the run has other roots and the later runs keep theirs
-  all_roots_edited : (runs later : List (Run X)) (k : ℕ) (s : Run X) → all_roots later ≡ all_roots (drop (k + 1) runs) → all_roots (take k runs ++ (s ∷ later)) ≡ all_roots (take k runs) ++ (s.roots ++ all_roots (drop (k + 1) runs))
+  all_roots_edited : (runs later : List (Run X)) (k : ℕ) (s : Run X) → all_roots later ≡ all_roots (drop (k + 1) runs) →
+      all_roots (take k runs ++ (s ∷ later)) ≡ all_roots (take k runs) ++ (s.roots ++ all_roots (drop (k + 1) runs))
   all_roots_edited runs later k s same = all_roots-append (take k runs) (s ∷ later) ∙ ap (λ l. all_roots (take k runs) ++ (s.roots ++ l)) same
 
-  laid_edited : (runs later : List (Run X)) (k : ℕ) (r s : Run X) → IsParted runs k r → s.start ≡ r.start → 0 < length s.roots → IsLaid (length (all_roots (take k runs)) + length s.roots) later → IsLaid 0 (take k runs ++ (s ∷ later))
+  laid_edited : (runs later : List (Run X)) (k : ℕ) (r s : Run X) → IsParted runs k r → s.start ≡ r.start → 0 < length s.roots →
+      IsLaid (length (all_roots (take k runs)) + length s.roots) later → IsLaid 0 (take k runs ++ (s ∷ later))
   laid_edited runs later k r s p start some laid = IsLaid-append 0 (take k runs) (s ∷ later) p.before (omega (arith, p.start), some, IsLaid-at _ _ later (omega arith) laid)
 
   -- ---- an root of the run is replaced
@@ -110,7 +116,8 @@ module _ {X : Type 0} where
       let same : length s.roots ≡ length r.roots = ap length is ∙ length-set r.roots i x in
       rw (replaced runs k s p.in_range) (laid_edited runs (drop (k + 1) runs) k r s p start (omega (arith, p.some)) (IsLaid-at _ _ (drop (k + 1) runs) (omega arith) p.after))
 
-  pub set_is : (runs : List (Run X)) (k place n : ℕ) (r s : Run X) (x : X) → IsParted runs k r → n ≡ length (all_roots (take k runs)) → n ≤ place → place - n < length r.roots → s.roots ≡ set r.roots (place - n) x → all_roots (set runs k s) ≡ set (all_roots runs) place x
+  pub set_is : (runs : List (Run X)) (k place n : ℕ) (r s : Run X) (x : X) → IsParted runs k r → n ≡ length (all_roots (take k runs)) →
+      n ≤ place → place - n < length r.roots → s.roots ≡ set r.roots (place - n) x → all_roots (set runs k s) ≡ set (all_roots runs) place x
   set_is runs k place n r s x p at begins within is =
       ap all_roots (replaced runs k s p.in_range)
       ∙ all_roots_edited runs (drop (k + 1) runs) k s refl
@@ -121,7 +128,8 @@ module _ {X : Type 0} where
 
   -- ---- an root is put into the run
 
-  pub put_is : (runs : List (Run X)) (k place n : ℕ) (r s : Run X) (x : X) → IsParted runs k r → n ≡ length (all_roots (take k runs)) → n ≤ place → place - n ≤ length r.roots → s.roots ≡ insert r.roots (place - n) x → all_roots (set runs k s) ≡ insert (all_roots runs) place x
+  pub put_is : (runs : List (Run X)) (k place n : ℕ) (r s : Run X) (x : X) → IsParted runs k r → n ≡ length (all_roots (take k runs)) →
+      n ≤ place → place - n ≤ length r.roots → s.roots ≡ insert r.roots (place - n) x → all_roots (set runs k s) ≡ insert (all_roots runs) place x
   put_is runs k place n r s x p at begins within is =
       ap all_roots (replaced runs k s p.in_range)
       ∙ all_roots_edited runs (drop (k + 1) runs) k s refl
@@ -132,7 +140,8 @@ module _ {X : Type 0} where
 
   -- ---- an root is taken from the run
 
-  pub take_is : (runs : List (Run X)) (k place n : ℕ) (r s : Run X) → IsParted runs k r → n ≡ length (all_roots (take k runs)) → n ≤ place → place - n < length r.roots → s.roots ≡ remove r.roots (place - n) → all_roots (set runs k s) ≡ remove (all_roots runs) place
+  pub take_is : (runs : List (Run X)) (k place n : ℕ) (r s : Run X) → IsParted runs k r → n ≡ length (all_roots (take k runs)) → n ≤ place →
+      place - n < length r.roots → s.roots ≡ remove r.roots (place - n) → all_roots (set runs k s) ≡ remove (all_roots runs) place
   take_is runs k place n r s p at begins within is =
       ap all_roots (replaced runs k s p.in_range)
       ∙ all_roots_edited runs (drop (k + 1) runs) k s refl
@@ -151,7 +160,8 @@ module _ {X : Type 0} where
   remove_one (x ∷ []) ys i one first = rw first refl
   remove_one (x ∷ z ∷ xs) ys i one first = absurd (omega arith)
 
-  pub take_run_is : (runs : List (Run X)) (k place n : ℕ) (r : Run X) → IsParted runs k r → length r.roots ≡ 1 → n ≡ length (all_roots (take k runs)) → n ≤ place → place - n < length r.roots → all_roots (remove runs k) ≡ remove (all_roots runs) place
+  pub take_run_is : (runs : List (Run X)) (k place n : ℕ) (r : Run X) → IsParted runs k r → length r.roots ≡ 1 →
+      n ≡ length (all_roots (take k runs)) → n ≤ place → place - n < length r.roots → all_roots (remove runs k) ≡ remove (all_roots runs) place
   take_run_is runs k place n r p one at begins within =
       ap all_roots (removed runs k)
       ∙ all_roots-append (take k runs) (drop (k + 1) runs)
@@ -167,18 +177,27 @@ module _ {X : Type 0} where
   split_is : (runs : List (Run X)) (k : ℕ) (s t : Run X) → k < length runs → insert (set runs k s) (k + 1) t ≡ take k runs ++ (s ∷ (t ∷ drop (k + 1) runs))
   split_is runs k s t h = rw (take_more_set runs k s h, drop_written runs k s) (append_assoc (take k runs) (s ∷ []) (t ∷ drop (k + 1) runs))
 
-  pub split_laid : (runs : List (Run X)) (k i : ℕ) (r s t : Run X) → IsParted runs k r → 0 < i → i < length r.roots → s ≡ record { start = r.start; roots = take i r.roots } → t ≡ record { start = r.start + i; roots = drop i r.roots } → IsLaid 0 (insert (set runs k s) (k + 1) t)
+  pub split_laid : (runs : List (Run X)) (k i : ℕ) (r s t : Run X) → IsParted runs k r → 0 < i → i < length r.roots →
+      s ≡ record { start = r.start; roots = take i r.roots } → t ≡ record { start = r.start + i; roots = drop i r.roots } →
+      IsLaid 0 (insert (set runs k s) (k + 1) t)
   split_laid runs k i r s t p some rest front tail =
       let front_long : length s.roots ≡ i = ap (λ q. length q.roots) front ∙ length-take-le i r.roots (omega arith) in
       let tail_long : length t.roots ≡ length r.roots - i = ap (λ q. length q.roots) tail ∙ length-drop i r.roots in
       let tail_start : t.start ≡ r.start + i = ap (λ q. q.start) tail in
-      rw (split_is runs k s t p.in_range) (laid_edited runs (t ∷ drop (k + 1) runs) k r s p (ap (λ q. q.start) front) (omega arith) (omega (arith, p.start), omega arith, IsLaid-at _ _ (drop (k + 1) runs) (omega arith) p.after))
+      rw (split_is runs k s t p.in_range)
+      (laid_edited runs (t ∷ drop (k + 1) runs) k r s p (ap (λ q. q.start) front) (omega arith)
+      (omega (arith, p.start), omega arith, IsLaid-at _ _ (drop (k + 1) runs) (omega arith) p.after))
 
-  pub split_same : (runs : List (Run X)) (k i : ℕ) (r s t : Run X) → IsParted runs k r → s ≡ record { start = r.start; roots = take i r.roots } → t ≡ record { start = r.start + i; roots = drop i r.roots } → all_roots (insert (set runs k s) (k + 1) t) ≡ all_roots runs
+  pub split_same : (runs : List (Run X)) (k i : ℕ) (r s t : Run X) → IsParted runs k r →
+      s ≡ record { start = r.start; roots = take i r.roots } → t ≡ record { start = r.start + i; roots = drop i r.roots } →
+      all_roots (insert (set runs k s) (k + 1) t) ≡ all_roots runs
   split_same runs k i r s t p front tail =
       ap all_roots (split_is runs k s t p.in_range)
       ∙ all_roots-append (take k runs) (s ∷ (t ∷ drop (k + 1) runs))
-      ∙ ap (λ l. all_roots (take k runs) ++ l) (rw (front, tail) (sym (append_assoc (take i r.roots) (drop i r.roots) (all_roots (drop (k + 1) runs))) ∙ ap (λ l. l ++ all_roots (drop (k + 1) runs)) (take-append-drop i r.roots)))
+      ∙ ap (λ l. all_roots (take k runs) ++ l)
+      (rw (front, tail)
+      (sym (append_assoc (take i r.roots) (drop i r.roots) (all_roots (drop (k + 1) runs)))
+      ∙ ap (λ l. l ++ all_roots (drop (k + 1) runs)) (take-append-drop i r.roots)))
       ∙ sym p.list
 
   -- ---- no run is empty
@@ -192,12 +211,17 @@ module _ {X : Type 0} where
   none_empty_set runs k s laid some = All-set (λ r. 0 < length r.roots) runs k s some (none_empty 0 runs laid)
 
   pub none_empty_removed : (runs : List (Run X)) (k : ℕ) → NoneEmpty runs → NoneEmpty (remove runs k)
-  none_empty_removed runs k some = subst NoneEmpty (sym (removed runs k)) (All-append (λ r. 0 < length r.roots) (take k runs) (drop (k + 1) runs) (All-take (λ r. 0 < length r.roots) k runs some) (All-drop (λ r. 0 < length r.roots) (k + 1) runs some))
+  none_empty_removed runs k some =
+      subst NoneEmpty (sym (removed runs k))
+      (All-append (λ r. 0 < length r.roots) (take k runs) (drop (k + 1) runs) (All-take (λ r. 0 < length r.roots) k runs some)
+      (All-drop (λ r. 0 < length r.roots) (k + 1) runs some))
 
   -- ---- two runs become one
 
   -- the next run is taken out, this one gets its roots, and the place of the next one is closed
-  merged : (runs : List (Run X)) (k : ℕ) (s e d : Run X) → suc k < length runs → s.roots ≡ (get_or runs k d).roots ++ (get_or runs (suc k) d).roots → all_roots (remove (set (set runs (suc k) e) k s) (suc k)) ≡ all_roots runs
+  merged : (runs : List (Run X)) (k : ℕ) (s e d : Run X) → suc k < length runs →
+      s.roots ≡ (get_or runs k d).roots ++ (get_or runs (suc k) d).roots →
+      all_roots (remove (set (set runs (suc k) e) k s) (suc k)) ≡ all_roots runs
   merged [] k s e d h is = absurd (omega arith)
   merged (r ∷ []) k s e d h is = absurd (omega arith)
   merged (r ∷ (t ∷ runs)) zero s e d h is = ap (λ l. l ++ all_roots runs) is ∙ append_assoc r.roots t.roots (all_roots runs)
@@ -209,25 +233,34 @@ module _ {X : Type 0} where
   merged_some (r ∷ (t ∷ runs)) zero s e h one some =
       All-cons (λ q. 0 < length q.roots) s runs one (All-tail (λ q. 0 < length q.roots) t runs (All-tail (λ q. 0 < length q.roots) r (t ∷ runs) some))
   merged_some (r ∷ (t ∷ runs)) (suc k) s e h one some =
-      All-cons (λ q. 0 < length q.roots) r (remove (set (set (t ∷ runs) (suc k) e) k s) (suc k)) (All-head (λ q. 0 < length q.roots) r (t ∷ runs) some) (merged_some (t ∷ runs) k s e (omega arith) one (All-tail (λ q. 0 < length q.roots) r (t ∷ runs) some))
+      All-cons (λ q. 0 < length q.roots) r (remove (set (set (t ∷ runs) (suc k) e) k s) (suc k))
+      (All-head (λ q. 0 < length q.roots) r (t ∷ runs) some)
+      (merged_some (t ∷ runs) k s e (omega arith) one (All-tail (λ q. 0 < length q.roots) r (t ∷ runs) some))
 
   -- the next run is put back
-  unmerged : (runs : List (Run X)) (k : ℕ) (s e t d : Run X) → suc k < length runs → s.roots ≡ (get_or runs k d).roots → t.roots ≡ (get_or runs (suc k) d).roots → all_roots (set (set (set runs (suc k) e) k s) (suc k) t) ≡ all_roots runs
+  unmerged : (runs : List (Run X)) (k : ℕ) (s e t d : Run X) → suc k < length runs → s.roots ≡ (get_or runs k d).roots →
+      t.roots ≡ (get_or runs (suc k) d).roots → all_roots (set (set (set runs (suc k) e) k s) (suc k) t) ≡ all_roots runs
   unmerged [] k s e t d h is back = absurd (omega arith)
   unmerged (r ∷ []) k s e t d h is back = absurd (omega arith)
   unmerged (r ∷ (q ∷ runs)) zero s e t d h is back = ap (λ l. l ++ (t.roots ++ all_roots runs)) is ∙ ap (λ l. r.roots ++ (l ++ all_roots runs)) back
   unmerged (r ∷ (q ∷ runs)) (suc k) s e t d h is back = ap (λ l. r.roots ++ l) (unmerged (q ∷ runs) k s e t d (omega arith) is back)
 
-  unmerged_some : (runs : List (Run X)) (k : ℕ) (s e t : Run X) → suc k < length runs → 0 < length s.roots → 0 < length t.roots → NoneEmpty runs → NoneEmpty (set (set (set runs (suc k) e) k s) (suc k) t)
+  unmerged_some : (runs : List (Run X)) (k : ℕ) (s e t : Run X) → suc k < length runs → 0 < length s.roots → 0 < length t.roots →
+      NoneEmpty runs → NoneEmpty (set (set (set runs (suc k) e) k s) (suc k) t)
   unmerged_some [] k s e t h one two some = absurd (omega arith)
   unmerged_some (r ∷ []) k s e t h one two some = absurd (omega arith)
   unmerged_some (r ∷ (q ∷ runs)) zero s e t h one two some =
-      All-cons (λ u. 0 < length u.roots) s (t ∷ runs) one (All-cons (λ u. 0 < length u.roots) t runs two (All-tail (λ u. 0 < length u.roots) q runs (All-tail (λ u. 0 < length u.roots) r (q ∷ runs) some)))
+      All-cons (λ u. 0 < length u.roots) s (t ∷ runs) one
+      (All-cons (λ u. 0 < length u.roots) t runs two
+      (All-tail (λ u. 0 < length u.roots) q runs (All-tail (λ u. 0 < length u.roots) r (q ∷ runs) some)))
   unmerged_some (r ∷ (q ∷ runs)) (suc k) s e t h one two some =
-      All-cons (λ u. 0 < length u.roots) r (set (set (set (q ∷ runs) (suc k) e) k s) (suc k) t) (All-head (λ u. 0 < length u.roots) r (q ∷ runs) some) (unmerged_some (q ∷ runs) k s e t (omega arith) one two (All-tail (λ u. 0 < length u.roots) r (q ∷ runs) some))
+      All-cons (λ u. 0 < length u.roots) r (set (set (set (q ∷ runs) (suc k) e) k s) (suc k) t)
+      (All-head (λ u. 0 < length u.roots) r (q ∷ runs) some)
+      (unmerged_some (q ∷ runs) k s e t (omega arith) one two (All-tail (λ u. 0 < length u.roots) r (q ∷ runs) some))
 
   -- What the calls say: `next` was taken out of the place behind k, and `this` is the run at k then.
-  module _ (runs : List (Run X)) (k : ℕ) (this next e s : Run X) (h : k + 1 < length runs) (some : NoneEmpty runs) (is_next : next ≡ get_or runs (k + 1) next) (is_this : this ≡ get_or (set runs (k + 1) e) k this) where
+  module _ (runs : List (Run X)) (k : ℕ) (this next e s : Run X) (h : k + 1 < length runs) (some : NoneEmpty runs)
+      (is_next : next ≡ get_or runs (k + 1) next) (is_this : this ≡ get_or (set runs (k + 1) e) k this) where
     this_there : this ≡ get_or runs k this
     this_there = is_this ∙ get_or-set_other runs (k + 1) k e this (λ same. omega arith)
 
@@ -243,10 +276,13 @@ module _ {X : Type 0} where
     pub merge_is : s.roots ≡ this.roots ++ next.roots → (all_roots (remove (set (set runs (k + 1) e) k s) (k + 1)) ≡ all_roots runs) × NoneEmpty (remove (set (set runs (k + 1) e) k s) (k + 1))
     merge_is is =
         let long : 0 < length s.roots = omega (arith, ap length is, length-append this.roots next.roots, this_some) in
-        subst (λ j. (all_roots (remove (set (set runs j e) k s) j) ≡ all_roots runs) × NoneEmpty (remove (set (set runs j e) k s) j)) (sym (add-one k))
-        (merged runs k s e this (omega arith) (is ∙ ap (λ q. q.roots ++ next.roots) this_there ∙ ap (λ q. (get_or runs k this).roots ++ q.roots) next_there), merged_some runs k s e (omega arith) long some)
+        subst (λ j. (all_roots (remove (set (set runs j e) k s) j) ≡ all_roots runs) × NoneEmpty (remove (set (set runs j e) k s) j)) (sym (add-one k)) (
+          merged runs k s e this (omega arith) (is ∙ ap (λ q. q.roots ++ next.roots) this_there ∙ ap (λ q. (get_or runs k this).roots ++ q.roots) next_there),
+          merged_some runs k s e (omega arith) long some,
+        )
 
-    pub unmerge_is : (t : Run X) → s.roots ≡ this.roots → t.roots ≡ next.roots → (all_roots (set (set (set runs (k + 1) e) k s) (k + 1) t) ≡ all_roots runs) × NoneEmpty (set (set (set runs (k + 1) e) k s) (k + 1) t)
+    pub unmerge_is : (t : Run X) → s.roots ≡ this.roots → t.roots ≡ next.roots →
+        (all_roots (set (set (set runs (k + 1) e) k s) (k + 1) t) ≡ all_roots runs) × NoneEmpty (set (set (set runs (k + 1) e) k s) (k + 1) t)
     unmerge_is t is back =
         let one : 0 < length s.roots = omega (arith, ap length is, this_some) in
         let two : 0 < length t.roots = omega (arith, ap length back, next_some) in

@@ -1,5 +1,6 @@
 -- What the parts of a table say of it: which objects are live, in which cells they stand, and how many cells are taken.
-use Rattle.std.proofs.Common.{◌≡◌, ℕ, zero, suc, ◌+◌, ◌<◌, ◌≤◌, List, [], ◌∷◌, length, map, get_or, slice_get, true, eqb, eq-eqb, ne_eqb, Option, Some, None, IfSome, is_some, unwrap_or, option_and_then, refl, sym, ◌∙◌, ap, ⊎_elim, arith}
+use Rattle.std.proofs.Common.{◌≡◌, ℕ, zero, suc, ◌+◌, ◌<◌, ◌≤◌, List, [], ◌∷◌, length, map, get_or, slice_get, true, eqb, eq-eqb, ne_eqb, Option}
+use Rattle.std.proofs.Common.{Some, None, IfSome, is_some, unwrap_or, option_and_then, refl, sym, ◌∙◌, ap, ⊎_elim, arith}
 use Rattle.std.specs.List.{All}
 use Rattle.std.specs.Option.{option_map, option_map_or}
 use Rattle.std.proofs.lemmas.Bool.{false≢true, cases_eq}
@@ -77,12 +78,14 @@ module _ (p : Parts) (laid : IsLaidOut p) where
   -- ---- objects
 
   -- an object is the one in the cell that its id leads to
-  objects_found : (ids : List (ℕ × ℕ)) (id : ℕ) → All (λ e. id_held p.cells e.1 ≡ Some e.0) ids → object_at (map (λ e. object_at_cell p.kinds p.cells e.1) ids) id ≡ option_map (object_at_cell p.kinds p.cells) (found ids id)
+  objects_found : (ids : List (ℕ × ℕ)) (id : ℕ) → All (λ e. id_held p.cells e.1 ≡ Some e.0) ids →
+      object_at (map (λ e. object_at_cell p.kinds p.cells e.1) ids) id ≡ option_map (object_at_cell p.kinds p.cells) (found ids id)
   objects_found [] id stands = refl
   objects_found (e ∷ ids) id stands =
       let (o, held, same) = held_with_id p.cells e.1 e.0 (stands 0 e (omega arith)) in
       let its_id : (object_at_cell p.kinds p.cells e.1).id ≡ e.0 = ap (λ c. (unwrap_or c nobody).id) held ∙ same in
-      let rest : object_at (map (λ e. object_at_cell p.kinds p.cells e.1) ids) id ≡ option_map (object_at_cell p.kinds p.cells) (found ids id) = objects_found ids id (λ k d h. stands (suc k) d (omega arith)) in
+      let rest : object_at (map (λ e. object_at_cell p.kinds p.cells e.1) ids) id ≡ option_map (object_at_cell p.kinds p.cells) (found ids id) =
+      objects_found ids id (λ k d h. stands (suc k) d (omega arith)) in
       grind (arith, nat_tests)
 
   pub object_at-found : (id : ℕ) → object_at (placed_of p).table.objects id ≡ option_map (object_at_cell p.kinds p.cells) (found p.ids id)
@@ -174,7 +177,8 @@ module _ where
       ap (λ c. times c (taken_from (n + 1) cells)) next ∙ times-taken (n + 1) k cells
 
   -- what the taken cells add up to, of cells that stand in a longer list from n on
-  total-taken : (f : Option Resident → ℕ) → f None ≡ 0 → (whole : List (Option Resident)) (n : ℕ) (cells : List (Option Resident)) → ((k : ℕ) → held_at whole (n + k) ≡ held_at cells k) → total (λ c. f (held_at whole c)) (taken_from n cells) ≡ total f cells
+  total-taken : (f : Option Resident → ℕ) → f None ≡ 0 → (whole : List (Option Resident)) (n : ℕ) (cells : List (Option Resident)) →
+      ((k : ℕ) → held_at whole (n + k) ≡ held_at cells k) → total (λ c. f (held_at whole c)) (taken_from n cells) ≡ total f cells
   unfolding taken_from
   total-taken f none whole n [] at = refl
   total-taken f none whole n (Some o ∷ cells) at =

@@ -43,11 +43,13 @@ pub alloc_full : (t : Table) (id : ℕ) (kind : List ℕ) (slots : ℕ) → t.gr
 unfolding alloc_refusal
 alloc_full t id kind slots above h = grind (arith, nat_tests)
 
-pub alloc_slots : (t : Table) (id : ℕ) (kind : List ℕ) (slots : ℕ) → t.greatest < id → length t.objects < MOST_OBJECTS → MOST_SLOTS < slot_count t + slots → alloc_refusal t id kind slots ≡ Some TooManySlots
+pub alloc_slots : (t : Table) (id : ℕ) (kind : List ℕ) (slots : ℕ) → t.greatest < id → length t.objects < MOST_OBJECTS →
+    MOST_SLOTS < slot_count t + slots → alloc_refusal t id kind slots ≡ Some TooManySlots
 unfolding alloc_refusal
 alloc_slots t id kind slots above room h = grind (arith, nat_tests)
 
-pub alloc_kind : (t : Table) (id : ℕ) (kind : List ℕ) (slots : ℕ) → t.greatest < id → length t.objects < MOST_OBJECTS → slot_count t + slots ≤ MOST_SLOTS → alloc_refusal t id kind slots ≡ kind_refusal t kind
+pub alloc_kind : (t : Table) (id : ℕ) (kind : List ℕ) (slots : ℕ) → t.greatest < id → length t.objects < MOST_OBJECTS →
+    slot_count t + slots ≤ MOST_SLOTS → alloc_refusal t id kind slots ≡ kind_refusal t kind
 unfolding alloc_refusal
 alloc_kind t id kind slots above room h = grind (arith, nat_tests)
 

@@ -31,7 +31,9 @@ high Equal h = absurd (omega arith)
 high Greater h = refl
 
 -- A name that is above the root before a place and below the root at it goes there.
-gap_between : (roots : Roots) (name : List ℕ) (i : ℕ) → RisesByName roots → i ≤ length roots → ((j : ℕ) (d : List ℕ × ℕ) → j + 1 ≡ i → name_cmp (get_or roots j d).0 name ≡ Less) → ((d : List ℕ × ℕ) → i < length roots → name_cmp (get_or roots i d).0 name ≡ Greater) → IsGapFor name roots i
+gap_between : (roots : Roots) (name : List ℕ) (i : ℕ) → RisesByName roots → i ≤ length roots →
+    ((j : ℕ) (d : List ℕ × ℕ) → j + 1 ≡ i → name_cmp (get_or roots j d).0 name ≡ Less) →
+    ((d : List ℕ × ℕ) → i < length roots → name_cmp (get_or roots i d).0 name ≡ Greater) → IsGapFor name roots i
 gap_between roots name i rises within below above =
     let rise = names_rise roots rises name in
     let before : (k : ℕ) (d : List ℕ × ℕ) → 0 ≤ k → k < i → name_cmp name (get_or roots k d).0 ≡ Greater = λ k d l h.
@@ -63,7 +65,8 @@ greater Equal h = cc
 greater Greater h = refl
 
 -- a run that begins above the name begins with a higher one
-first_above : (runs : Runs) (name : List ℕ) (k : ℕ) (r : Run (List ℕ × ℕ)) (d : List ℕ × ℕ) → IsParted runs k r → begins_above name r.roots ≡ true → name_cmp (get_or (all_roots runs) r.start d).0 name ≡ Greater
+first_above : (runs : Runs) (name : List ℕ) (k : ℕ) (r : Run (List ℕ × ℕ)) (d : List ℕ × ℕ) → IsParted runs k r →
+    begins_above name r.roots ≡ true → name_cmp (get_or (all_roots runs) r.start d).0 name ≡ Greater
 first_above runs name k r d p above = greater (name_cmp (get_or (all_roots runs) r.start d).0 name) (sym (first_in runs name k r d p) ∙ above)
 
 no_greater : (o u : Ordering) → ordering_index o ≤ ordering_index u → not (is_gt u) ≡ true → not (is_gt o) ≡ true
@@ -92,7 +95,10 @@ runs_parted runs name laid rises i j q l h passes =
     let starts : (get_or runs i q).start ≤ (get_or runs j q).start = starts_rise runs laid i j q l h in
     let within : (get_or runs j q).start < length (all_roots runs) = omega (arith, second.some, second.start, length_is runs j (get_or runs j q) second) in
     let rise = names_rise (all_roots runs) rises name (get_or runs i q).start (get_or runs j q).start d starts within in
-    ap not (first_in runs name i (get_or runs i q) d first) ∙ no_greater (name_cmp (get_or (all_roots runs) (get_or runs i q).start d).0 name) (name_cmp (get_or (all_roots runs) (get_or runs j q).start d).0 name) rise (ap not (sym (first_in runs name j (get_or runs j q) d second)) ∙ passes)
+    ap not (first_in runs name i (get_or runs i q) d first)
+    ∙ no_greater (name_cmp (get_or (all_roots runs) (get_or runs i q).start d).0 name)
+    (name_cmp (get_or (all_roots runs) (get_or runs j q).start d).0 name) rise
+    (ap not (sym (first_in runs name j (get_or runs j q) d second)) ∙ passes)
 
 -- ---- what the search for the run answers
 
@@ -105,7 +111,8 @@ from_not true h = refl
 from_not false h = cc
 
 -- the first name of a later run is above the name
-later_above : (runs : Runs) (name : List ℕ) (i k : ℕ) (q : Run (List ℕ × ℕ)) (d : List ℕ × ℕ) → IsLaid 0 runs → PartsRuns runs name i → i ≤ k → k < length runs → name_cmp (get_or (all_roots runs) (get_or runs k q).start d).0 name ≡ Greater
+later_above : (runs : Runs) (name : List ℕ) (i k : ℕ) (q : Run (List ℕ × ℕ)) (d : List ℕ × ℕ) → IsLaid 0 runs → PartsRuns runs name i → i ≤ k →
+    k < length runs → name_cmp (get_or (all_roots runs) (get_or runs k q).start d).0 name ≡ Greater
 later_above runs name i k q d laid parts l h = first_above runs name k (get_or runs k q) d (parted_at runs k q laid h) (from_not (begins_above name (get_or runs k q).roots) (parts.1 k q l h))
 
 abbrev no_run : Run (List ℕ × ℕ)
@@ -124,7 +131,8 @@ last_parted runs m r laid h some is = parted runs (m - 1) r laid (omega arith) i
 
 -- a part of roots that rise
 pub rises_in : (runs : Runs) (k : ℕ) (r : Run (List ℕ × ℕ)) → IsParted runs k r → RisesByName (all_roots runs) → RisesByName r.roots
-rises_in runs k r p rises i j d l h = rw (← entry_in runs k i r d p (omega arith), ← entry_in runs k j r d p h) (rises (r.start + i) (r.start + j) d (omega arith) (omega (arith, p.start, length_is runs k r p)))
+rises_in runs k r p rises i j d l h =
+    rw (← entry_in runs k i r d p (omega arith), ← entry_in runs k j r d p h) (rises (r.start + i) (r.start + j) d (omega arith) (omega (arith, p.start, length_is runs k r p)))
 
 pub in_list : (runs : Runs) (k i : ℕ) (r : Run (List ℕ × ℕ)) → IsParted runs k r → i ≤ length r.roots → r.start + i ≤ length (all_roots runs)
 in_list runs k i r p h = omega (arith, p.start, length_is runs k r p)
@@ -145,7 +153,9 @@ after_first runs name k zero r p passes gap =
 after_first runs name k (suc i) r p passes gap = omega arith
 
 -- The gap in the last run that doesn't begin above the name is the gap in the list.
-pub gap_in : (runs : Runs) (name : List ℕ) (m k i : ℕ) (r : Run (List ℕ × ℕ)) → IsLaid 0 runs → RisesByName (all_roots runs) → IsParted runs k r → PartsRuns runs name m → k + 1 ≡ m → i ≤ length r.roots → IsGapFor name r.roots i → IsGapFor name (all_roots runs) (r.start + i)
+pub gap_in : (runs : Runs) (name : List ℕ) (m k i : ℕ) (r : Run (List ℕ × ℕ)) → IsLaid 0 runs → RisesByName (all_roots runs) →
+    IsParted runs k r → PartsRuns runs name m → k + 1 ≡ m → i ≤ length r.roots → IsGapFor name r.roots i →
+    IsGapFor name (all_roots runs) (r.start + i)
 gap_in runs name m k i r laid rises p parts last h gap =
     let passes : not (begins_above name r.roots) ≡ true = ap (λ q. not (begins_above name q.roots)) p.is ∙ parts.0 k r (omega arith) (omega arith) in
     let some : 0 < i = after_first runs name k i r p passes gap in

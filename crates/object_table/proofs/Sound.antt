@@ -1,5 +1,6 @@
 -- What holds of every table holds after each operation that is not refused, and after objects are freed.
-use Rattle.std.proofs.Common.{◌≡◌, ℕ, ◌<◌, ◌≤◌, List, [], ◌∷◌, ◌++◌, length, map, filter, Bool, true, false, not, ◌==◌, cond, get_or, slice_set, IsTrue, Option, None, Some, IfOk, refl, sym, ◌∙◌, ap, subst, arith}
+use Rattle.std.proofs.Common.{◌≡◌, ℕ, ◌<◌, ◌≤◌, List, [], ◌∷◌, ◌++◌, length, map, filter, Bool, true, false, not, ◌==◌, cond, get_or, slice_set}
+use Rattle.std.proofs.Common.{IsTrue, Option, None, Some, IfOk, refl, sym, ◌∙◌, ap, subst, arith}
 use Rattle.std.specs.List.{All, AllPairs, AllByRecursion, list_any, sum_by, IsDistinct}
 use Rattle.std.specs.List.Sorted.{IsStrictlySortedBy}
 use Rattle.std.specs.Map.{keys_of}
@@ -23,7 +24,8 @@ use Rattle.graph_meaning.specs.Heap.{Slot, Object, Table, Heap, empty_slot, empt
 use Rattle.graph_meaning.specs.Reach.{has_id}
 use Rattle.graph_meaning.specs.Assertions.{root_ids}
 use Rattle.graph_meaning.specs.Collecting.{slot_without, object_without, with_only, cut_off}
-use Rattle.graph_meaning.specs.Step.{slot_made_weak, alloc_refusal, slot_refusal, store_refusal, root_refusal, kind_refusal, with_object, with_kind, with_slot, with_changed_slot, slot_holding, with_root, heap_unless, step}
+use Rattle.graph_meaning.specs.Step.{slot_made_weak, alloc_refusal, slot_refusal, store_refusal, root_refusal, kind_refusal, with_object, with_kind}
+use Rattle.graph_meaning.specs.Step.{with_slot, with_changed_slot, slot_holding, with_root, heap_unless, step}
 use Rattle.graph_meaning.specs.Laws.{AllLive, HoldsLive, RefersToLive, IdsRise, IsOrdered, IsWithinLimits}
 use Rattle.graph_meaning.proofs.Membership.{length-filter_le, map-filter}
 use Rattle.graph_meaning.proofs.HeapLemmas.{is_live-with_only, is_live-cut_off}
@@ -48,7 +50,8 @@ refers t sound = record {
 }
 
 limited : (t : Table) → IsSound t → IsOrdered (heap_with t) × IsWithinLimits t
-limited t sound = (record { roots = sound.names; dead = limits_are_kept.0.0.dead; unshared = limits_are_kept.0.0.unshared; limits = limits_are_kept.0.0.limits; owners = limits_are_kept.0.0.owners }, sound.limits)
+limited t sound =
+    (record { roots = sound.names; dead = limits_are_kept.0.0.dead; unshared = limits_are_kept.0.0.unshared; limits = limits_are_kept.0.0.limits; owners = limits_are_kept.0.0.owners }, sound.limits)
 
 -- what holds after an operation holds of the heap that it leaves where it is not refused
 allowed : (P : Heap → Type 0) (refusal : Option Refusal) (h : Heap) → refusal ≡ None → IfOk (heap_unless refusal h) P → P h
@@ -117,7 +120,10 @@ sound_with_object t id kind slots sound none =
     record {
       ids = allowed (λ h. IdsRise h.table) _ _ none (ids_always_rise.1 (heap_with t) event sound.ids);
       kinds = distinct_with_kind t.kinds kind sound.kinds;
-      seen = All-push (λ o. IsTrue (is_seen (with_kind t.kinds kind) o.kind)) t.objects _ (All-weaker (λ o. IsTrue (is_seen t.kinds o.kind)) (λ o. IsTrue (is_seen (with_kind t.kinds kind) o.kind)) (λ o. seen_with_kind t.kinds kind o.kind) t.objects sound.seen) (seen_itself t.kinds kind);
+      seen =
+          All-push (λ o. IsTrue (is_seen (with_kind t.kinds kind) o.kind)) t.objects _
+          (All-weaker (λ o. IsTrue (is_seen t.kinds o.kind)) (λ o. IsTrue (is_seen (with_kind t.kinds kind) o.kind))
+          (λ o. seen_with_kind t.kinds kind o.kind) t.objects sound.seen) (seen_itself t.kinds kind);
       names = sound.names;
       roots = live.roots;
       slots = live.slots;
@@ -133,12 +139,17 @@ kind-with_slot at slot change o = go (o.id == at)
     go false = refl
 
 -- a change to a slot that keeps what it holds live
-sound_with_change : (t : Table) (at slot : ℕ) (change : Slot → Slot) → IsSound t → IdsRise (with_changed_slot t at slot change) → RefersToLive (heap_with (with_changed_slot t at slot change)) → IsWithinLimits (with_changed_slot t at slot change) → IsSound (with_changed_slot t at slot change)
+sound_with_change : (t : Table) (at slot : ℕ) (change : Slot → Slot) → IsSound t → IdsRise (with_changed_slot t at slot change) →
+    RefersToLive (heap_with (with_changed_slot t at slot change)) → IsWithinLimits (with_changed_slot t at slot change) →
+    IsSound (with_changed_slot t at slot change)
 unfolding with_changed_slot
 sound_with_change t at slot change sound rise live kept = record {
   ids = rise;
   kinds = sound.kinds;
-  seen = All-map (λ o. IsTrue (is_seen t.kinds o.kind)) (with_slot at slot change) t.objects (All-weaker (λ o. IsTrue (is_seen t.kinds o.kind)) (λ o. IsTrue (is_seen t.kinds (with_slot at slot change o).kind)) (λ o seen. subst (λ kind. IsTrue (is_seen t.kinds kind)) (sym (kind-with_slot at slot change o)) seen) t.objects sound.seen);
+  seen =
+      All-map (λ o. IsTrue (is_seen t.kinds o.kind)) (with_slot at slot change) t.objects
+      (All-weaker (λ o. IsTrue (is_seen t.kinds o.kind)) (λ o. IsTrue (is_seen t.kinds (with_slot at slot change o).kind))
+      (λ o seen. subst (λ kind. IsTrue (is_seen t.kinds kind)) (sym (kind-with_slot at slot change o)) seen) t.objects sound.seen);
   names = sound.names;
   roots = live.roots;
   slots = live.slots;
@@ -168,7 +179,8 @@ unfolding with_root
 distinct_with_root t name None distinct = distinct
 distinct_with_root t name (Some id) distinct = distinct
 
-seen_with_root : (t : Table) (name : List ℕ) (to : Option ℕ) → All (λ o. IsTrue (is_seen t.kinds o.kind)) t.objects → All (λ o. IsTrue (is_seen (with_root t name to).kinds o.kind)) (with_root t name to).objects
+seen_with_root : (t : Table) (name : List ℕ) (to : Option ℕ) → All (λ o. IsTrue (is_seen t.kinds o.kind)) t.objects →
+    All (λ o. IsTrue (is_seen (with_root t name to).kinds o.kind)) (with_root t name to).objects
 unfolding with_root
 seen_with_root t name None seen = seen
 seen_with_root t name (Some id) seen = seen
@@ -210,7 +222,8 @@ sound_with_kind t kind sound none =
 kept_slot : (t : Table) (kept : List ℕ) (s : Slot) → HoldsLive t s → HoldsLive (with_only kept t) (slot_without (λ id. not (has_id kept id)) s)
 kept_slot t kept s held = go s.held held
   where
-    by : (id : ℕ) (b : Bool) → has_id kept id ≡ b → IsTrue (is_live t id) → IfSome (cond (not b) (record s { held = None }) (record s { held = Some id })).held (λ x. IsTrue (is_live (with_only kept t) x))
+    by : (id : ℕ) (b : Bool) → has_id kept id ≡ b → IsTrue (is_live t id) →
+        IfSome (cond (not b) (record s { held = None }) (record s { held = Some id })).held (λ x. IsTrue (is_live (with_only kept t) x))
     by id true at live = is_live-with_only kept t id ∙ rw (at, live) refl
     by id false out live = tt
 
@@ -223,7 +236,8 @@ fewer_slots : (gone : ℕ → Bool) (p : Object → Bool) (objects : List Object
 fewer_slots gone p [] = omega arith
 fewer_slots gone p (o ∷ objects) = go (p o) (fewer_slots gone p objects)
   where
-    go : (b : Bool) → sum_by (λ u. length u.slots) (map (object_without gone) (filter p objects)) ≤ sum_by (λ u. length u.slots) objects → sum_by (λ u. length u.slots) (map (object_without gone) (cond b (o ∷ filter p objects) (filter p objects))) ≤ sum_by (λ u. length u.slots) (o ∷ objects)
+    go : (b : Bool) → sum_by (λ u. length u.slots) (map (object_without gone) (filter p objects)) ≤ sum_by (λ u. length u.slots) objects →
+        sum_by (λ u. length u.slots) (map (object_without gone) (cond b (o ∷ filter p objects) (filter p objects))) ≤ sum_by (λ u. length u.slots) (o ∷ objects)
     go true rest =
         let before = sum_by-cons (λ (u : Object). length u.slots) o objects in
         let after = sum_by-cons (λ (u : Object). length u.slots) (object_without gone o) (map (object_without gone) (filter p objects)) in
@@ -249,7 +263,12 @@ sound_with_only t kept sound leads =
       seen = All-map (λ o. IsTrue (is_seen t.kinds o.kind)) (object_without gone) (filter p t.objects) (All-filter p (λ o. IsTrue (is_seen t.kinds o.kind)) t.objects sound.seen);
       names = sound.names;
       roots = λ k d h. is_live-with_only kept t _ ∙ rw (root_kept k d h, sound.roots k d h) refl;
-      slots = All-map (λ o. All (HoldsLive (with_only kept t)) o.slots) (object_without gone) (filter p t.objects) (All-filter p (λ o. All (HoldsLive (with_only kept t)) (object_without gone o).slots) t.objects (λ k d h. All-map (HoldsLive (with_only kept t)) (slot_without gone) (get_or t.objects k d).slots (All-weaker (HoldsLive t) (λ s. HoldsLive (with_only kept t) (slot_without gone s)) (kept_slot t kept) (get_or t.objects k d).slots (sound.slots k d h))));
+      slots =
+          All-map (λ o. All (HoldsLive (with_only kept t)) o.slots) (object_without gone) (filter p t.objects)
+          (All-filter p (λ o. All (HoldsLive (with_only kept t)) (object_without gone o).slots) t.objects
+          (λ k d h. All-map (HoldsLive (with_only kept t)) (slot_without gone) (get_or t.objects k d).slots
+          (All-weaker (HoldsLive t) (λ s. HoldsLive (with_only kept t) (slot_without gone s)) (kept_slot t kept) (get_or t.objects k d).slots
+          (sound.slots k d h))));
       limits = record { objects = omega arith; slots = omega arith; roots = limits.roots; kinds = limits.kinds };
     }
   where
@@ -262,12 +281,14 @@ sound_with_only t kept sound leads =
 names_left : (stays : ℕ → Bool) (roots : List (List ℕ × ℕ)) → List (List ℕ)
 names_left stays roots = keys_of (filter (λ r. stays r.1) roots)
 
-below_left : (stays : ℕ → Bool) (name : List ℕ) (roots : List (List ℕ × ℕ)) → AllByRecursion (λ y. name_cmp name y ≡ Less) (keys_of roots) → AllByRecursion (λ y. name_cmp name y ≡ Less) (names_left stays roots)
+below_left : (stays : ℕ → Bool) (name : List ℕ) (roots : List (List ℕ × ℕ)) → AllByRecursion (λ y. name_cmp name y ≡ Less) (keys_of roots) →
+    AllByRecursion (λ y. name_cmp name y ≡ Less) (names_left stays roots)
 unfolding names_left
 below_left stays name [] below = tt
 below_left stays name (r ∷ roots) below = go (stays r.1) (below_left stays name roots below.1)
   where
-    go : (b : Bool) → AllByRecursion (λ y. name_cmp name y ≡ Less) (names_left stays roots) → AllByRecursion (λ y. name_cmp name y ≡ Less) (keys_of (cond b (r ∷ filter (λ q. stays q.1) roots) (filter (λ q. stays q.1) roots)))
+    go : (b : Bool) → AllByRecursion (λ y. name_cmp name y ≡ Less) (names_left stays roots) →
+        AllByRecursion (λ y. name_cmp name y ≡ Less) (keys_of (cond b (r ∷ filter (λ q. stays q.1) roots) (filter (λ q. stays q.1) roots)))
     go true rest = (below.0, rest)
     go false rest = rest
 
@@ -320,7 +341,15 @@ sound_cut_off t gone sound =
       kinds = sound.kinds;
       seen = All-map (λ o. IsTrue (is_seen t.kinds o.kind)) (object_without gone) t.objects sound.seen;
       names = sorted_left stays t.roots sound.names;
-      roots = subst (All (λ id. IsTrue (is_live (cut_off gone t) id))) (sym (map-filter stays (λ r. r.1) t.roots)) (All-filter stays (λ id. IsTrue (is_live (cut_off gone t) id)) (root_ids t) (All-weaker (λ id. IsTrue (is_live t id)) (λ id. IsTrue (is_live (cut_off gone t) id)) (λ id live. is_live-cut_off gone t id ∙ live) (root_ids t) sound.roots));
-      slots = All-map (λ o. All (HoldsLive (cut_off gone t)) o.slots) (object_without gone) t.objects (λ k d h. All-map (HoldsLive (cut_off gone t)) (slot_without gone) (get_or t.objects k d).slots (All-weaker (HoldsLive t) (λ s. HoldsLive (cut_off gone t) (slot_without gone s)) (cleared_slot t gone) (get_or t.objects k d).slots (sound.slots k d h)));
+      roots =
+          subst (All (λ id. IsTrue (is_live (cut_off gone t) id))) (sym (map-filter stays (λ r. r.1) t.roots))
+          (All-filter stays (λ id. IsTrue (is_live (cut_off gone t) id)) (root_ids t)
+          (All-weaker (λ id. IsTrue (is_live t id)) (λ id. IsTrue (is_live (cut_off gone t) id)) (λ id live. is_live-cut_off gone t id ∙ live)
+          (root_ids t) sound.roots));
+      slots =
+          All-map (λ o. All (HoldsLive (cut_off gone t)) o.slots) (object_without gone) t.objects
+          (λ k d h. All-map (HoldsLive (cut_off gone t)) (slot_without gone) (get_or t.objects k d).slots
+          (All-weaker (HoldsLive t) (λ s. HoldsLive (cut_off gone t) (slot_without gone s)) (cleared_slot t gone) (get_or t.objects k d).slots
+          (sound.slots k d h)));
       limits = record { objects = omega arith; slots = omega (arith, slot_count-cut_off gone t); roots = omega arith; kinds = limits.kinds };
     }

@@ -1,5 +1,6 @@
 -- Strong slots of kept objects hold kept ones, so a sweep empties weak slots alone.
-use Rattle.std.proofs.Common.{◌≡◌, ℕ, ◌+◌, ◌<◌, List, [], ◌∷◌, length, map, get_or, take, drop, Bool, true, false, cond, IsTrue, Option, None, Some, refl, sym, ap, subst, ◌∙◌, arith, eq-eqb, ◌-◌, ◌≤◌, ◌⊎◌, inl, inr, slice_get}
+use Rattle.std.proofs.Common.{◌≡◌, ℕ, ◌+◌, ◌<◌, List, [], ◌∷◌, length, map, get_or, take, drop, Bool, true, false, cond, IsTrue, Option, None, Some}
+use Rattle.std.proofs.Common.{refl, sym, ap, subst, ◌∙◌, arith, eq-eqb, ◌-◌, ◌≤◌, ◌⊎◌, inl, inr, slice_get}
 use Rattle.std.specs.List.{All, filter_map, cons_option, enumerate_from}
 use Rattle.std.specs.Option.{IfSome, option_and_then, option_map, option_map_or}
 use Rattle.std.proofs.lemmas.Bool.{or_left, or_right, cases_lt}
@@ -67,7 +68,8 @@ edges_lead n (s ∷ slots) =
     later None (Some y) held = held
     later (Some z) (Some y) held = or_right _ _ held
 
-module _ (p : Parts) (laid : IsLaidOut p) (kept : List Bool) (leads : LeadsToKept (placed_of p).table (kept_ids (placed_of p).cells kept)) (cell : ℕ) (o : Resident) (held : held_at p.cells cell ≡ Some o) (flagged : is_flagged kept cell ≡ true) where
+module _ (p : Parts) (laid : IsLaidOut p) (kept : List Bool) (leads : LeadsToKept (placed_of p).table (kept_ids (placed_of p).cells kept))
+    (cell : ℕ) (o : Resident) (held : held_at p.cells cell ≡ Some o) (flagged : is_flagged kept cell ≡ true) where
   its_id : id_held p.cells cell ≡ Some o.id
   its_id = ap (option_map (λ (q : Resident). q.id)) held
 
@@ -80,9 +82,12 @@ module _ (p : Parts) (laid : IsLaidOut p) (kept : List Bool) (leads : LeadsToKep
   target_kept k d here c y at edge =
       let slots : List Slot = map (slot_of p.cells) o.slots in
       let same : get_or slots k (slot_of p.cells d) ≡ slot_of p.cells (get_or o.slots k d) = get_or-map (slot_of p.cells) o.slots k d (slot_of p.cells d) here in
-      let lead : LeadsInto (filter_map numbered_edge (enumerate_from 0 slots)) (get_or slots k (slot_of p.cells d)) = edges_lead 0 slots k (slot_of p.cells d) (omega (arith, here, length-map o.slots (slot_of p.cells))) in
-      let target : IsTrue (has_id (map (λ e. e.1) (filter_map numbered_edge (enumerate_from 0 slots))) y) = subst (λ q. IfSome q (λ z. IsTrue (has_id (map (λ e. e.1) (filter_map numbered_edge (enumerate_from 0 slots))) z))) (ap edge_of same ∙ edge) lead in
-      let among : IsTrue (has_id (targets (placed_of p).table o.id) y) = subst (λ q. IsTrue (has_id (map (λ e. e.1) (option_map_or (λ (u : Object). filter_map numbered_edge (enumerate_from 0 u.slots)) q [])) y)) (sym object_is) target in
+      let lead : LeadsInto (filter_map numbered_edge (enumerate_from 0 slots)) (get_or slots k (slot_of p.cells d)) =
+      edges_lead 0 slots k (slot_of p.cells d) (omega (arith, here, length-map o.slots (slot_of p.cells))) in
+      let target : IsTrue (has_id (map (λ e. e.1) (filter_map numbered_edge (enumerate_from 0 slots))) y) =
+      subst (λ q. IfSome q (λ z. IsTrue (has_id (map (λ e. e.1) (filter_map numbered_edge (enumerate_from 0 slots))) z))) (ap edge_of same ∙ edge) lead in
+      let among : IsTrue (has_id (targets (placed_of p).table o.id) y) =
+      subst (λ q. IsTrue (has_id (map (λ e. e.1) (option_map_or (λ (u : Object). filter_map numbered_edge (enumerate_from 0 u.slots)) q [])) y)) (sym object_is) target in
       sym (kept_cell p laid kept c y at) ∙ leads.by_edges o.id y (kept_cell p laid kept cell o.id its_id ∙ flagged) among
 
   strong_stays : (k : ℕ) (d : CellSlot) → k < length o.slots → (s : CellSlot) → get_or o.slots k d ≡ s → HoldsTaken p.cells s → s.weak ≡ false → (h : Option ℕ) → s.held ≡ h → slot_after kept s ≡ s
@@ -119,16 +124,24 @@ strong-front kept before after front lead cell flagged = go (cases_lt cell (leng
     go (inr past) = subst (λ q. IfSome q (StrongHoldKept kept)) (sym (get_or_past (map resident_in after) cell None (omega (arith, past, length-map after resident_in)))) tt
 
 -- and in a cell that a sweep did not come to yet
-pub strong-not_swept : (kept : List Bool) (old now : List Cell) (i : ℕ) (first : Option ℕ) → IsSwept kept old now i first → 0 < i → StrongLeadToKept kept (map resident_in old) → IsTrue (is_flagged kept (i - 1)) → IfSome (held_at (map resident_in now) (i - 1)) (StrongHoldKept kept)
+pub strong-not_swept : (kept : List Bool) (old now : List Cell) (i : ℕ) (first : Option ℕ) → IsSwept kept old now i first → 0 < i →
+    StrongLeadToKept kept (map resident_in old) → IsTrue (is_flagged kept (i - 1)) →
+    IfSome (held_at (map resident_in now) (i - 1)) (StrongHoldKept kept)
 strong-not_swept kept old now i first is positive lead flagged =
     let within = is.within in
     let front : length (take i old) ≡ i = length-take-le i old within in
-    let same : get_or now (i - 1) (Empty None) ≡ get_or old (i - 1) (Empty None) = ap (λ cs. get_or cs (i - 1) (Empty None)) is.cells ∙ (get_or-append (take i old) (cells_after kept i (drop i old)) (Empty None) (i - 1) (omega (arith, front, positive)) ∙ get_or-take i old (i - 1) (Empty None) (omega arith)) in
+    let same : get_or now (i - 1) (Empty None) ≡ get_or old (i - 1) (Empty None) =
+    ap (λ cs. get_or cs (i - 1) (Empty None)) is.cells
+    ∙ (get_or-append (take i old) (cells_after kept i (drop i old)) (Empty None) (i - 1) (omega (arith, front, positive)) ∙ get_or-take i old (i - 1) (Empty None) (omega arith)) in
     let here = swept_within kept old now i first is positive in
-    subst (λ q. IfSome q (StrongHoldKept kept)) (held_in-cells old (i - 1) (Empty None) (omega (arith, within, positive)) ∙ (ap resident_in (sym same) ∙ sym (held_in-cells now (i - 1) (Empty None) here))) (lead (i - 1) flagged)
+    subst (λ q. IfSome q (StrongHoldKept kept))
+    (held_in-cells old (i - 1) (Empty None) (omega (arith, within, positive))
+    ∙ (ap resident_in (sym same) ∙ sym (held_in-cells now (i - 1) (Empty None) here))) (lead (i - 1) flagged)
 
 -- what is said of a place of the list, as of what it holds
-pub strong-at : (kept : List Bool) (cells : List Cell) (cell : ℕ) → cell < length cells → IfSome (held_at (map resident_in cells) cell) (StrongHoldKept kept) → IfSome (slice_get cells cell) (λ c. IfSome (resident_in c) (StrongHoldKept kept))
+pub strong-at : (kept : List Bool) (cells : List Cell) (cell : ℕ) → cell < length cells →
+    IfSome (held_at (map resident_in cells) cell) (StrongHoldKept kept) →
+    IfSome (slice_get cells cell) (λ c. IfSome (resident_in c) (StrongHoldKept kept))
 strong-at kept cells cell here strong =
     subst (λ q. IfSome q (λ c. IfSome (resident_in c) (StrongHoldKept kept))) (sym (slice_get-get_or cells cell (Empty None) here))
     (subst (λ q. IfSome q (StrongHoldKept kept)) (held_in-cells cells cell (Empty None) here) strong)

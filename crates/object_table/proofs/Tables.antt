@@ -1,5 +1,7 @@
 -- What the calls on a table say and leave, in terms of its parts.
-use Rattle.std.proofs.Common.{◌≡◌, ℕ, ◌+◌, ◌<◌, ◌≤◌, List, [], ◌∷◌, length, map, filter, take, set, get_or, slice_get, Bool, true, false, not, cond, IsTrue, Option, Some, None, IfSome, IsSome, is_some, unwrap_or, option_and_then, position, refl, sym, ◌∙◌, ap, subst, ⊎_elim, arith}
+use Rattle.std.proofs.Common.{◌≡◌, ℕ, ◌+◌, ◌<◌, ◌≤◌, List, [], ◌∷◌, length, map, filter, take, set, get_or, slice_get, Bool, true, false, not, cond}
+use Rattle.std.proofs.Common.{IsTrue, Option, Some, None, IfSome, IsSome, is_some, unwrap_or, option_and_then, position, refl, sym, ◌∙◌, ap, subst}
+use Rattle.std.proofs.Common.{⊎_elim, arith}
 use Rattle.std.specs.List.{All, sum_by}
 use Rattle.std.specs.Option.{option_map, option_map_or}
 use Rattle.std.specs.Str.{bytes_eq}
@@ -22,7 +24,9 @@ use Rattle.object_table.proofs.Lookups.{found}
 use Rattle.object_table.proofs.Refusals.{alloc_fits, slot_fits, root_taken}
 use Rattle.object_table.proofs.Sound.{sound_nothing, sound_with_object, sound_with_store, sound_with_weak, sound_with_root, sound_with_kind, sound_with_only}
 use Rattle.object_table.proofs.Parts.{held_with_id, held_taken, stands_found, found_held, object_at-found, live_found, id_in-held, slot_in-held, full_cells}
-use Rattle.object_table.proofs.Changes.{of_some, with_name, objects-with_name, laid-with_name, with_one, added_is, added_laid, with_changed, changed_is, changed_cells, changed_laid, with_kept, kept_is, kept_laid, slot_count-is, slot_count-added, slot_count-changed, next_within}
+use Rattle.object_table.proofs.Changes.{of_some, with_name, objects-with_name, laid-with_name, with_one, added_is, added_laid, with_changed}
+use Rattle.object_table.proofs.Changes.{changed_is, changed_cells, changed_laid, with_kept, kept_is, kept_laid, slot_count-is, slot_count-added}
+use Rattle.object_table.proofs.Changes.{slot_count-changed, next_within}
 
 -- the parts of a table, as it has them
 abbrev pub parts_in : Inside → Parts
@@ -85,7 +89,8 @@ module _ (p : Parts) (is : IsTable p) where
   same_held None = refl
   same_held (Some cell) = id_in-held p is.laid cell
 
-  pub slot_holds : (cell slot : ℕ) (o : Resident) (s : CellSlot) → held_at p.cells cell ≡ Some o → slice_get o.slots slot ≡ Some s → option_and_then (id_in (placed_of p)) s.held ≡ (slot_in (placed_of p) cell slot).held
+  pub slot_holds : (cell slot : ℕ) (o : Resident) (s : CellSlot) → held_at p.cells cell ≡ Some o → slice_get o.slots slot ≡ Some s →
+      option_and_then (id_in (placed_of p)) s.held ≡ (slot_in (placed_of p) cell slot).held
   slot_holds cell slot o s held at = same_held s.held ∙ sym (ap (λ t. t.held) (slot_in-held p is.laid cell slot o s held at))
 
   some_held : (s : CellSlot) → HoldsTaken p.cells s → is_some s.held ≡ is_some (option_and_then (id_held p.cells) s.held)
@@ -102,7 +107,8 @@ module _ (p : Parts) (is : IsTable p) where
   slot_weak cell slot o s held at = sym (ap (λ t. t.weak) (slot_in-held p is.laid cell slot o s held at))
 
   -- a slot that isn't weak is an edge where it holds something, and a weak one is none
-  pub edge_strong : (cell slot : ℕ) (o : Resident) (s : CellSlot) → held_at p.cells cell ≡ Some o → slice_get o.slots slot ≡ Some s → s.weak ≡ false → edge_of (slot_in (placed_of p) cell slot) ≡ (slot_in (placed_of p) cell slot).held
+  pub edge_strong : (cell slot : ℕ) (o : Resident) (s : CellSlot) → held_at p.cells cell ≡ Some o → slice_get o.slots slot ≡ Some s →
+      s.weak ≡ false → edge_of (slot_in (placed_of p) cell slot) ≡ (slot_in (placed_of p) cell slot).held
   edge_strong cell slot o s held at strong = ap (λ b. cond b None (slot_in (placed_of p) cell slot).held) (sym (slot_weak cell slot o s held at) ∙ strong)
 
   pub edge_weak : (cell slot : ℕ) (o : Resident) (s : CellSlot) → held_at p.cells cell ≡ Some o → slice_get o.slots slot ≡ Some s → s.weak ≡ true → edge_of (slot_in (placed_of p) cell slot) ≡ None
@@ -134,15 +140,22 @@ module _ (p : Parts) (is : IsTable p) where
       let (o, held, same) = held_with_id p.cells e.1 e.0 stands in
       let objects : List Object = map (λ x. object_at_cell p.kinds p.cells x.1) p.ids in
       let listed : slice_get (ids (placed_of p).table) number ≡ Some (object_at_cell p.kinds p.cells e.1).id =
-      slice_get-map (λ (q : Object). q.id) objects number ∙ ap (option_map (λ (q : Object). q.id)) (slice_get-map (λ (x : ℕ × ℕ). object_at_cell p.kinds p.cells x.1) p.ids number ∙ ap (option_map (λ (x : ℕ × ℕ). object_at_cell p.kinds p.cells x.1)) here) in
+      slice_get-map (λ (q : Object). q.id) objects number
+      ∙ ap (option_map (λ (q : Object). q.id))
+      (slice_get-map (λ (x : ℕ × ℕ). object_at_cell p.kinds p.cells x.1) p.ids number
+      ∙ ap (option_map (λ (x : ℕ × ℕ). object_at_cell p.kinds p.cells x.1)) here) in
       id_in-held p is.laid cell ∙ ap (id_held p.cells) there ∙ stands ∙ sym (listed ∙ ap Some (ap (λ q. (unwrap_or q nobody).id) held ∙ same))
 
 -- ---- a table after a call
 
 module _ (p : Parts) (is : IsTable p) where
-  pub table_with_name : (name : List ℕ) → kind_refusal (placed_of p).table name ≡ None → IsTable (with_name p is.laid name) × ((placed_of (with_name p is.laid name)).table ≡ record (placed_of p).table { kinds = with_kind p.kinds name })
+  pub table_with_name : (name : List ℕ) → kind_refusal (placed_of p).table name ≡ None →
+      IsTable (with_name p is.laid name) × ((placed_of (with_name p is.laid name)).table ≡ record (placed_of p).table { kinds = with_kind p.kinds name })
   table_with_name name allowed =
-      let same : (placed_of (with_name p is.laid name)).table ≡ record (placed_of p).table { kinds = with_kind p.kinds name } = ap (λ l. record { objects = l; roots = p.roots; greatest = p.greatest; kinds = with_kind p.kinds name }) (objects-with_name p is.laid name) in (
+      let same : (placed_of (with_name p is.laid name)).table ≡ record (placed_of p).table {
+        kinds =
+            with_kind p.kinds name;
+      } = ap (λ l. record { objects = l; roots = p.roots; greatest = p.greatest; kinds = with_kind p.kinds name }) (objects-with_name p is.laid name) in (
         record {
           laid = laid-with_name p is.laid name;
           counted = is.counted ∙ sym (ap slot_count same);
@@ -175,10 +188,15 @@ module _ (p : Parts) (is : IsTable p) where
     pub same : (placed_of (record p { cells = later })).table ≡ with_changed_slot (placed_of p).table at slot change
     pub cells : (placed_of (record p { cells = later })).cells ≡ (placed_of p).cells
 
-  changed_with : (at slot cell : ℕ) (change : Slot → Slot) (o : Resident) (s value : CellSlot) (later : List (Option Resident)) → id_in (placed_of p) cell ≡ Some at → held_at p.cells cell ≡ Some o → slice_get o.slots slot ≡ Some s → change (slot_of p.cells s) ≡ slot_of p.cells value → HoldsTaken p.cells value → IsSound (with_changed_slot (placed_of p).table at slot change) → later ≡ set p.cells cell (Some (record o { slots = set o.slots slot value })) → IsChanged at slot change later
+  changed_with : (at slot cell : ℕ) (change : Slot → Slot) (o : Resident) (s value : CellSlot) (later : List (Option Resident)) →
+      id_in (placed_of p) cell ≡ Some at → held_at p.cells cell ≡ Some o → slice_get o.slots slot ≡ Some s →
+      change (slot_of p.cells s) ≡ slot_of p.cells value → HoldsTaken p.cells value →
+      IsSound (with_changed_slot (placed_of p).table at slot change) →
+      later ≡ set p.cells cell (Some (record o { slots = set o.slots slot value })) → IsChanged at slot change later
   changed_with at slot cell change o s value later in_cell held there changes taken sound put =
       let its_id : o.id ≡ at = same_Some o.id at (sym (ap (option_map (λ (q : Resident). q.id)) held) ∙ sym (id_in-held p is.laid cell) ∙ in_cell) in
-      let same : (placed_of (with_changed p is.laid cell slot o s value held there change changes)).table ≡ with_changed_slot (placed_of p).table at slot change = changed_is p is.laid cell slot o s value held there change changes ∙ ap (λ id. with_changed_slot (placed_of p).table id slot change) its_id in
+      let same : (placed_of (with_changed p is.laid cell slot o s value held there change changes)).table ≡ with_changed_slot (placed_of p).table at slot change =
+      changed_is p is.laid cell slot o s value held there change changes ∙ ap (λ id. with_changed_slot (placed_of p).table id slot change) its_id in
       subst (IsChanged at slot change) (sym put) (record {
         table = record {
           laid = changed_laid p is.laid cell slot o s value held there change changes taken;
@@ -189,7 +207,12 @@ module _ (p : Parts) (is : IsTable p) where
         cells = changed_cells p is.laid cell slot o s value held there change changes;
       })
 
-  pub stored : (at slot cell : ℕ) (to target : Option ℕ) (o : Resident) (s : CellSlot) (later : List (Option Resident)) → id_in (placed_of p) cell ≡ Some at → held_at p.cells cell ≡ Some o → slice_get o.slots slot ≡ Some s → option_and_then (id_in (placed_of p)) target ≡ to → IfSome target (λ c. IsSome (id_in (placed_of p) c)) → store_refusal (placed_of p).table at slot to ≡ None → later ≡ set p.cells cell (Some (record o { slots = set o.slots slot (record { held = target; weak = s.weak }) })) → IsChanged at slot (slot_holding to) later
+  pub stored : (at slot cell : ℕ) (to target : Option ℕ) (o : Resident) (s : CellSlot) (later : List (Option Resident)) →
+      id_in (placed_of p) cell ≡ Some at → held_at p.cells cell ≡ Some o → slice_get o.slots slot ≡ Some s →
+      option_and_then (id_in (placed_of p)) target ≡ to → IfSome target (λ c. IsSome (id_in (placed_of p) c)) →
+      store_refusal (placed_of p).table at slot to ≡ None →
+      later ≡ set p.cells cell (Some (record o { slots = set o.slots slot (record { held = target; weak = s.weak }) })) →
+      IsChanged at slot (slot_holding to) later
   stored at slot cell to target o s later in_cell held there holds taken allowed put =
       changed_with at slot cell (slot_holding to) o s (record { held = target; weak = s.weak }) later in_cell held there
       (ap (λ id. record { held = id; weak = s.weak }) (sym holds ∙ same_held p is target))
@@ -204,7 +227,11 @@ module _ (p : Parts) (is : IsTable p) where
           one None e some = absurd cc
           one (Some u) e some = refl
 
-  pub made_weak : (at slot cell : ℕ) (weak : Bool) (o : Resident) (s : CellSlot) (later : List (Option Resident)) → id_in (placed_of p) cell ≡ Some at → held_at p.cells cell ≡ Some o → slice_get o.slots slot ≡ Some s → slot_refusal (placed_of p).table at slot ≡ None → later ≡ set p.cells cell (Some (record o { slots = set o.slots slot (record { held = s.held; weak = weak }) })) → IsChanged at slot (slot_made_weak weak) later
+  pub made_weak : (at slot cell : ℕ) (weak : Bool) (o : Resident) (s : CellSlot) (later : List (Option Resident)) →
+      id_in (placed_of p) cell ≡ Some at → held_at p.cells cell ≡ Some o → slice_get o.slots slot ≡ Some s →
+      slot_refusal (placed_of p).table at slot ≡ None →
+      later ≡ set p.cells cell (Some (record o { slots = set o.slots slot (record { held = s.held; weak = weak }) })) →
+      IsChanged at slot (slot_made_weak weak) later
   made_weak at slot cell weak o s later in_cell held there allowed put =
       changed_with at slot cell (slot_made_weak weak) o s (record { held = s.held; weak = weak }) later in_cell held there refl
       (slots_taken p is cell slot o s held there)
@@ -227,7 +254,8 @@ module _ (p : Parts) (is : IsTable p) where
       ∙ same in
       omega (arith, low, its_id)
 
-  module _ (name : List ℕ) (id number slots : ℕ) (named : number ≡ unwrap_or (position (bytes_eq name) p.kinds) (length p.kinds)) (allowed : alloc_refusal (placed_of p).table id name slots ≡ None) where
+  module _ (name : List ℕ) (id number slots : ℕ) (named : number ≡ unwrap_or (position (bytes_eq name) p.kinds) (length p.kinds))
+      (allowed : alloc_refusal (placed_of p).table id name slots ≡ None) where
     length-objects : length (placed_of p).table.objects ≡ length p.ids
     length-objects = length-map p.ids (λ e. object_at_cell p.kinds p.cells e.1)
 
@@ -254,7 +282,9 @@ module _ (p : Parts) (is : IsTable p) where
 
   -- ---- cells are emptied
 
-  module _ (kept : List Bool) (later : List (Option Resident)) (long : length later ≤ length p.cells) (after : (cell : ℕ) → held_at later cell ≡ held_after kept p.cells cell) (leads : LeadsToKept (placed_of p).table (kept_ids (placed_of p).cells kept)) where
+  module _ (kept : List Bool) (later : List (Option Resident)) (long : length later ≤ length p.cells)
+      (after : (cell : ℕ) → held_at later cell ≡ held_after kept p.cells cell)
+      (leads : LeadsToKept (placed_of p).table (kept_ids (placed_of p).cells kept)) where
     sound_kept : (slots : ℕ) → IsSound (placed_of (with_kept p is.laid kept later after slots)).table
     sound_kept slots = subst IsSound (sym (kept_is p is.laid kept later after slots)) (sound_with_only (placed_of p).table (kept_ids (placed_of p).cells kept) is.sound leads)
 
@@ -309,10 +339,12 @@ module _ (cells : List (Option Resident)) (ids : List (ℕ × ℕ)) (place cell 
         let d : ℕ × ℕ = (0, 0) in
         omega (arith, so_far, counted, slots_here d, counted_more cells ids place h d)
 
-    pub place_fits : (slots n : ℕ) → slots ≡ sum_by (λ e. slots_at_cell cells e.1) (take place ids) → n ≡ length o.slots → sum_by (λ e. slots_at_cell cells e.1) ids ≤ MOST_SLOTS → slots + n ≤ MOST_SLOTS
+    pub place_fits : (slots n : ℕ) → slots ≡ sum_by (λ e. slots_at_cell cells e.1) (take place ids) → n ≡ length o.slots →
+        sum_by (λ e. slots_at_cell cells e.1) ids ≤ MOST_SLOTS → slots + n ≤ MOST_SLOTS
     place_fits slots n so_far counted few =
         let d : ℕ × ℕ = (0, 0) in
         omega (arith, so_far, counted, few, slots_here d, counted_fits cells ids place h d)
 
-pub counted_all : (cells : List (Option Resident)) (ids : List (ℕ × ℕ)) (place : ℕ) → length ids ≤ place → sum_by (λ e. slots_at_cell cells e.1) (take place ids) ≡ sum_by (λ e. slots_at_cell cells e.1) ids
+pub counted_all : (cells : List (Option Resident)) (ids : List (ℕ × ℕ)) (place : ℕ) → length ids ≤ place →
+    sum_by (λ e. slots_at_cell cells e.1) (take place ids) ≡ sum_by (λ e. slots_at_cell cells e.1) ids
 counted_all cells ids place h = ap (sum_by (λ e. slots_at_cell cells e.1)) (take_all place ids h)

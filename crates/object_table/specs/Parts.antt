@@ -1,5 +1,6 @@
 -- What a table is made of: objects in cells, their ids with their cells, roots and type names.
-use Rattle.std.specs.Prelude.{◌≡◌, ℕ, ◌==◌, ◌<◌, ◌≤◌, List, [], ◌∷◌, length, map, All, Bool, false, not, ◌||◌, ◌&&◌, if◌then◌else◌, IsTrue, Option, None, Some, IfSome, unwrap_or, option_and_then, slice_index_or}
+use Rattle.std.specs.Prelude.{◌≡◌, ℕ, ◌==◌, ◌<◌, ◌≤◌, List, [], ◌∷◌, length, map, All, Bool, false, not, ◌||◌, ◌&&◌, if◌then◌else◌, IsTrue, Option}
+use Rattle.std.specs.Prelude.{None, Some, IfSome, unwrap_or, option_and_then, slice_index_or}
 use Rattle.std.specs.List.{AllPairs}
 use Rattle.std.specs.Option.{option_map}
 use Rattle.heap_base.specs.declared.limits.TheConstants.{MOST_OBJECTS}

@@ -1,5 +1,6 @@
 -- A table with the places of its objects: each cell holds one object or is empty.
-use Rattle.std.specs.Prelude.{◌≡◌, ◌==◌, ℕ, ◌+◌, ◌<◌, ◌≤◌, List, [], ◌∷◌, length, All, Bool, true, false, IsTrue, if◌then◌else◌, Option, None, Some, IfSome, IsSome, option_and_then, position, slice_index_or}
+use Rattle.std.specs.Prelude.{◌≡◌, ◌==◌, ℕ, ◌+◌, ◌<◌, ◌≤◌, List, [], ◌∷◌, length, All, Bool, true, false, IsTrue, if◌then◌else◌, Option, None, Some}
+use Rattle.std.specs.Prelude.{IfSome, IsSome, option_and_then, position, slice_index_or}
 use Rattle.std.specs.Option.{option_map_or}
 use Rattle.std.specs.List.{cons_option, IsDistinct}
 use Rattle.std.specs.List.Sorted.{IsStrictlySortedBy}

@@ -13,6 +13,7 @@ dealt-owners r lists workers same = lists ∙ (λ i. dealt (workers i) (map (λ 
 pub dealt-held : {fs : List (List Task)} {n m : ℕ} {js is : List ScanState} → fs ≡ dealt n (held_firsts is) → n ≡ m → is ≡ js → fs ≡ dealt m (held_firsts js)
 dealt-held lists workers same = lists ∙ (λ i. dealt (workers i) (held_firsts (same i)))
 
-pub few-held : {js is : List ScanState} {most : ℕ} → ((cells : ℕ) → All (λ j. j.cells ≤ cells) is → length (all_held is) ≤ length is * cells) → is ≡ js → All (λ j. j.cells ≤ most) js → length (all_held js) ≤ length js * most
+pub few-held : {js is : List ScanState} {most : ℕ} → ((cells : ℕ) → All (λ j. j.cells ≤ cells) is → length (all_held is) ≤ length is * cells) →
+    is ≡ js → All (λ j. j.cells ≤ most) js → length (all_held js) ≤ length js * most
 few-held {most = most} few same each =
     subst (λ ks. length (all_held ks) ≤ length ks * most) same (few most (subst (λ ks. All (λ j. j.cells ≤ most) ks) (sym same) each))

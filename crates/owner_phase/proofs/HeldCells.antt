@@ -38,7 +38,9 @@ module _ (js : List ScanState) (i : ℕ) (j : ScanState) (cells : List ℕ) (p :
   held-more k all =
       ap (λ n. all_held (take i js) ++ take n cells) all
       ∙ ap (λ xs. all_held (take i js) ++ xs) (take-length cells ∙ p.held)
-      ∙ sym (ap all_held (take_more js i j p.within ∙ ap (λ z. take i js ++ z ∷ []) (sym p.is)) ∙ flat_map-append (λ (z : ScanState). z.held) (take i js) (j ∷ []) ∙ ap (λ xs. all_held (take i js) ++ xs) (append-nil j.held))
+      ∙ sym
+      (ap all_held (take_more js i j p.within ∙ ap (λ z. take i js ++ z ∷ []) (sym p.is))
+      ∙ flat_map-append (λ (z : ScanState). z.held) (take i js) (j ∷ []) ∙ ap (λ xs. all_held (take i js) ++ xs) (append-nil j.held))
 
   pub few-more : (most : ℕ) → All (λ k. k.cells ≤ most) js → length (all_held (take i js)) ≤ i * most → length (all_held (take (i + 1) js)) ≤ (i + 1) * most
   few-more most all few =

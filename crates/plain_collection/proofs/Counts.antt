@@ -1,5 +1,6 @@
 -- References and instances, counted one after another.
-use Rattle.std.proofs.Common.{◌≡◌, ◌≢◌, ℕ, ◌+◌, ◌<◌, ◌≤◌, Bool, ◌||◌, cond, ⊎_elim, List, [], ◌∷◌, ◌++◌, length, filter, get_or, replicate, set, Option, Some, sym, ap, ◌∙◌, arith, append-nil, eqb-true, eq-eqb}
+use Rattle.std.proofs.Common.{◌≡◌, ◌≢◌, ℕ, ◌+◌, ◌<◌, ◌≤◌, Bool, ◌||◌, cond, ⊎_elim, List, [], ◌∷◌, ◌++◌, length, filter, get_or, replicate, set}
+use Rattle.std.proofs.Common.{Option, Some, sym, ap, ◌∙◌, arith, append-nil, eqb-true, eq-eqb}
 use Rattle.std.specs.Prelude.{◌==◌}
 use Rattle.std.specs.List.{flat_map, slice_get}
 use Rattle.std.specs.Str.{bytes_eq}
@@ -27,7 +28,9 @@ same-id : (a b : ℕ) → Some a ≡ Some b → a ≡ b
 same-id a b e = cc
 
 -- a reference more to the object in a cell
-pub counted-more : (p : Placed) (before after : ℕ → List Reference) (counts : List ℕ) (cell id : ℕ) (r : Reference) → IsPlaced p → id_in p cell ≡ Some id → cell < length counts → IsOneMore id r before after → CountsLists p before counts → CountsLists p after (set counts cell (get_or counts cell 0 + 1))
+pub counted-more : (p : Placed) (before after : ℕ → List Reference) (counts : List ℕ) (cell id : ℕ) (r : Reference) → IsPlaced p →
+    id_in p cell ≡ Some id → cell < length counts → IsOneMore id r before after → CountsLists p before counts →
+    CountsLists p after (set counts cell (get_or counts cell 0 + 1))
 counted-more p before after counts cell id r placed held within more are c x at = ⊎_elim same other (cases_eq id x)
   where
     same : id ≡ x → get_or (set counts cell (get_or counts cell 0 + 1)) c 0 ≡ length (after x)
@@ -35,7 +38,8 @@ counted-more p before after counts cell id r placed held within more are c x at 
         let here : c ≡ cell = placed.once c cell x at (held ∙ ap Some e) in
         let list : length (after x) ≡ length (before x) + 1 = ap length (more x ∙ ap (λ b. before x ++ cond b (r ∷ []) []) (eq-eqb id x e)) ∙ length-append (before x) (r ∷ []) in
         let was = are c x at in
-        let now : get_or (set counts cell (get_or counts cell 0 + 1)) c 0 ≡ get_or counts cell 0 + 1 = ap (λ k. get_or (set counts cell (get_or counts cell 0 + 1)) k 0) here ∙ get_or-set_same counts cell (get_or counts cell 0 + 1) 0 within in
+        let now : get_or (set counts cell (get_or counts cell 0 + 1)) c 0 ≡ get_or counts cell 0 + 1 =
+        ap (λ k. get_or (set counts cell (get_or counts cell 0 + 1)) k 0) here ∙ get_or-set_same counts cell (get_or counts cell 0 + 1) 0 within in
         let there : get_or counts c 0 ≡ get_or counts cell 0 = ap (λ k. get_or counts k 0) here in
         omega (arith, list, was, now, there)
 
@@ -85,13 +89,17 @@ scanned-by_cell p r h kept placed stand keeps x id held =
     let says = roles_say_of_heap h p r placed stand in (λ i. (sym (keeps x id held) i) || (sym (says.owners x id held) i))
 
 -- the counts are the numbers of references
-pub counts-references : (p : Placed) (h : Heap) (counts : List ℕ) → h.table ≡ p.table → CountsLists p (λ id. roots_to p.table id ++ flat_map (slots_to p.table id) (filter (λ x. is_traced h x || is_owner h x) (ids p.table))) counts → (cell id : ℕ) → id_in p cell ≡ Some id → get_or counts cell 0 ≡ reference_count h id
+pub counts-references : (p : Placed) (h : Heap) (counts : List ℕ) → h.table ≡ p.table →
+    CountsLists p (λ id. roots_to p.table id ++ flat_map (slots_to p.table id) (filter (λ x. is_traced h x || is_owner h x) (ids p.table))) counts →
+    (cell id : ℕ) → id_in p cell ≡ Some id → get_or counts cell 0 ≡ reference_count h id
 counts-references p h counts same are cell id held = are cell id held ∙ ap length (references-are h p.table id same)
 
 -- ---- instances
 
 -- when all objects were counted, the counts are those of the instances
-pub counts-instances : (p : Placed) (r : RoleTable) (h : Heap) (counts : List ℕ) (places : List (Option ℕ)) (n : ℕ) → h.table ≡ p.table → length p.table.objects ≤ n → AreCounted p r h counts places n → (kind : ℕ) (name : List ℕ) → slice_get p.table.kinds kind ≡ Some name → get_or counts kind 0 ≡ length (instances h name)
+pub counts-instances : (p : Placed) (r : RoleTable) (h : Heap) (counts : List ℕ) (places : List (Option ℕ)) (n : ℕ) → h.table ≡ p.table →
+    length p.table.objects ≤ n → AreCounted p r h counts places n → (kind : ℕ) (name : List ℕ) → slice_get p.table.kinds kind ≡ Some name →
+    get_or counts kind 0 ≡ length (instances h name)
 unfolding instances traced_ids
 counts-instances p r h counts places n same past counted kind name named =
     let within = slice_get_within p.table.kinds kind name named in

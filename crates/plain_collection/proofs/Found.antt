@@ -10,7 +10,9 @@ use Rattle.graph_meaning.specs.Heap.{Heap, ids, is_live}
 use Rattle.graph_meaning.specs.Laws.{AllLive}
 use Rattle.graph_meaning.specs.Reach.{has_id}
 use Rattle.graph_meaning.specs.Assertions.{is_traced, traced_ids, reference_count}
-use Rattle.graph_meaning.specs.Collecting.{Rules, after_sweep, holders_of, ids_to_clear, violating_dead, violating_kinds, violating_unshared, violating_ownees, dead_verdict, instances_verdict, unshared_verdict, ownedby_verdict, all_verdicts, first_with_paths, collection_counted, collection_of}
+use Rattle.graph_meaning.specs.Collecting.{Rules, after_sweep, holders_of, ids_to_clear, violating_dead, violating_kinds, violating_unshared}
+use Rattle.graph_meaning.specs.Collecting.{violating_ownees, dead_verdict, instances_verdict, unshared_verdict, ownedby_verdict, all_verdicts}
+use Rattle.graph_meaning.specs.Collecting.{first_with_paths, collection_counted, collection_of}
 use Rattle.graph_meaning.proofs.Membership.{length-filter_le}
 use Rattle.object_table.specs.Placed.{Placed, IsPlaced, id_in}
 use Rattle.path_cert.proofs.ByIds.{cell_of-held}
@@ -25,7 +27,10 @@ traced-few h =
 
 -- ---- the numbers and verdicts of a collection
 
-pub found-by : (h : Heap) (rules : Rules) (number live traced freed cleared : ℕ) (verdicts : List Verdict) → live ≡ length h.table.objects → traced ≡ length (traced_ids h) → freed ≡ length h.table.objects - length (traced_ids h) → cleared ≡ holders_of (has_id (ids_to_clear rules h)) (after_sweep h).table → verdicts ≡ first_with_paths rules.paths (all_verdicts (reference_count h) h) →
+pub found-by : (h : Heap) (rules : Rules) (number live traced freed cleared : ℕ) (verdicts : List Verdict) → live ≡ length h.table.objects →
+    traced ≡ length (traced_ids h) → freed ≡ length h.table.objects - length (traced_ids h) →
+    cleared ≡ holders_of (has_id (ids_to_clear rules h)) (after_sweep h).table →
+    verdicts ≡ first_with_paths rules.paths (all_verdicts (reference_count h) h) →
     (let c : Collection = record { number = number; live = live; traced = traced; freed = freed; cleared = cleared; verdicts = verdicts } in c) ≡ collection_of rules number h
 unfolding collection_counted
 found-by h rules number live traced freed cleared verdicts live_is traced_is freed_is cleared_is verdicts_are = λ i. record {

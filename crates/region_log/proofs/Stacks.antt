@@ -1,6 +1,8 @@
 -- The regions of a thread, as they are kept: its ids, and how many there were when each region began.
-use Rattle.std.proofs.Common.{◌≡◌, ℕ, ◌+◌, ◌-◌, ◌<◌, ◌≤◌, List, [], ◌∷◌, ◌++◌, length, map, filter, take, drop, reverse, get_or, refl, sym, ap, ◌∙◌, arith, subst, All, Bool, length-append, ◌⊎◌, inl, inr}
-use Rattle.std.proofs.lemmas.List.{length-map, length-reverse, length-take-le, map_push, reverse-append, take_all, take_at, take_more, take-take, take-append-drop, drop_at, get_or-take, get_or_default, get_or_past, drop-append-le, get_or-map, nil_from_length}
+use Rattle.std.proofs.Common.{◌≡◌, ℕ, ◌+◌, ◌-◌, ◌<◌, ◌≤◌, List, [], ◌∷◌, ◌++◌, length, map, filter, take, drop, reverse, get_or, refl, sym, ap, ◌∙◌}
+use Rattle.std.proofs.Common.{arith, subst, All, Bool, length-append, ◌⊎◌, inl, inr}
+use Rattle.std.proofs.lemmas.List.{length-map, length-reverse, length-take-le, map_push, reverse-append, take_all, take_at, take_more, take-take}
+use Rattle.std.proofs.lemmas.List.{take-append-drop, drop_at, get_or-take, get_or_default, get_or_past, drop-append-le, get_or-map, nil_from_length}
 use Rattle.std.proofs.lemmas.List.Elements.{All-head, All-tail, All-push, All-map, All-take, filter-append}
 use Rattle.std.proofs.lemmas.Bool.{cases_lt}
 use Rattle.std.proofs.lemmas.List.Filters.{FiltersInPlace}
@@ -27,7 +29,8 @@ regions-last ids starts some =
 pub regions-innermost : (ids starts : List ℕ) → 0 < length starts → get_or (regions_from ids starts) 0 [] ≡ drop (get_or starts (length starts - 1) 0) ids
 regions-innermost ids starts some = ap (λ (rs : List (List ℕ)). get_or rs 0 []) (regions-last ids starts some)
 
-drops-append : (ids more starts : List ℕ) → All (λ start. start ≤ length ids) starts → map (λ start. drop start (ids ++ more)) starts ≡ map (λ (r : List ℕ). r ++ more) (map (λ start. drop start ids) starts)
+drops-append : (ids more starts : List ℕ) → All (λ start. start ≤ length ids) starts →
+    map (λ start. drop start (ids ++ more)) starts ≡ map (λ (r : List ℕ). r ++ more) (map (λ start. drop start ids) starts)
 drops-append ids more [] within = refl
 drops-append ids more (start ∷ starts) within =
     let here = drop-append-le start ids more (All-head (λ s. s ≤ length ids) start starts within) in
@@ -83,7 +86,9 @@ module _ (ids starts : List ℕ) (are : AreStarts ids starts) (some : 0 < length
   pub regions-split : regions_from ids starts ≡ drop last ids ∷ map (λ (r : List ℕ). r ++ drop last ids) (regions_from (take last ids) outer)
   regions-split =
       regions-last ids starts some
-      ∙ ap (λ (rs : List (List ℕ)). drop last ids ∷ rs) (ap (λ (xs : List ℕ). regions_from xs outer) (sym (take-append-drop last ids)) ∙ regions-append (take last ids) (drop last ids) outer within_cut)
+      ∙ ap (λ (rs : List (List ℕ)). drop last ids ∷ rs)
+      (ap (λ (xs : List ℕ). regions_from xs outer) (sym (take-append-drop last ids))
+      ∙ regions-append (take last ids) (drop last ids) outer within_cut)
 
   pub regions-close : regions_from (take last ids) outer ≡ outer_without (regions_from ids starts)
   regions-close =

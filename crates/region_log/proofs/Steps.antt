@@ -12,6 +12,8 @@ unfolding step
 step-start_region h thread = refl
 
 -- what the innermost region has is asserted dead
-pub step-assert_all_dead : (h : Heap) (thread : ℕ) → step h (AssertAllDead thread) ≡ heap_unless (end_refusal h.regions thread) (record h { regions = without_innermost h.regions thread; dead = fold (insert_key nat_cmp) h.dead (innermost h.regions thread) })
+pub step-assert_all_dead : (h : Heap) (thread : ℕ) →
+    step h (AssertAllDead thread)
+    ≡ heap_unless (end_refusal h.regions thread) (record h { regions = without_innermost h.regions thread; dead = fold (insert_key nat_cmp) h.dead (innermost h.regions thread) })
 unfolding step
 step-assert_all_dead h thread = refl

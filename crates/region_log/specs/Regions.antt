@@ -1,5 +1,6 @@
 -- Open regions: of one thread, and of all threads.
-use Rattle.std.specs.Prelude.{◌≡◌, ◌<◌, ◌≤◌, ◌-◌, ◌==◌, ℕ, List, [], ◌∷◌, ◌++◌, length, map, filter, take, drop, reverse, replicate, All, AllPairs, Bool, false, IsTrue, nat_le, Option, slice_set, slice_index_or}
+use Rattle.std.specs.Prelude.{◌≡◌, ◌<◌, ◌≤◌, ◌-◌, ◌==◌, ℕ, List, [], ◌∷◌, ◌++◌, length, map, filter, take, drop, reverse, replicate, All, AllPairs}
+use Rattle.std.specs.Prelude.{Bool, false, IsTrue, nat_le, Option, slice_set, slice_index_or}
 use Rattle.heap_base.specs.declared.limits.TheConstants.{MOST_THREADS, MOST_REGIONS}
 use Rattle.graph_meaning.specs.declared.refusal.Refusal.{Refusal}
 use Rattle.graph_meaning.specs.declared.refusal.Refusal.TheVariants.{TooDeep, NoRegion}

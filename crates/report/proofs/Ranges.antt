@@ -22,10 +22,12 @@ slice_range_next xs start i x le is =
     let there : start + (i - start) ≡ i = omega arith in
     rw (one_more, take_more (drop start xs) (i - start) x inner, get_or-drop start xs (i - start) x, there, same)
 
-pub flat_map_take_next : {X A : Type 0} (f : X → List A) (before : List A) (xs : List X) (i : ℕ) (x : X) → slice_get xs i ≡ Some x → (before ++ flat_map f (take i xs)) ++ f x ≡ before ++ flat_map f (take (i + 1) xs)
+pub flat_map_take_next : {X A : Type 0} (f : X → List A) (before : List A) (xs : List X) (i : ℕ) (x : X) → slice_get xs i ≡ Some x →
+    (before ++ flat_map f (take i xs)) ++ f x ≡ before ++ flat_map f (take (i + 1) xs)
 flat_map_take_next f before xs i x is = rw (take_next xs i x is) (flat_map_more f before (take i xs) x)
 
-pub flat_map_range_next : {X A : Type 0} (f : X → List A) (before : List A) (xs : List X) (start i : ℕ) (x : X) → start ≤ i → slice_get xs i ≡ Some x → (before ++ flat_map f (slice_range xs start i)) ++ f x ≡ before ++ flat_map f (slice_range xs start (i + 1))
+pub flat_map_range_next : {X A : Type 0} (f : X → List A) (before : List A) (xs : List X) (start i : ℕ) (x : X) → start ≤ i →
+    slice_get xs i ≡ Some x → (before ++ flat_map f (slice_range xs start i)) ++ f x ≡ before ++ flat_map f (slice_range xs start (i + 1))
 flat_map_range_next f before xs start i x le is = rw (slice_range_next xs start i x le is) (flat_map_more f before (slice_range xs start i) x)
 
 -- the first n elements, or all where there are fewer

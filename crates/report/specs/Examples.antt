@@ -49,7 +49,9 @@ CycleIsFreed =
 -- a region within a region; in the end no region is open
 abbrev pub RegionsNest : Type 0
 RegionsNest =
-    Reports plain (StartRegion 0 ∷ alloc 1 (codes "Conn") 0 ∷ StartRegion 0 ∷ alloc 2 (codes "Buf") 0 ∷ root (codes "c") 1 ∷ root (codes "b") 2 ∷ AssertAllDead 0 ∷ Collect ∷ AssertAllDead 0 ∷ Collect ∷ AssertAllDead 0 ∷ [])
+    Reports plain
+    (StartRegion 0 ∷ alloc 1 (codes "Conn") 0 ∷ StartRegion 0 ∷ alloc 2 (codes "Buf") 0 ∷ root (codes "c") 1 ∷ root (codes "b") 2 ∷ AssertAllDead 0 ∷
+    Collect ∷ AssertAllDead 0 ∷ Collect ∷ AssertAllDead 0 ∷ [])
     (codes "gc 1 live 2 traced 2 freed 0\n"
     ++ codes "gc 1 dead 2 Buf: root b -> 2 Buf\n"
     ++ codes "gc 2 live 2 traced 2 freed 0\n"
@@ -85,7 +87,9 @@ FreedIsNotLive =
 -- of two ways of one length the path takes the one through the least object
 abbrev pub LeastPredecessor : Type 0
 LeastPredecessor =
-    Reports plain (alloc 1 (codes "Top") 2 ∷ alloc 2 (codes "Mid") 2 ∷ alloc 3 (codes "Mid") 2 ∷ alloc 4 (codes "End") 0 ∷ root (codes "r") 1 ∷ store 1 0 3 ∷ store 1 1 2 ∷ store 3 0 4 ∷ store 2 1 4 ∷ AssertDead 4 ∷ Collect ∷ [])
+    Reports plain
+    (alloc 1 (codes "Top") 2 ∷ alloc 2 (codes "Mid") 2 ∷ alloc 3 (codes "Mid") 2 ∷ alloc 4 (codes "End") 0 ∷ root (codes "r") 1 ∷ store 1 0 3 ∷ store
+    1 1 2 ∷ store 3 0 4 ∷ store 2 1 4 ∷ AssertDead 4 ∷ Collect ∷ [])
     (codes "gc 1 live 4 traced 4 freed 0\n"
     ++ codes "gc 1 dead 4 End: root r -> 1 Top [1] -> 2 Mid [1] -> 4 End\n"
     ++ codes "end gcs 1 violations 1\n")

@@ -12,7 +12,9 @@ use Rattle.graph_meaning.specs.declared.paths.PathView.{PathView}
 use Rattle.graph_meaning.specs.declared.paths.Shown.{Shown}
 use Rattle.graph_meaning.specs.declared.paths.Shown.TheVariants.{LeftOut, Path}
 use Rattle.graph_meaning.specs.declared.refusal.Refusal.{Refusal}
-use Rattle.graph_meaning.specs.declared.refusal.Refusal.TheVariants.{LineTooLong, TraceTooLong, NotJson, NotObject, UnknownOp, MissingField, BadField, IdNotRising, TooManyObjects, TooManySlots, NotLive, BadSlot, TooManyRoots, TooManyTypes, TooDeep, NoRegion, SelfOwned}
+use Rattle.graph_meaning.specs.declared.refusal.Refusal.TheVariants.{LineTooLong, TraceTooLong, NotJson, NotObject, UnknownOp, MissingField}
+use Rattle.graph_meaning.specs.declared.refusal.Refusal.TheVariants.{BadField, IdNotRising, TooManyObjects, TooManySlots, NotLive, BadSlot}
+use Rattle.graph_meaning.specs.declared.refusal.Refusal.TheVariants.{TooManyRoots, TooManyTypes, TooDeep, NoRegion, SelfOwned}
 use Rattle.trace_reader.specs.Meaning.{field_text}
 
 -- an object: its id and the name of its type

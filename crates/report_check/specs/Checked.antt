@@ -45,5 +45,6 @@ IsChecked paths old new Usage = ⊥
 -- Where no count of faults rose, the check comes to an end, unless memory runs out.
 abbrev pub ChecksEnd : Type 0
 ChecksEnd =
-    (paths : ℕ) (old new : World) (answer : Status) → IsChecked paths old new answer → ¬ Rose old.trace.faults new.trace.faults → ¬ Rose old.report.faults new.report.faults → ¬ Rose old.sink.faults new.sink.faults →
+    (paths : ℕ) (old new : World) (answer : Status) → IsChecked paths old new answer → ¬ Rose old.trace.faults new.trace.faults →
+    ¬ Rose old.report.faults new.report.faults → ¬ Rose old.sink.faults new.sink.faults →
     (answer ≡ Clean) ⊎ (answer ≡ Violated) ⊎ (answer ≡ NoMemory)

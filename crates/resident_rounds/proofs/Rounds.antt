@@ -43,7 +43,8 @@ module _ {S J G : Type 0} (M : Meaning J S) (s : S) (F : List Task) (N : ℕ) wh
   queue_fit p q list same g =
       all_append (Contains F) q.list.items q.out.tasks (subst (λ (v : Vec Task). AllFit F v.items) (sym g.list) list) (subst (λ (f : List Task). AllFit f q.out.tasks) same g.are_fit)
 
-  step_one : (most most' : ℕ) (j : J) (w : Work) (p q r : JobShare S J G) → HasGone M s F N most j w p → Worked M p q → IsBegun q r → AllFit F r.list.items → most' + q.done ≤ most → HasGone M s F N most' j (later w q) r
+  step_one : (most most' : ℕ) (j : J) (w : Work) (p q r : JobShare S J G) → HasGone M s F N most j w p → Worked M p q → IsBegun q r →
+      AllFit F r.list.items → most' + q.done ≤ most → HasGone M s F N most' j (later w q) r
   step_one most most' j w p q r g k b list less =
       let n = k.goes in
       let same : M.fit p.job (shared_in p) ≡ F = ap (λ (z : S). M.fit p.job z) g.shared ∙ g.same_fit in
@@ -78,7 +79,8 @@ module _ {S J G : Type 0} (M : Meaning J S) (s : S) (F : List Task) (N : ℕ) wh
     pub done_sum : (h : Task → ℕ) → total h (all_done work) ≡ total h (all_done ws) + total (λ (q : JobShare S J G). total h (done_in q)) qs
     pub put_sum : (h : Task → ℕ) → total h (all_put work) ≡ total h (all_put ws) + total (λ (q : JobShare S J G). total h q.out.tasks) qs
 
-  pub steps : (most most' most_done : ℕ) (js : List J) (ws : List Work) (ps qs rs : List (JobShare S J G)) → Each (HasGone M s F N most) js ws ps → AllZip (Worked M) ps qs → Pairs IsBegun qs rs → AllFit F (to_do rs)
+  pub steps : (most most' most_done : ℕ) (js : List J) (ws : List Work) (ps qs rs : List (JobShare S J G)) →
+      Each (HasGone M s F N most) js ws ps → AllZip (Worked M) ps qs → Pairs IsBegun qs rs → AllFit F (to_do rs)
       → most' + most_done ≤ most → total (λ (q : JobShare S J G). q.done) qs ≤ most_done → Next most' js ws ps qs rs
   steps most most' d [] [] [] [] [] e z b f l m = record { work = []; each = (refl, refl); done_sum = λ h. refl; put_sum = λ h. refl }
   steps most most' d [] (w ∷ ws) ps qs rs e z b f l m = absurd (let n = ap length e.0 in omega arith)
@@ -94,8 +96,14 @@ module _ {S J G : Type 0} (M : Meaning J S) (s : S) (F : List Task) (N : ℕ) wh
       record {
         work = later w q ∷ a.work;
         each = (step_one most most' j w p q r e.0 z.0 b.0 (all_front (Contains F) r.list.items (to_do rs) f) (omega arith), a.each);
-        done_sum = λ h. (let x = a.done_sum h in let y = total-append h w.done (done_in q) in let u = total-append h (w.done ++ done_in q) (all_done a.work) in let v = total-append h w.done (all_done ws) in omega arith);
-        put_sum = λ h. (let x = a.put_sum h in let y = total-append h w.put q.out.tasks in let u = total-append h (w.put ++ q.out.tasks) (all_put a.work) in let v = total-append h w.put (all_put ws) in omega arith);
+        done_sum =
+            λ h.
+            (let x = a.done_sum h in let y = total-append h w.done (done_in q) in let u = total-append h (w.done ++ done_in q) (all_done a.work) in
+            let v = total-append h w.done (all_done ws) in omega arith);
+        put_sum =
+            λ h.
+            (let x = a.put_sum h in let y = total-append h w.put q.out.tasks in let u = total-append h (w.put ++ q.out.tasks) (all_put a.work) in
+            let v = total-append h w.put (all_put ws) in omega arith);
       }
 
   -- what is left is fit

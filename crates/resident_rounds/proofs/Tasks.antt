@@ -38,13 +38,15 @@ module _ {S J G : Type 0} (M : Meaning J S) where
 
   -- one task more
   pub goes_more : (p q r : JobShare S J G) (t : Task) → Goes M p q → slice_get (queue q) q.done ≡ Some t → r.done ≡ q.done + 1 → r.list ≡ q.list → r.shared ≡ q.shared → r.out.room ≡ q.out.room
-      → Puts M (shared_in p) (q.job, q.out.tasks) t (r.job, r.out.tasks) → M.ready r.job (shared_in p) → M.fit r.job (shared_in p) ≡ M.fit q.job (shared_in p) → M.turns q.job ≤ M.turns r.job + 1 → Goes M p r
+      → Puts M (shared_in p) (q.job, q.out.tasks) t (r.job, r.out.tasks) → M.ready r.job (shared_in p) →
+      M.fit r.job (shared_in p) ≡ M.fit q.job (shared_in p) → M.turns q.job ≤ M.turns r.job + 1 → Goes M p r
   goes_more p q r t g next done list shared room puts ready fit turns =
       let s : S = shared_in p in
       let put : List Task = puts.put in
       let out : r.out.tasks ≡ q.out.tasks ++ put = puts.tasks in
       let lengths : length r.out.tasks ≡ length q.out.tasks + length put = ap length out ∙ length-append q.out.tasks put in
-      let longer : queue r ≡ queue q ++ put = ap (λ (z : List Task). z ++ r.out.tasks) (ap (λ (z : Vec Task). z.items) list) ∙ (ap (λ (z : List Task). q.list.items ++ z) out ∙ sym (append_assoc q.list.items q.out.tasks put)) in
+      let longer : queue r ≡ queue q ++ put =
+      ap (λ (z : List Task). z ++ r.out.tasks) (ap (λ (z : Vec Task). z.items) list) ∙ (ap (λ (z : List Task). q.list.items ++ z) out ∙ sym (append_assoc q.list.items q.out.tasks put)) in
       let lengths-now = ap length longer ∙ length-append (queue q) put in
       let before = slice_get_within (queue q) q.done t next in
       let more : done_in r ≡ done_in q ++ t ∷ [] = ap (λ (z : ℕ × List Task). take z.0 z.1) (λ i. (done i, longer i)) ∙ take_next q.done (queue q) put t next in

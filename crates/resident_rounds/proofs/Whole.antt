@@ -65,14 +65,21 @@ module _ {S J G : Type 0} (M : Meaning J S) (s : S) where
     pub all_can_work : (ps : List (JobShare S J G)) → Progress M s (fit_tasks M s js) fs js ps → All (CanWork M) ps
     all_can_work ps p = rec_all (CanWork M) ps (can_work M s (fit_tasks M s js) (most_tasks M js fs) (most_left M s ps) js p.work ps p.each (omega arith))
 
-    pub goes_further : (ps qs rs : List (JobShare S J G)) → Progress M s (fit_tasks M s js) fs js ps → AllZip (Worked M) ps qs → Pairs IsBegun qs rs → to_do rs ≡ all_left qs → Progress M s (fit_tasks M s js) fs js rs
+    pub goes_further : (ps qs rs : List (JobShare S J G)) → Progress M s (fit_tasks M s js) fs js ps → AllZip (Worked M) ps qs →
+        Pairs IsBegun qs rs → to_do rs ≡ all_left qs → Progress M s (fit_tasks M s js) fs js rs
     goes_further ps qs rs p z b t =
-        let fit : AllFit (fit_tasks M s js) (to_do rs) = subst (λ (ts : List Task). AllFit (fit_tasks M s js) ts) (sym t) (left_fit M s (fit_tasks M s js) (most_tasks M js fs) (most_left M s ps) js p.work ps qs p.each z) in
-        let a = steps M s (fit_tasks M s js) (most_tasks M js fs) (most_left M s ps) (most_left M s rs) (total (λ (q : JobShare S J G). q.done) qs) js p.work ps qs rs p.each z b fit (less ps qs rs z b t) (omega arith) in
+        let fit : AllFit (fit_tasks M s js) (to_do rs) =
+        subst (λ (ts : List Task). AllFit (fit_tasks M s js) ts) (sym t) (left_fit M s (fit_tasks M s js) (most_tasks M js fs) (most_left M s ps) js p.work ps qs p.each z) in
+        let a =
+        steps M s (fit_tasks M s js) (most_tasks M js fs) (most_left M s ps) (most_left M s rs) (total (λ (q : JobShare S J G). q.done) qs) js
+        p.work ps qs rs p.each z b fit (less ps qs rs z b t) (omega arith) in
         record {
           work = a.work;
           each = a.each;
-          as_often = λ h. (let d = a.done_sum h in let u = a.put_sum h in let o = p.as_often h in let r = round_sum M s (fit_tasks M s js) (most_tasks M js fs) h ps qs z in let e = ap (total h) t in omega arith);
+          as_often =
+              λ h.
+              (let d = a.done_sum h in let u = a.put_sum h in let o = p.as_often h in
+              let r = round_sum M s (fit_tasks M s js) (most_tasks M js fs) h ps qs z in let e = ap (total h) t in omega arith);
         }
 
     -- ---- at the beginning
@@ -85,9 +92,11 @@ module _ {S J G : Type 0} (M : Meaning J S) (s : S) where
       lists : to_do ps ≡ all_first fs'
       most : most_left M s ps ≡ most_tasks M js' fs'
 
-    begun : (F' : List Task) (N' : ℕ) (js' : List J) (fs' : List (List Task)) (ps : List (JobShare S J G)) → Each (IsSeatOf M s) js' fs' ps → AllByRecursion (λ j. M.ready j s) js' → AllByRecursion (λ j. M.fit j s ≡ F') js'
+    begun : (F' : List Task) (N' : ℕ) (js' : List J) (fs' : List (List Task)) (ps : List (JobShare S J G)) → Each (IsSeatOf M s) js' fs' ps →
+        AllByRecursion (λ j. M.ready j s) js' → AllByRecursion (λ j. M.fit j s ≡ F') js'
         → AllByRecursion (AllFit F') fs' → AllByRecursion (λ j. N' ≤ M.turns j) js' → Begun F' N' js' fs' ps
-    begun F' N' [] fs' ps e r f l t = record { work = []; each = (refl, e.1); none_done = refl; none_put = refl; lists = ap to_do e.1 ∙ sym (ap all_first e.0); most = ap (most_left M s) e.1 ∙ sym (ap (most_tasks M []) e.0) }
+    begun F' N' [] fs' ps e r f l t =
+        record { work = []; each = (refl, e.1); none_done = refl; none_put = refl; lists = ap to_do e.1 ∙ sym (ap all_first e.0); most = ap (most_left M s) e.1 ∙ sym (ap (most_tasks M []) e.0) }
     begun F' N' (j ∷ js') [] ps e r f l t = absurd e
     begun F' N' (j ∷ js') (x ∷ fs') [] e r f l t = absurd e
     begun F' N' (j ∷ js') (x ∷ fs') (p ∷ ps) e r f l t =
@@ -124,9 +133,14 @@ module _ {S J G : Type 0} (M : Meaning J S) (s : S) where
           most = omega arith;
         }
 
-    pub begins : (ps : List (JobShare S J G)) → Each (IsSeatOf M s) js fs ps → All (λ j. M.ready j s) js → All (λ j. M.fit j s ≡ (fit_tasks M s js)) js → All (AllFit (fit_tasks M s js)) fs → All (λ j. (most_tasks M js fs) ≤ M.turns j) js → Progress M s (fit_tasks M s js) fs js ps
+    pub begins : (ps : List (JobShare S J G)) → Each (IsSeatOf M s) js fs ps → All (λ j. M.ready j s) js →
+        All (λ j. M.fit j s ≡ (fit_tasks M s js)) js → All (AllFit (fit_tasks M s js)) fs → All (λ j. (most_tasks M js fs) ≤ M.turns j) js →
+        Progress M s (fit_tasks M s js) fs js ps
     begins ps e r f l t =
-        let a = begun (fit_tasks M s js) (most_tasks M js fs) js fs ps e (all_rec (λ j. M.ready j s) js r) (all_rec (λ j. M.fit j s ≡ (fit_tasks M s js)) js f) (all_rec (AllFit (fit_tasks M s js)) fs l) (all_rec (λ j. (most_tasks M js fs) ≤ M.turns j) js t) in
+        let a =
+        begun (fit_tasks M s js) (most_tasks M js fs) js fs ps e (all_rec (λ j. M.ready j s) js r)
+        (all_rec (λ j. M.fit j s ≡ (fit_tasks M s js)) js f) (all_rec (AllFit (fit_tasks M s js)) fs l)
+        (all_rec (λ j. (most_tasks M js fs) ≤ M.turns j) js t) in
         record {
           work = a.work;
           each = subst (λ (n : ℕ). Each (HasGone M s (fit_tasks M s js) (most_tasks M js fs) n) js a.work ps) (sym a.most) a.each;

@@ -36,7 +36,8 @@ few-nodes p r =
     omega arith
 
 -- No type has more traced objects than there are cells.
-pub few-tallied : (p : Placed) (r : RoleTable) → AreRolesOf p.cells (length p.table.kinds) r → (js ms : List ScanState) → All IsNew js → ThreePhases (graph_of p r) js ms → AreWonOnce ms → (kind : ℕ) → all_tallies kind ms ≤ length p.cells
+pub few-tallied : (p : Placed) (r : RoleTable) → AreRolesOf p.cells (length p.table.kinds) r → (js ms : List ScanState) → All IsNew js →
+    ThreePhases (graph_of p r) js ms → AreWonOnce ms → (kind : ℕ) → all_tallies kind ms ≤ length p.cells
 few-tallied p r roles js ms new phases once kind =
     let g = graph_of p r in
     let a = (phases_trace g js ms (is-whole p r roles) new phases once).instances kind in

@@ -1,5 +1,6 @@
 -- The first job's meetings with what the roots name, one after another.
-use Rattle.std.proofs.Common.{◌≡◌, ℕ, ◌+◌, ◌%◌, ◌<◌, ◌≤◌, Bool, true, false, not, ◌&&◌, cond, List, [], ◌∷◌, ◌++◌, length, map, take, get_or, replicate, sym, refl, ap, ◌∙◌, subst, arith, append-nil, length-append, length-take, Option, None, Some}
+use Rattle.std.proofs.Common.{◌≡◌, ℕ, ◌+◌, ◌%◌, ◌<◌, ◌≤◌, Bool, true, false, not, ◌&&◌, cond, List, [], ◌∷◌, ◌++◌, length, map, take, get_or}
+use Rattle.std.proofs.Common.{replicate, sym, refl, ap, ◌∙◌, subst, arith, append-nil, length-append, length-take, Option, None, Some}
 use Rattle.std.specs.Prelude.{IfSome, slice_get}
 use Rattle.std.specs.List.{filter_map, cons_option}
 use Rattle.std.proofs.lemmas.List.{length-map, length-replicate, map-append}
@@ -31,7 +32,8 @@ length-filter_map h (x ∷ xs) = go (h x) (length-filter_map h xs)
     go (Some y) r = omega arith
 
 -- before the first root
-pub meets-no_roots : (s : Shared) (n : ℕ) (j : ScanState) (fs : List (List Task)) → fs ≡ replicate n [] → (r : MeetsRoots s 0 (record { job = j; lists = fs }) (record { job = j; lists = fs })) × (0 ≡ length (root_firsts (graph_in s) r.won))
+pub meets-no_roots : (s : Shared) (n : ℕ) (j : ScanState) (fs : List (List Task)) → fs ≡ replicate n [] →
+    (r : MeetsRoots s 0 (record { job = j; lists = fs }) (record { job = j; lists = fs })) × (0 ≡ length (root_firsts (graph_in s) r.won))
 meets-no_roots s n j fs none = (
   record {
     won = [];
@@ -54,7 +56,8 @@ turns-left s roots old new p few =
     omega arith
 
 -- the tasks that come of one win more
-firsts-more : (g : StoppedGraph) (won : List ℕ) (cell : ℕ) (b put : Bool) → put ≡ (b && not (g.is_owner cell)) → root_firsts g (won ++ won_of b cell) ≡ root_firsts g won ++ cond put (task_at 0 cell ∷ []) []
+firsts-more : (g : StoppedGraph) (won : List ℕ) (cell : ℕ) (b put : Bool) → put ≡ (b && not (g.is_owner cell)) →
+    root_firsts g (won ++ won_of b cell) ≡ root_firsts g won ++ cond put (task_at 0 cell ∷ []) []
 firsts-more g won cell b put is =
     ap (map (task_at 0)) (filter-append (λ x. not (g.is_owner x)) won (won_of b cell))
     ∙ map-append (task_at 0) (no_owners g won) (no_owners g (won_of b cell))
@@ -102,7 +105,8 @@ module _ (s : Shared) (roots cell : ℕ) (goes_on : Bool) (old now : JobAndLists
     -- where the scan doesn't go on from the cell, nothing is dealt
     pub passed-by : goes_on ≡ false → (r : MeetsRoots s (roots + 1) old (record { job = next; lists = now.lists })) × (number ≡ length (root_firsts g r.won))
     passed-by stops =
-        let same : root_firsts g won_more ≡ root_firsts g p.won ++ [] = firsts-more g p.won cell q.meets.won goes_on q.meets.scanned ∙ ap (λ b. root_firsts g p.won ++ cond b (task_at 0 cell ∷ []) []) stops in
+        let same : root_firsts g won_more ≡ root_firsts g p.won ++ [] =
+        firsts-more g p.won cell q.meets.won goes_on q.meets.scanned ∙ ap (λ b. root_firsts g p.won ++ cond b (task_at 0 cell ∷ []) []) stops in
         let l = ap length same in
         let a = length-append (root_firsts g p.won) [] in
         (record { won = won_more; meets = met-more; few = few-more; lists = p.lists ∙ ap (dealt (length old.lists)) (sym (same ∙ append-nil (root_firsts g p.won))) }, omega arith)
@@ -127,7 +131,8 @@ module _ (s : Shared) (roots cell : ℕ) (goes_on : Bool) (old now : JobAndLists
           let b = below in
           dealt-room n room number now.lists (root_firsts g p.won) some count (p.lists ∙ ap (λ m. dealt m (root_firsts g p.won)) (sym workers)) (omega arith)
 
-      pub goes-on : (fs : List (List Task)) → fs ≡ put_last now.lists (number % n) (task_at 0 cell) → (r : MeetsRoots s (roots + 1) old (record { job = next; lists = fs })) × (number + 1 ≡ length (root_firsts g r.won))
+      pub goes-on : (fs : List (List Task)) → fs ≡ put_last now.lists (number % n) (task_at 0 cell) →
+          (r : MeetsRoots s (roots + 1) old (record { job = next; lists = fs })) × (number + 1 ≡ length (root_firsts g r.won))
       goes-on fs is =
           let a = ap length more in
           let b = length-append (root_firsts g p.won) (task_at 0 cell ∷ []) in (
@@ -135,7 +140,9 @@ module _ (s : Shared) (roots cell : ℕ) (goes_on : Bool) (old now : JobAndLists
               won = won_more;
               meets = met-more;
               few = few-more;
-              lists = dealt-snoc n number now.lists fs (root_firsts g p.won) (task_at 0 cell) count (p.lists ∙ ap (λ m. dealt m (root_firsts g p.won)) (sym workers)) is ∙ ap (dealt n) (sym more) ∙ ap (λ m. dealt m (root_firsts g won_more)) workers;
+              lists =
+                  dealt-snoc n number now.lists fs (root_firsts g p.won) (task_at 0 cell) count (p.lists ∙ ap (λ m. dealt m (root_firsts g p.won)) (sym workers)) is
+                  ∙ ap (dealt n) (sym more) ∙ ap (λ m. dealt m (root_firsts g won_more)) workers;
             },
             omega arith,
           )

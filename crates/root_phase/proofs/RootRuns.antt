@@ -26,7 +26,8 @@ all-set : {X : Type 0} (P : X → Type 0) (x : X) (xs : List X) → P x → All 
 all-set P x [] here all = all
 all-set P x (y ∷ xs) here all = all-cons P x xs here (all-tail P y xs all)
 
-first-last : (n m : ℕ) (js ks : List ScanState) (j k : ScanState) → n + 1 ≤ m → j ≡ get_or (map (begun Root) js) 0 j → turns_of j ≤ turns_of k + 1 → TurnsLast shared_meaning n (set (map (begun Root) js) 0 k) ks → TurnsLast shared_meaning m js ks
+first-last : (n m : ℕ) (js ks : List ScanState) (j k : ScanState) → n + 1 ≤ m → j ≡ get_or (map (begun Root) js) 0 j →
+    turns_of j ≤ turns_of k + 1 → TurnsLast shared_meaning n (set (map (begun Root) js) 0 k) ks → TurnsLast shared_meaning m js ks
 first-last n m [] ks j k enough is met last = last
 first-last n m (i ∷ js) [] j k enough is met last = absurd last
 first-last n m (i ∷ js) (l ∷ ks) j k enough is met last =
@@ -89,7 +90,9 @@ module _ (s : Shared) (js : List ScanState) (first : FirstLists) (p : RootStart 
   start = record {
     ready = all-set (λ j. IsReadyFor j s) p.new.job (map (begun Root) js) p.ready (begun-ready s Root js p.can.ready);
     modes = all-set (λ j. j.mode ≡ Root) p.new.job (map (begun Root) js) (met-roots.mode ∙ first-mode) (begun-modes s Root js);
-    turns = all-set (λ j. 2 ^ 25 ≤ turns_of j) p.new.job (map (begun Root) js) (let a = old-turns in let b = turns-met in omega arith) (all-map (begun Root) (λ j. 2 ^ 25 < turns_of j) (λ j. 2 ^ 25 ≤ turns_of j) (λ j l. omega arith) js p.can.turns);
+    turns =
+        all-set (λ j. 2 ^ 25 ≤ turns_of j) p.new.job (map (begun Root) js) (let a = old-turns in let b = turns-met in omega arith)
+        (all-map (begun Root) (λ j. 2 ^ 25 < turns_of j) (λ j. 2 ^ 25 ≤ turns_of j) (λ j l. omega arith) js p.can.turns);
     jobs = many;
     some = p.can.some;
     few_jobs = p.can.few;

@@ -12,7 +12,9 @@ use Rattle.graph_meaning.specs.Heap.{Heap}
 use Rattle.graph_meaning.specs.Step.{step}
 use Rattle.graph_meaning.specs.Collecting.{Rules, collection_of, after_collection}
 use Rattle.trace_reader.specs.Meaning.{Item, blank, event, refused}
-use Rattle.run_meaning.specs.Run.{RunRules, collection_rules, Totals, RunState, Turn, Ran, Ending, violations_of, with_collections, turn_to, turn_by_step, turn, turn_of_item, end_of_trace, refused_line, halted, empty_run, with_earlier, halts, after_turn, by_turn, run, last_status, run_status}
+use Rattle.run_meaning.specs.Run.{RunRules, collection_rules, Totals, RunState, Turn, Ran, Ending, violations_of, with_collections, turn_to}
+use Rattle.run_meaning.specs.Run.{turn_by_step, turn, turn_of_item, end_of_trace, refused_line, halted, empty_run, with_earlier, halts, after_turn}
+use Rattle.run_meaning.specs.Run.{by_turn, run, last_status, run_status}
 
 -- ---- totals
 
@@ -110,7 +112,8 @@ turn-goes_on : (react : React) (t : Turn) (go_on : RunState → Ran) → halts r
 turn-goes_on react t go_on is =
     ap (λ b. with_earlier t.collections (cond b (empty_run (halted t.state.totals.collections (violations_of t.collections))) (go_on t.state))) is
 
-turn-halts : (react : React) (t : Turn) (go_on : RunState → Ran) → halts react t.collections ≡ true → after_turn react t go_on ≡ with_earlier t.collections (empty_run (halted t.state.totals.collections (violations_of t.collections)))
+turn-halts : (react : React) (t : Turn) (go_on : RunState → Ran) → halts react t.collections ≡ true →
+    after_turn react t go_on ≡ with_earlier t.collections (empty_run (halted t.state.totals.collections (violations_of t.collections)))
 turn-halts react t go_on is =
     ap (λ b. with_earlier t.collections (cond b (empty_run (halted t.state.totals.collections (violations_of t.collections))) (go_on t.state))) is
 
@@ -127,7 +130,8 @@ run-halts rules s item t items is stops =
     run-turns rules s item t items is ∙ turn-halts rules.react t (λ next. run rules next items) stops
 
 -- or ends at its line
-pub run-ends : (rules : RunRules) (s : RunState) (item : Item) (r : Refusal) (items : List Item) → turn_of_item (collection_rules rules) s item ≡ Err r → run rules s (item ∷ items) ≡ empty_run (refused_line (s.lines + 1) r)
+pub run-ends : (rules : RunRules) (s : RunState) (item : Item) (r : Refusal) (items : List Item) →
+    turn_of_item (collection_rules rules) s item ≡ Err r → run rules s (item ∷ items) ≡ empty_run (refused_line (s.lines + 1) r)
 unfolding run
 run-ends rules s item r items is = ap (λ o. by_turn rules.react (s.lines + 1) o (λ next. run rules next items)) is
 

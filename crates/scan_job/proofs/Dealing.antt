@@ -77,7 +77,8 @@ dealt-length n ts some =
 
 -- ---- what each list holds
 
-put_last-all : (P : List Task → Type 0) (Q : Task → Type 0) → ((f : List Task) (t : Task) → P f → Q t → P (f ++ t ∷ [])) → (fs : List (List Task)) (w : ℕ) (t : Task) → All P fs → Q t → All P (put_last fs w t)
+put_last-all : (P : List Task → Type 0) (Q : Task → Type 0) → ((f : List Task) (t : Task) → P f → Q t → P (f ++ t ∷ [])) →
+    (fs : List (List Task)) (w : ℕ) (t : Task) → All P fs → Q t → All P (put_last fs w t)
 put_last-all P Q step fs w t all q k d within =
     let l = length-set fs w (get_or fs w [] ++ t ∷ []) in
     ⊎_elim
@@ -87,7 +88,8 @@ put_last-all P Q step fs w t all q k d within =
     (λ ne. subst P (sym (get_or-set_other fs w k (get_or fs w [] ++ t ∷ []) d ne)) (all k d (omega arith)))
     (cases_eq k w)
 
-deal-all : (P : List Task → Type 0) (Q : Task → Type 0) → ((f : List Task) (t : Task) → P f → Q t → P (f ++ t ∷ [])) → (n k : ℕ) (fs : List (List Task)) (ts : List Task) → All P fs → AllByRecursion Q ts → All P (deal n k fs ts)
+deal-all : (P : List Task → Type 0) (Q : Task → Type 0) → ((f : List Task) (t : Task) → P f → Q t → P (f ++ t ∷ [])) →
+    (n k : ℕ) (fs : List (List Task)) (ts : List Task) → All P fs → AllByRecursion Q ts → All P (deal n k fs ts)
 deal-all P Q step n k fs [] all each = all
 deal-all P Q step n k fs (t ∷ ts) all each =
     deal-all P Q step n (k + 1) (put_last fs (k % n) t) ts (put_last-all P Q step fs (k % n) t all each.0) each.1
@@ -99,7 +101,9 @@ all-snoc Q (u ∷ f) t all q = (all.0, all-snoc Q f t all.1 q)
 -- what is so of each task is so of each in the lists
 pub dealt-all : (Q : Task → Type 0) (n : ℕ) (ts : List Task) → AllByRecursion Q ts → All (AllByRecursion Q) (dealt n ts)
 dealt-all Q n ts each =
-    deal-all (AllByRecursion Q) Q (all-snoc Q) n 0 (replicate n []) ts (λ k d within. subst (AllByRecursion Q) (sym (get_or-replicate n k [] d (let l = length-replicate {A = List Task} n [] in omega arith))) tt) each
+    deal-all (AllByRecursion Q) Q (all-snoc Q) n 0 (replicate n []) ts
+    (λ k d within. subst (AllByRecursion Q) (sym (get_or-replicate n k [] d (let l = length-replicate {A = List Task} n [] in omega arith))) tt)
+    each
 
 -- ---- how long each list is
 
@@ -122,7 +126,8 @@ shares-step n k fs t some e shares w within =
     let s = shares w within in
     let c : length list ≤ k / n = cancel n (length list) (k / n) (omega arith) in
     let m = mul-le-mul_left n c in
-    let is : get_or (put_last fs (k % n) t) w [] ≡ list ++ t ∷ [] = ap (λ i. get_or (put_last fs (k % n) t) i []) same ∙ get_or-set_same fs (k % n) (get_or fs (k % n) [] ++ t ∷ []) [] (omega arith) ∙ ap (λ i. get_or fs i [] ++ t ∷ []) (sym same) in
+    let is : get_or (put_last fs (k % n) t) w [] ≡ list ++ t ∷ [] =
+    ap (λ i. get_or (put_last fs (k % n) t) i []) same ∙ get_or-set_same fs (k % n) (get_or fs (k % n) [] ++ t ∷ []) [] (omega arith) ∙ ap (λ i. get_or fs i [] ++ t ∷ []) (sym same) in
     let l = ap length is in
     let a = length-append list (t ∷ []) in
     let x : n * (length list + 1) ≡ n * length list + n = omega arith in
@@ -142,7 +147,8 @@ deal-shares n k fs (t ∷ ts) some e shares w within =
 
 dealt-shares : (n : ℕ) (ts : List Task) → 0 < n → HaveShares n (length ts) (dealt n ts)
 dealt-shares n ts some w within =
-    let none : HaveShares n 0 (replicate n []) = (λ v below. let z : n * length (get_or (replicate n []) v []) ≡ n * 0 = ap (λ (f : List Task). n * length f) (get_or-replicate n v [] [] below) in omega arith) in
+    let none : HaveShares n 0 (replicate n []) =
+    (λ v below. let z : n * length (get_or (replicate n []) v []) ≡ n * 0 = ap (λ (f : List Task). n * length f) (get_or-replicate n v [] [] below) in omega arith) in
     let r = deal-shares n 0 (replicate n []) ts some (length-replicate n []) none w within in
     omega arith
 
@@ -156,7 +162,8 @@ dealt-short n c ts some few k d within =
     omega arith
 
 -- and where there are fewer, there is room for the next
-pub dealt-room : (n c number : ℕ) (fs : List (List Task)) (ts : List Task) → 0 < n → number ≡ length ts → fs ≡ dealt n ts → number < n * c → (number % n < length fs) × (length (get_or fs (number % n) []) < c)
+pub dealt-room : (n c number : ℕ) (fs : List (List Task)) (ts : List Task) → 0 < n → number ≡ length ts → fs ≡ dealt n ts → number < n * c →
+    (number % n < length fs) × (length (get_or fs (number % n) []) < c)
 dealt-room n c k fs ts some count e few =
     let l = length-dealt n ts in
     let len = ap length e in

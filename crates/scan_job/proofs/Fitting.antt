@@ -1,5 +1,6 @@
 -- The list of fit tasks, and that what a fit task puts is fit.
-use Rattle.std.proofs.Common.{◌≡◌, ℕ, zero, suc, ◌<◌, Bool, true, false, not, cond, ◌⊎◌, inl, inr, ⊎_elim, List, [], ◌∷◌, ◌++◌, length, get_or, filter, map, sym, refl, ap, ◌∙◌, subst, arith, ◌↔◌, eqb-true, eq-eqb, eqb}
+use Rattle.std.proofs.Common.{◌≡◌, ℕ, zero, suc, ◌<◌, Bool, true, false, not, cond, ◌⊎◌, inl, inr, ⊎_elim, List, [], ◌∷◌, ◌++◌, length, get_or}
+use Rattle.std.proofs.Common.{filter, map, sym, refl, ap, ◌∙◌, subst, arith, ◌↔◌, eqb-true, eq-eqb, eqb}
 use Rattle.std.specs.List.{flat_map, AllByRecursion, Contains}
 use Rattle.std.proofs.lemmas.Bool.{false≢true, or_cases, or_left, or_right, cases_Bool}
 use Rattle.heap_base.specs.declared.task.Task.{Task}
@@ -176,4 +177,6 @@ among-at won met among x at = at-times x met (let l = times-at x won at in let a
 pub puts-fit : (g : StoppedGraph) (j : ScanState) (t : Task) (k : ScanState) (put : List Task) → IsWhole g → Works g j t k put → Contains (fit_tasks g j.mode) t → AllFit (fit_tasks g j.mode) put
 puts-fit g j t k put w s fits =
     subst (AllByRecursion (Contains (fit_tasks g j.mode))) (sym s.puts)
-    (all-tagged (Contains (fit_tasks g j.mode)) t.tag (is_put g j.mode) s.won (λ x at goes. (fit_tasks-is g w j.mode (task_at t.tag x)).1 (fit-step g w j.mode t x ((fit_tasks-is g w j.mode t).0 fits) (among-at s.won (g.targets t.cell) s.meets.among x at) goes)))
+    (all-tagged (Contains (fit_tasks g j.mode)) t.tag (is_put g j.mode) s.won
+    (λ x at goes. (fit_tasks-is g w j.mode (task_at t.tag x)).1
+    (fit-step g w j.mode t x ((fit_tasks-is g w j.mode t).0 fits) (among-at s.won (g.targets t.cell) s.meets.among x at) goes)))

@@ -111,7 +111,9 @@ module _ (s : Shared) (js : List ScanState) (some_jobs : 0 < length js) (ready :
 -- ---- the roots, which the first job met before the run
 
 -- what the first job gained before the run is the first of what all gained
-first-gains : (g : StoppedGraph) (mode : Mode) (j : ScanState) (js : List ScanState) (k : ScanState) (gains : List Gain) (ks : List ScanState) (a : Gain) → Extends g (begun mode j) a k → Each (Extends g) (k ∷ map (begun mode) js) gains ks → (all : List Gain) × Each (Extends g) (map (begun mode) (j ∷ js)) all ks × (all_gains all ≡ both_gains a (all_gains gains))
+first-gains : (g : StoppedGraph) (mode : Mode) (j : ScanState) (js : List ScanState) (k : ScanState) (gains : List Gain) (ks : List ScanState) (a : Gain) →
+    Extends g (begun mode j) a k → Each (Extends g) (k ∷ map (begun mode) js) gains ks →
+    (all : List Gain) × Each (Extends g) (map (begun mode) (j ∷ js)) all ks × (all_gains all ≡ both_gains a (all_gains gains))
 first-gains g mode j js k [] ks a p e = absurd e
 first-gains g mode j js k (b ∷ gains) [] a p e = absurd e
 first-gains g mode j js k (b ∷ gains) (l ∷ ks) a p e =
@@ -123,9 +125,12 @@ root_meeting g won = record { tag = 0; cells = g.roots; won = won }
 
 pub roots-fit : (g : StoppedGraph) → IsWhole g → (won : List ℕ) → AreAmong won g.roots → AllFit (fit_tasks g Root) (root_firsts g won)
 roots-fit g whole won among =
-    all-tagged (Contains (fit_tasks g Root)) 0 (λ x. not (g.is_owner x)) won (λ x at free. (fit_tasks-is g whole Root (task_at 0 x)).1 (refl, free, root-reached g whole x (among-at won g.roots among x at)))
+    all-tagged (Contains (fit_tasks g Root)) 0 (λ x. not (g.is_owner x)) won
+    (λ x at free. (fit_tasks-is g whole Root (task_at 0 x)).1 (refl, free, root-reached g whole x (among-at won g.roots among x at)))
 
-root-jobs : (s : Shared) (j : ScanState) (js ks : List ScanState) (k : ScanState) (won : List ℕ) (fs : List (List Task)) (n : ℕ) → 0 < n → IsWhole (graph_in s) → Meets (graph_in s) (root_meeting (graph_in s) won) (begun Root j) k → fs ≡ dealt n (root_firsts (graph_in s) won) → Run shared_meaning s fs (k ∷ map (begun Root) js) ks → Gained (graph_in s) (RootGains (graph_in s)) (j ∷ js) ks
+root-jobs : (s : Shared) (j : ScanState) (js ks : List ScanState) (k : ScanState) (won : List ℕ) (fs : List (List Task)) (n : ℕ) → 0 < n →
+    IsWhole (graph_in s) → Meets (graph_in s) (root_meeting (graph_in s) won) (begun Root j) k → fs ≡ dealt n (root_firsts (graph_in s) won) →
+    Run shared_meaning s fs (k ∷ map (begun Root) js) ks → Gained (graph_in s) (RootGains (graph_in s)) (j ∷ js) ks
 root-jobs s j js ks k won fs n some whole met lists run =
     let g = graph_in s in
     let modes : AreIn Root (k ∷ map (begun Root) js) = all-cons (λ i. i.mode ≡ Root) k (map (begun Root) js) met.mode (begun-modes s Root js) in
@@ -135,11 +140,17 @@ root-jobs s j js ks k won fs n some whole met lists run =
     record {
       gains = f.0;
       each = begun-grows g Root (j ∷ js) f.0 ks f.1;
-      all = subst (RootGains g) (sym f.2) (root-gains g whole r.done r.put (all_first fs) (all_gains r.gains) r.scanned r.are_fit r.as_often won met.among (first-often n fs (root_firsts g won) some lists));
+      all =
+          subst (RootGains g) (sym f.2)
+          (root-gains g whole r.done r.put (all_first fs) (all_gains r.gains) r.scanned r.are_fit r.as_often won met.among
+          (first-often n fs (root_firsts g won) some lists));
     }
 
 -- the first of the jobs that have begun met the roots and became k
-pub root-phase : (s : Shared) (js ks : List ScanState) (j k : ScanState) (won : List ℕ) (fs : List (List Task)) (n : ℕ) → 0 < length js → 0 < n → IsWhole (graph_in s) → j ≡ get_or (map (begun Root) js) 0 j → Meets (graph_in s) (root_meeting (graph_in s) won) j k → fs ≡ dealt n (root_firsts (graph_in s) won) → Run shared_meaning s fs (set (map (begun Root) js) 0 k) ks → Gained (graph_in s) (RootGains (graph_in s)) js ks
+pub root-phase : (s : Shared) (js ks : List ScanState) (j k : ScanState) (won : List ℕ) (fs : List (List Task)) (n : ℕ) → 0 < length js →
+    0 < n → IsWhole (graph_in s) → j ≡ get_or (map (begun Root) js) 0 j → Meets (graph_in s) (root_meeting (graph_in s) won) j k →
+    fs ≡ dealt n (root_firsts (graph_in s) won) → Run shared_meaning s fs (set (map (begun Root) js) 0 k) ks →
+    Gained (graph_in s) (RootGains (graph_in s)) js ks
 root-phase s [] ks j k won fs n some_jobs some_workers whole is met lists run = absurd (omega arith)
 root-phase s (i ∷ js) ks j k won fs n some_jobs some_workers whole is met lists run =
     root-jobs s i js ks k won fs n some_workers whole (subst (λ z. Meets (graph_in s) (root_meeting (graph_in s) won) z k) is met) lists run

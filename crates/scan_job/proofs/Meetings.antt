@@ -1,5 +1,6 @@
 -- A meeting with one cell, and meetings one after another.
-use Rattle.std.proofs.Common.{◌≡◌, ℕ, ◌+◌, ◌<◌, ◌≤◌, Bool, true, false, cond, ⊎_elim, List, [], ◌∷◌, ◌++◌, filter, map, length, slice_index, sym, refl, ap, ◌∙◌, arith, eqb, eqb-true, append_assoc, append-nil, length-append, IsTrue}
+use Rattle.std.proofs.Common.{◌≡◌, ℕ, ◌+◌, ◌<◌, ◌≤◌, Bool, true, false, cond, ⊎_elim, List, [], ◌∷◌, ◌++◌, filter, map, length, slice_index, sym}
+use Rattle.std.proofs.Common.{refl, ap, ◌∙◌, arith, eqb, eqb-true, append_assoc, append-nil, length-append, IsTrue}
 use Rattle.std.proofs.lemmas.Bool.{or_cases, false≢true}
 use Rattle.std.proofs.lemmas.List.{map-append, length-map}
 use Rattle.std.proofs.lemmas.List.Elements.{filter-append}
@@ -94,8 +95,14 @@ module _ (g : StoppedGraph) where
     adds = q.adds ∙ ap (λ zs. zs ++ n.cells) p.adds ∙ append_assoc (adds j.pass) m.cells n.cells;
     wins = q.wins ∙ ap (λ zs. zs ++ n.won) p.wins ∙ append_assoc (wins j.pass) m.won n.won;
     among = λ f. (let a = p.among f in let b = q.among f in let c = total-append f m.won n.won in let d = total-append f m.cells n.cells in omega arith);
-    marks = q.marks ∙ (λ x. p.marks x ++ all_marks g (p.mode x) (record { tag = same x; cells = n.cells; won = n.won })) ∙ append_assoc (marks j.pass) (all_marks g j.mode m) _ ∙ ap (λ zs. marks j.pass ++ zs) (sym (flat_map-append (marks_on g j.mode m.tag) m.cells n.cells));
-    held = q.held ∙ (λ x. p.held x ++ filter (is_held g (p.mode x)) n.won) ∙ append_assoc j.held (filter (is_held g j.mode) m.won) (filter (is_held g j.mode) n.won) ∙ ap (λ zs. j.held ++ zs) (sym (filter-append (is_held g j.mode) m.won n.won));
+    marks =
+        q.marks ∙ (λ x. p.marks x ++ all_marks g (p.mode x) (record { tag = same x; cells = n.cells; won = n.won }))
+        ∙ append_assoc (marks j.pass) (all_marks g j.mode m) _
+        ∙ ap (λ zs. marks j.pass ++ zs) (sym (flat_map-append (marks_on g j.mode m.tag) m.cells n.cells));
+    held =
+        q.held ∙ (λ x. p.held x ++ filter (is_held g (p.mode x)) n.won)
+        ∙ append_assoc j.held (filter (is_held g j.mode) m.won) (filter (is_held g j.mode) n.won)
+        ∙ ap (λ zs. j.held ++ zs) (sym (filter-append (is_held g j.mode) m.won n.won));
     tally = λ kind. (let a = p.tally kind in let b = q.tally kind in let c = total-append (λ x. bit (eqb (g.kind x) kind)) m.won n.won in omega arith);
   }
 

@@ -118,7 +118,8 @@ module _ (g : StoppedGraph) where
   root-marks tag [] = refl
   root-marks tag (x ∷ xs) = go (g.is_ownee x) (root-marks tag xs)
     where
-      go : (b : Bool) → marks_in g Root tag xs ≡ map as_met (filter g.is_ownee xs) → cond b (as_met x ∷ []) [] ++ marks_in g Root tag xs ≡ map as_met (cond b (x ∷ filter g.is_ownee xs) (filter g.is_ownee xs))
+      go : (b : Bool) → marks_in g Root tag xs ≡ map as_met (filter g.is_ownee xs) →
+          cond b (as_met x ∷ []) [] ++ marks_in g Root tag xs ≡ map as_met (cond b (x ∷ filter g.is_ownee xs) (filter g.is_ownee xs))
       go true rest = ap (λ ys. as_met x ∷ ys) rest
       go false rest = rest
 
@@ -149,7 +150,8 @@ module _ (g : StoppedGraph) (w : IsWhole g) (mode : Mode) (done put : List Task)
 
 -- ---- the scans from the owners
 
-module _ (g : StoppedGraph) (w : IsWhole g) (done put first : List Task) (a : Gain) (s : Scanned g Owner done put a) (fits : AllFit (fit_tasks g Owner) done) (ran : AsOften done (first ++ put)) (begins : AsOften first (map (λ o. task_at o o) (owners g))) where
+module _ (g : StoppedGraph) (w : IsWhole g) (done put first : List Task) (a : Gain) (s : Scanned g Owner done put a)
+    (fits : AllFit (fit_tasks g Owner) done) (ran : AsOften done (first ++ put)) (begins : AsOften first (map (λ o. task_at o o) (owners g))) where
   found-by : (e : ℕ) → is_marked Found e a.marks ≡ true → (o : ℕ) × IsTrue (g.owns o e) × IsTrue (is_found_from g o e)
   found-by e at =
       let l = is_positive-true _ at in
@@ -170,7 +172,8 @@ module _ (g : StoppedGraph) (w : IsWhole g) (done put first : List Task) (a : Ga
       go true false p q = omega arith
       go true true p q =
           let l = in-found g o e (g.targets o) (w.owned o e owns).1 owns at in
-          let same : times_marked Found e (marks_in g Owner t.tag (g.targets t.cell)) ≡ times_marked Found e (marks_in g Owner o (g.targets o)) = λ i. times_marked Found e (marks_in g Owner (eqb-true t.tag o q i) (g.targets (eqb-true t.cell o p i))) in
+          let same : times_marked Found e (marks_in g Owner t.tag (g.targets t.cell)) ≡ times_marked Found e (marks_in g Owner o (g.targets o)) =
+          λ i. times_marked Found e (marks_in g Owner (eqb-true t.tag o q i) (g.targets (eqb-true t.cell o p i))) in
           omega arith
 
   -- each owner was scanned, so what it holds in a slot and owns is marked
@@ -200,7 +203,9 @@ module _ (g : StoppedGraph) (w : IsWhole g) (done put first : List Task) (a : Ga
 
 -- ---- the scans from what was held
 
-pub take_up-gains : (g : StoppedGraph) (w : IsWhole g) (done put first : List Task) (a : Gain) (s : Scanned g TakeUp done put a) (fits : AllFit (fit_tasks g TakeUp) done) (ran : AsOften done (first ++ put)) (held : List ℕ) (begins : AsOften first (map (task_at 0) held)) → TakeUpGains g held a
+pub take_up-gains : (g : StoppedGraph) (w : IsWhole g) (done put first : List Task) (a : Gain) (s : Scanned g TakeUp done put a)
+    (fits : AllFit (fit_tasks g TakeUp) done) (ran : AsOften done (first ++ put)) (held : List ℕ) (begins : AsOften first (map (task_at 0) held)) →
+    TakeUpGains g held a
 take_up-gains g w done put first a s fits ran held begins = record {
   adds = adds-run g TakeUp done put first a (λ _. 0) held s ran begins;
   wins = λ x at. (let t = win-at g w TakeUp done put a s fits x at in under-step g w (t.0).cell x t.1.2 t.2);
@@ -214,7 +219,9 @@ take_up-gains g w done put first a s fits ran held begins = record {
 
 -- ---- the scans from the roots, which were met before: b is what the scans gained
 
-module _ (g : StoppedGraph) (w : IsWhole g) (done put first : List Task) (b : Gain) (s : Scanned g Root done put b) (fits : AllFit (fit_tasks g Root) done) (ran : AsOften done (first ++ put)) (won : List ℕ) (among : AreAmong won g.roots) (begins : AsOften first (map (task_at 0) (no_owners g won))) where
+module _ (g : StoppedGraph) (w : IsWhole g) (done put first : List Task) (b : Gain) (s : Scanned g Root done put b)
+    (fits : AllFit (fit_tasks g Root) done) (ran : AsOften done (first ++ put)) (won : List ℕ) (among : AreAmong won g.roots)
+    (begins : AsOften first (map (task_at 0) (no_owners g won))) where
   -- what the meeting with the roots gained
   abbrev pub met_roots : Gain
   met_roots = record { adds = g.roots; wins = won; held = filter (is_held g Root) won; marks = marks_in g Root 0 g.roots }
@@ -239,5 +246,6 @@ module _ (g : StoppedGraph) (w : IsWhole g) (done put first : List Task) (b : Ga
         (λ later. (let t = win-at g w Root done put b s fits x later in root-step g w (t.0).cell x t.1.2 t.2))
         (or_cases _ _ (sym (has_id-append won b.wins x) ∙ at));
     none_held = λ n. filter-none won n ++ (s.held ∙ filter-none b.wins) n;
-    marks = λ h. ap (total h) ((λ n. root-marks g 0 g.roots n ++ (s.marks ∙ root-marks-all g done ∙ ap (λ xs. map (as_met g) (filter g.is_ownee xs)) (sym s.adds)) n) ∙ sym (met-append g g.roots b.adds));
+    marks =
+        λ h. ap (total h) ((λ n. root-marks g 0 g.roots n ++ (s.marks ∙ root-marks-all g done ∙ ap (λ xs. map (as_met g) (filter g.is_ownee xs)) (sym s.adds)) n) ∙ sym (met-append g g.roots b.adds));
   }

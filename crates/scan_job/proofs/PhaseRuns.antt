@@ -46,7 +46,8 @@ module _ (s : Shared) (mode : Mode) (js : List ScanState) (ts : List Task) (p : 
   turns-after : (ks : List ScanState) → TurnsLast shared_meaning (most_tasks shared_meaning p.jobs p.fs) p.jobs ks → TurnsLast shared_meaning (2 ^ 25 + 1) js ks
   turns-after ks last =
       let few = few-tasks s mode (length js) (map (begun mode) js) ts p.fs p.start p.lists in
-      begun-last mode (most_tasks shared_meaning (map (begun mode) js) p.fs) (2 ^ 25 + 1) js ks (omega arith) (subst (λ zs. TurnsLast shared_meaning (most_tasks shared_meaning zs p.fs) zs ks) p.are_begun last)
+      begun-last mode (most_tasks shared_meaning (map (begun mode) js) p.fs) (2 ^ 25 + 1) js ks (omega arith)
+      (subst (λ zs. TurnsLast shared_meaning (most_tasks shared_meaning zs p.fs) zs ks) p.are_begun last)
 
   -- what the run gains makes the phase done
   pub has-begun : (P : Gain → Type 0) → ((ks : List ScanState) → Run shared_meaning s p.fs (map (begun mode) js) ks → Gained (graph_in s) P js ks) → HasBegun s mode P js p.jobs p.fs

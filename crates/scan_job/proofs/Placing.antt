@@ -1,5 +1,6 @@
 -- The graph of a table and its roles: cells that hold objects, and what slots lead to.
-use Rattle.std.proofs.Common.{◌≡◌, ℕ, zero, suc, ◌+◌, ◌<◌, ◌≤◌, Bool, true, false, cond, ⊎_elim, List, [], ◌∷◌, ◌++◌, length, get_or, take, sym, refl, ap, ◌∙◌, subst, arith, eqb, eqb-true, eq-eqb, Option, None, Some, ltb}
+use Rattle.std.proofs.Common.{◌≡◌, ℕ, zero, suc, ◌+◌, ◌<◌, ◌≤◌, Bool, true, false, cond, ⊎_elim, List, [], ◌∷◌, ◌++◌, length, get_or, take, sym}
+use Rattle.std.proofs.Common.{refl, ap, ◌∙◌, subst, arith, eqb, eqb-true, eq-eqb, Option, None, Some, ltb}
 use Rattle.std.specs.Prelude.{IfSome, is_some, option_and_then, slice_get}
 use Rattle.std.specs.List.{filter_map, cons_option, sum_by, position_or_len, range_with_len}
 use Rattle.std.specs.Option.{option_map_or}
@@ -71,7 +72,8 @@ module _ (p : Placed) where
   leads [] cell at = absurd (false≢true at)
   leads (s ∷ xs) cell at = go (target_of p s) (leads xs cell) refl at
     where
-      go : (o : Option ℕ) → (has_id (targets_of p xs) cell ≡ true → (slot : Slot) × (target_of p slot ≡ Some cell)) → target_of p s ≡ o → has_id (cons_option o (targets_of p xs)) cell ≡ true → (slot : Slot) × (target_of p slot ≡ Some cell)
+      go : (o : Option ℕ) → (has_id (targets_of p xs) cell ≡ true → (slot : Slot) × (target_of p slot ≡ Some cell)) → target_of p s ≡ o →
+          has_id (cons_option o (targets_of p xs)) cell ≡ true → (slot : Slot) × (target_of p slot ≡ Some cell)
       go None rest is at = rest at
       go (Some x) rest is at =
           ⊎_elim
@@ -104,7 +106,9 @@ module _ (p : Placed) where
       go (Some x) r = omega arith
 
   -- one slot more
-  pub targets-more : IsPlaced p → (xs : List Slot) (i : ℕ) (o : Option ℕ) → i < length xs → option_and_then (id_in p) o ≡ edge_of (get_or xs i empty_slot) → is_some o ≡ is_some (edge_of (get_or xs i empty_slot)) → targets_of p (take (i + 1) xs) ≡ targets_of p (take i xs) ++ cons_option o []
+  pub targets-more : IsPlaced p → (xs : List Slot) (i : ℕ) (o : Option ℕ) → i < length xs →
+      option_and_then (id_in p) o ≡ edge_of (get_or xs i empty_slot) → is_some o ≡ is_some (edge_of (get_or xs i empty_slot)) →
+      targets_of p (take (i + 1) xs) ≡ targets_of p (take i xs) ++ cons_option o []
   targets-more placed xs i o within e some =
       ap (targets_of p) (take_more xs i empty_slot within)
       ∙ filter_map-append (target_of p) (take i xs) (get_or xs i empty_slot ∷ [])
@@ -114,9 +118,11 @@ module _ (p : Placed) where
 
   slots_le : (objects : List Object) (id : ℕ) → length (option_map_or (λ o. o.slots) (object_at objects id) []) ≤ sum_by (λ o. length o.slots) objects
   slots_le [] id = omega arith
-  slots_le (o ∷ objects) id = subst (λ n. length (option_map_or (λ o. o.slots) (object_at (o ∷ objects) id) []) ≤ n) (sym (sum_by-cons (λ (o : Object). length o.slots) o objects)) (go (eqb o.id id) (slots_le objects id))
+  slots_le (o ∷ objects) id =
+      subst (λ n. length (option_map_or (λ o. o.slots) (object_at (o ∷ objects) id) []) ≤ n) (sym (sum_by-cons (λ (o : Object). length o.slots) o objects)) (go (eqb o.id id) (slots_le objects id))
     where
-      go : (b : Bool) → length (option_map_or (λ o. o.slots) (object_at objects id) []) ≤ sum_by (λ o. length o.slots) objects → length (option_map_or (λ o. o.slots) (cond b (Some o) (object_at objects id)) []) ≤ length o.slots + sum_by (λ o. length o.slots) objects
+      go : (b : Bool) → length (option_map_or (λ o. o.slots) (object_at objects id) []) ≤ sum_by (λ o. length o.slots) objects →
+          length (option_map_or (λ o. o.slots) (cond b (Some o) (object_at objects id)) []) ≤ length o.slots + sum_by (λ o. length o.slots) objects
       go true r = omega arith
       go false r = omega arith
 
@@ -140,23 +146,29 @@ has_id-filter_map h (x ∷ xs) (suc i) d y within is = go (h x) (has_id-filter_m
     go (Some z) rest = or_right _ _ rest
 
 -- the cell that an object's slot leads to is among its targets
-pub target-there : (p : Placed) (r : RoleTable) (cell slot target : ℕ) → IsPlaced p → slot < length (slots_in p cell) → option_and_then (id_in p) (Some target) ≡ edge_of (slot_in p cell slot) → true ≡ is_some (edge_of (slot_in p cell slot)) → has_id ((graph_of p r).targets cell) target ≡ true
+pub target-there : (p : Placed) (r : RoleTable) (cell slot target : ℕ) → IsPlaced p → slot < length (slots_in p cell) →
+    option_and_then (id_in p) (Some target) ≡ edge_of (slot_in p cell slot) → true ≡ is_some (edge_of (slot_in p cell slot)) →
+    has_id ((graph_of p r).targets cell) target ≡ true
 target-there p r cell slot target placed within leads some =
     has_id-filter_map (target_of p) (slots_in p cell) slot empty_slot target within (target-is p placed (slot_in p cell slot) (Some target) leads some)
 
 -- the cell that is given for a root is that of the object which it names
-root-cell : (p : Placed) (root cell : ℕ) → IsPlaced p → root < length p.table.roots → IfSome (slice_get p.table.roots root) (λ n. id_in p cell ≡ Some n.1) → cell_of p (get_or p.table.roots root ([], 0)).1 ≡ Some cell
+root-cell : (p : Placed) (root cell : ℕ) → IsPlaced p → root < length p.table.roots →
+    IfSome (slice_get p.table.roots root) (λ n. id_in p cell ≡ Some n.1) → cell_of p (get_or p.table.roots root ([], 0)).1 ≡ Some cell
 root-cell p root cell placed within names =
     let held = subst (λ o. IfSome o (λ n. id_in p cell ≡ Some n.1)) (slice_get-get_or p.table.roots root ([], 0) within) names in
     cell-from_held p placed cell (get_or p.table.roots root ([], 0)).1 held
 
 -- the cell that a root names is among the roots
-pub root-there : (p : Placed) (r : RoleTable) (root cell : ℕ) → IsPlaced p → root < length p.table.roots → IfSome (slice_get p.table.roots root) (λ n. id_in p cell ≡ Some n.1) → has_id (graph_of p r).roots cell ≡ true
+pub root-there : (p : Placed) (r : RoleTable) (root cell : ℕ) → IsPlaced p → root < length p.table.roots →
+    IfSome (slice_get p.table.roots root) (λ n. id_in p cell ≡ Some n.1) → has_id (graph_of p r).roots cell ≡ true
 root-there p r root cell placed within names =
     has_id-filter_map (λ n. cell_of p n.1) p.table.roots root ([], 0) cell within (root-cell p root cell placed within names)
 
 -- the cells that the first roots name, and one root more
-pub roots-more : (p : Placed) (root cell : ℕ) → IsPlaced p → root < length p.table.roots → IfSome (slice_get p.table.roots root) (λ n. id_in p cell ≡ Some n.1) → filter_map (λ n. cell_of p n.1) (take (root + 1) p.table.roots) ≡ filter_map (λ n. cell_of p n.1) (take root p.table.roots) ++ cell ∷ []
+pub roots-more : (p : Placed) (root cell : ℕ) → IsPlaced p → root < length p.table.roots →
+    IfSome (slice_get p.table.roots root) (λ n. id_in p cell ≡ Some n.1) →
+    filter_map (λ n. cell_of p n.1) (take (root + 1) p.table.roots) ≡ filter_map (λ n. cell_of p n.1) (take root p.table.roots) ++ cell ∷ []
 roots-more p root cell placed within names =
     ap (filter_map (λ n. cell_of p n.1)) (take_more p.table.roots root ([], 0) within)
     ∙ filter_map-append (λ n. cell_of p n.1) (take root p.table.roots) (get_or p.table.roots root ([], 0) ∷ [])
@@ -173,7 +185,8 @@ named-held : (p : Placed) (roots : List (List ℕ × ℕ)) (cell : ℕ) → has_
 named-held p [] cell at = absurd (false≢true at)
 named-held p (root ∷ roots) cell at = go (cell_of p root.1) (named-held p roots cell) refl at
   where
-    go : (o : Option ℕ) → (has_id (filter_map (λ root. cell_of p root.1) roots) cell ≡ true → is_some (id_in p cell) ≡ true) → cell_of p root.1 ≡ o → has_id (cons_option o (filter_map (λ root. cell_of p root.1) roots)) cell ≡ true → is_some (id_in p cell) ≡ true
+    go : (o : Option ℕ) → (has_id (filter_map (λ root. cell_of p root.1) roots) cell ≡ true → is_some (id_in p cell) ≡ true) →
+        cell_of p root.1 ≡ o → has_id (cons_option o (filter_map (λ root. cell_of p root.1) roots)) cell ≡ true → is_some (id_in p cell) ≡ true
     go None rest is at = rest at
     go (Some x) rest is at =
         ⊎_elim

@@ -54,7 +54,9 @@ module _ (g : StoppedGraph) (w : IsWhole g) where
   -- what an owner finds is under owners
   pub found-under : (o x : ℕ) → g.is_owner o ≡ true → is_found_from g o x ≡ true → is_under_owners g x ≡ true
   found-under o x owner at =
-      IsClosed-reachable (inner_graph g) (g.targets o) (is_under_owners g) (record { from_sources = λ y leads node. under-owner o y owner leads; along_edges = λ y z under passes edge. under-step y z under edge.0 }) x ((reached_is_reachable (inner_graph g) (g.targets o) x).0 at)
+      IsClosed-reachable (inner_graph g) (g.targets o) (is_under_owners g)
+      (record { from_sources = λ y leads node. under-owner o y owner leads; along_edges = λ y z under passes edge. under-step y z under edge.0 }) x
+      ((reached_is_reachable (inner_graph g) (g.targets o) x).0 at)
 
 -- ---- in terms of paths
 
@@ -65,5 +67,7 @@ found-by_path g o x =
 
 pub under_owners-by_path : UnderOwnersByPath
 under_owners-by_path g w x =
-    let both = reached_is_reachable (whole_graph g) (all_targets g (owners g)) x in
-    (λ at. let r = both.0 at in let o = flat_map-has_id g.targets (owners g) r.0 r.2 in (o.0, r.0, r.1, (filter-at g.is_owner g.nodes o.0 o.1).0, (refl, (o.2, r.3), r.4)), λ u. both.1 (u.1, u.2, has_id-flat_map g.targets (owners g) u.0 u.1 (at-filter g.is_owner g.nodes u.0 u.3 (w.owners u.0 u.3)) u.4.1.0, u.4.1.1, u.4.2))
+    let both = reached_is_reachable (whole_graph g) (all_targets g (owners g)) x in (
+      λ at. let r = both.0 at in let o = flat_map-has_id g.targets (owners g) r.0 r.2 in (o.0, r.0, r.1, (filter-at g.is_owner g.nodes o.0 o.1).0, (refl, (o.2, r.3), r.4)),
+      λ u. both.1 (u.1, u.2, has_id-flat_map g.targets (owners g) u.0 u.1 (at-filter g.is_owner g.nodes u.0 u.3 (w.owners u.0 u.3)) u.4.1.0, u.4.1.1, u.4.2),
+    )

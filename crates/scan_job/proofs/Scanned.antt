@@ -136,12 +136,17 @@ module _ (g : StoppedGraph) where
       let s = d.3 in
       let a = gain_of j.mode (scan_meeting g t s.won) in
       let r = did d.0 k ts d.2 d.4 in
-      let later : Scanned g j.mode ts d.2 r.0 = subst (λ m. Scanned g m ts d.2 r.0) s.meets.mode r.2 in
-      (both_gains a r.0, extends-both j d.0 k a r.0 (meets-extends j d.0 (scan_meeting g t s.won) s.meets) r.1, subst (λ p. Scanned g j.mode (t ∷ ts) p (both_gains a r.0)) (sym d.5) (scanned-both j.mode (t ∷ []) ts d.1 d.2 a r.0 (works-scanned j d.0 t d.1 s) later))
+      let later : Scanned g j.mode ts d.2 r.0 = subst (λ m. Scanned g m ts d.2 r.0) s.meets.mode r.2 in (
+        both_gains a r.0,
+        extends-both j d.0 k a r.0 (meets-extends j d.0 (scan_meeting g t s.won) s.meets) r.1,
+        subst (λ p. Scanned g j.mode (t ∷ ts) p (both_gains a r.0)) (sym d.5) (scanned-both j.mode (t ∷ []) ts d.1 d.2 a r.0 (works-scanned j d.0 t d.1 s) later),
+      )
 
   -- ---- what the jobs of a run gain
 
-  did-all : (mode : Mode) (js : List ScanState) (ws : List Work) (ks : List ScanState) → AreIn mode js → Each (λ j (w : Work) k. Does (Works g) j w.done k w.put) js ws ks → (gains : List Gain) × Each (Extends g) js gains ks × Scanned g mode (all_done ws) (all_put ws) (all_gains gains)
+  did-all : (mode : Mode) (js : List ScanState) (ws : List Work) (ks : List ScanState) → AreIn mode js →
+      Each (λ j (w : Work) k. Does (Works g) j w.done k w.put) js ws ks →
+      (gains : List Gain) × Each (Extends g) js gains ks × Scanned g mode (all_done ws) (all_put ws) (all_gains gains)
   did-all mode [] ws ks are r =
       ([], (refl, r.1), subst (λ (vs : List Work). Scanned g mode (all_done vs) (all_put vs) no_gain) (sym r.0) (scanned-none mode))
   did-all mode (j ∷ js) [] ks are r = absurd r
@@ -153,7 +158,9 @@ module _ (g : StoppedGraph) where
       (d.0 ∷ e.0, (d.1, e.1), scanned-both mode w.done (all_done ws) w.put (all_put ws) d.0 (all_gains e.0) here e.2)
 
   -- All adds of a run are what the slots of the cells lead to that it began with, and those of the wins that are put.
-  pub adds-run : (mode : Mode) (done put first : List Task) (a : Gain) (tag : ℕ → ℕ) (cells : List ℕ) → Scanned g mode done put a → AsOften done (first ++ put) → AsOften first (map (λ x. task_at (tag x) x) cells) → AsOften a.adds (all_targets g cells ++ all_targets g (filter (is_put g mode) a.wins))
+  pub adds-run : (mode : Mode) (done put first : List Task) (a : Gain) (tag : ℕ → ℕ) (cells : List ℕ) → Scanned g mode done put a →
+      AsOften done (first ++ put) → AsOften first (map (λ x. task_at (tag x) x) cells) →
+      AsOften a.adds (all_targets g cells ++ all_targets g (filter (is_put g mode) a.wins))
   adds-run mode done put first a tag cells s ran begins h =
       let f = λ (x : ℕ). total h (g.targets x) in
       let k = λ (t : Task). total h (g.targets t.cell) in

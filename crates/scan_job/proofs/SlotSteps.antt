@@ -1,5 +1,6 @@
 -- A scan under way: the first slots of a task's cell were met.
-use Rattle.std.proofs.Common.{◌≡◌, ℕ, ◌+◌, ◌<◌, ◌≤◌, ◌/◌, Bool, List, [], ◌∷◌, ◌++◌, length, take, get_or, sym, refl, ap, ◌∙◌, subst, arith, append_assoc, append-nil, length-append, length-take, Option, None, Some}
+use Rattle.std.proofs.Common.{◌≡◌, ℕ, ◌+◌, ◌<◌, ◌≤◌, ◌/◌, Bool, List, [], ◌∷◌, ◌++◌, length, take, get_or, sym, refl, ap, ◌∙◌, subst, arith}
+use Rattle.std.proofs.Common.{append_assoc, append-nil, length-append, length-take, Option, None, Some}
 use Rattle.std.specs.Prelude.{option_and_then, is_some}
 use Rattle.std.specs.List.{cons_option}
 use Rattle.std.proofs.Math.Seq.{take-length}
@@ -59,13 +60,16 @@ module _ (s : ScanShared) (t : Task) (i : ℕ) (old now : Worker) (p : HasScanne
       omega arith
 
   -- the slot leads nowhere, or to the cell
-  module _ (o : Option ℕ) (within : i < length (slots_in s.table.now t.cell)) (leads : option_and_then (id_in s.table.now) o ≡ edge_of (get_or (slots_in s.table.now t.cell) i empty_slot)) (in_a_cell : is_some o ≡ is_some (edge_of (get_or (slots_in s.table.now t.cell) i empty_slot))) where
+  module _ (o : Option ℕ) (within : i < length (slots_in s.table.now t.cell))
+      (leads : option_and_then (id_in s.table.now) o ≡ edge_of (get_or (slots_in s.table.now t.cell) i empty_slot))
+      (in_a_cell : is_some o ≡ is_some (edge_of (get_or (slots_in s.table.now t.cell) i empty_slot))) where
     more : targets_of s.table.now (take (i + 1) (slots_in s.table.now t.cell)) ≡ targets_of s.table.now (take i (slots_in s.table.now t.cell)) ++ cons_option o []
     more = targets-more s.table.now p.ready.placed (slots_in s.table.now t.cell) i o within leads in_a_cell
 
     pub scan-passes : o ≡ None → HasScanned s t (i + 1) old now
     scan-passes none =
-        let same : targets_of s.table.now (take (i + 1) (slots_in s.table.now t.cell)) ≡ targets_of s.table.now (take i (slots_in s.table.now t.cell)) = more ∙ ap (λ (x : Option ℕ). targets_of s.table.now (take i (slots_in s.table.now t.cell)) ++ cons_option x []) none ∙ append-nil _ in
+        let same : targets_of s.table.now (take (i + 1) (slots_in s.table.now t.cell)) ≡ targets_of s.table.now (take i (slots_in s.table.now t.cell)) =
+        more ∙ ap (λ (x : Option ℕ). targets_of s.table.now (take i (slots_in s.table.now t.cell)) ++ cons_option x []) none ∙ append-nil _ in
         record {
           won = p.won;
           meets = subst (λ xs. Meets (shared_graph s) (record { tag = t.tag; cells = xs; won = p.won }) old.job now.job) (sym same) p.meets;
@@ -83,15 +87,20 @@ module _ (s : ScanShared) (t : Task) (i : ℕ) (old now : Worker) (p : HasScanne
         let g = shared_graph s in
         let before = scanned s t i p.won in
         let one = one_meeting t.tag cell won in
-        let same : targets_of s.table.now (take (i + 1) (slots_in s.table.now t.cell)) ≡ targets_of s.table.now (take i (slots_in s.table.now t.cell)) ++ cell ∷ [] = more ∙ ap (λ (x : Option ℕ). targets_of s.table.now (take i (slots_in s.table.now t.cell)) ++ cons_option x []) some in
+        let same : targets_of s.table.now (take (i + 1) (slots_in s.table.now t.cell)) ≡ targets_of s.table.now (take i (slots_in s.table.now t.cell)) ++ cell ∷ [] =
+        more ∙ ap (λ (x : Option ℕ). targets_of s.table.now (take i (slots_in s.table.now t.cell)) ++ cons_option x []) some in
         let fall = room-falls g one now.job next.job met within_wins in
         let sum = length-append p.won (won_of won cell) in
         let before_room = p.room in
         record {
           won = p.won ++ won_of won cell;
-          meets = subst (λ xs. Meets g (record { tag = t.tag; cells = xs; won = p.won ++ won_of won cell }) old.job next.job) (sym same) (meets-both g before one old.job now.job next.job refl p.meets met);
+          meets =
+              subst (λ xs. Meets g (record { tag = t.tag; cells = xs; won = p.won ++ won_of won cell }) old.job next.job) (sym same) (meets-both g before one old.job now.job next.job refl p.meets met);
           ready = ready;
-          tasks = tasks ∙ (λ x. p.tasks x ++ put_tasks g (p.meets.mode x) one) ∙ append_assoc old.out.tasks (put_tasks g old.job.mode before) (put_tasks g old.job.mode one) ∙ ap (λ ts. old.out.tasks ++ ts) (sym (puts-both g old.job.mode before one refl));
+          tasks =
+              tasks ∙ (λ x. p.tasks x ++ put_tasks g (p.meets.mode x) one)
+              ∙ append_assoc old.out.tasks (put_tasks g old.job.mode before) (put_tasks g old.job.mode one)
+              ∙ ap (λ ts. old.out.tasks ++ ts) (sym (puts-both g old.job.mode before one refl));
           outbox = outbox ∙ p.outbox;
           room = omega arith;
         }

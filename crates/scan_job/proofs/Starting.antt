@@ -53,7 +53,9 @@ module _ (s : Shared) (js : List ScanState) (some : 0 < length js) (ready : AreR
 module _ (s : Shared) (mode : Mode) (js : List ScanState) where
   pub begun-ready : AreReady shared_meaning s js → AreReady shared_meaning s (map (begun mode) js)
   begun-ready ready =
-      all-map (begun mode) (λ j. IsReadyFor j s) (λ j. IsReadyFor j s) (λ j r. record { pass = r.pass; headers = r.headers; cells = r.cells; kinds = r.kinds; roles = r.roles; placed = r.placed; sound = r.sound }) js ready
+      all-map (begun mode) (λ j. IsReadyFor j s) (λ j. IsReadyFor j s)
+      (λ j r. record { pass = r.pass; headers = r.headers; cells = r.cells; kinds = r.kinds; roles = r.roles; placed = r.placed; sound = r.sound })
+      js ready
 
   pub begun-modes : AreIn mode (map (begun mode) js)
   begun-modes = all-map (begun mode) (λ j. Unit {0}) (λ j. j.mode ≡ mode) (λ j u. refl) js (λ k d within. tt)
@@ -87,7 +89,8 @@ rooms s (j ∷ js) ready =
     let x : suc (length js) * cells_in s ≡ length js * cells_in s + cells_in s = omega arith in
     omega arith
 
-has-room : (s : Shared) (n : ℕ) (js : List ScanState) (fs : List (List Task)) → length fs ≡ length js → AreReady shared_meaning s js → All (λ f. length f ≤ cells_in s) fs → 2 * cells_in s < n → HaveRoom shared_meaning n js fs
+has-room : (s : Shared) (n : ℕ) (js : List ScanState) (fs : List (List Task)) → length fs ≡ length js → AreReady shared_meaning s js →
+    All (λ f. length f ≤ cells_in s) fs → 2 * cells_in s < n → HaveRoom shared_meaning n js fs
 has-room s n [] [] e ready short wide = refl
 has-room s n [] (f ∷ fs) e ready short wide = absurd (omega arith)
 has-room s n (j ∷ js) [] e ready short wide = absurd (omega arith)
@@ -125,7 +128,10 @@ module _ (s : Shared) (mode : Mode) (n : ℕ) (js : List ScanState) (ts : List T
         lists = many;
         ready = start.ready;
         same_fit = λ k d within. ap (fit_tasks (graph_in s)) (start.modes k d within) ∙ sym fit;
-        fit = subst (λ (hs : List (List Task)). All (AllFit (Runs.fit_tasks shared_meaning s js)) hs) (sym lists) (subst (λ us. All (AllFit us) (dealt n ts)) (sym fit) (dealt-all (Contains (fit_tasks (graph_in s) mode)) n ts start.fit));
-        have_room = has-room s room js fs many start.ready (subst (λ (hs : List (List Task)). All (λ f. length f ≤ cells_in s) hs) (sym lists) (dealt-short n (cells_in s) ts start.some start.few)) wide;
+        fit =
+            subst (λ (hs : List (List Task)). All (AllFit (Runs.fit_tasks shared_meaning s js)) hs) (sym lists)
+            (subst (λ us. All (AllFit us) (dealt n ts)) (sym fit) (dealt-all (Contains (fit_tasks (graph_in s) mode)) n ts start.fit));
+        have_room =
+            has-room s room js fs many start.ready (subst (λ (hs : List (List Task)). All (λ f. length f ≤ cells_in s) hs) (sym lists) (dealt-short n (cells_in s) ts start.some start.few)) wide;
         turns = λ k d within. (let t = start.turns k d within in let m = few-tasks in omega arith);
       }

@@ -82,7 +82,8 @@ reading_where condition r = if condition then Some r else None
 -- an id above all before, a number of slots and a type within the limits
 unfoldable pub may_add : Reading → ℕ → ℕ → List ℕ → Bool
 may_add r id slots kind =
-    is_before_roots r.stage && nat_lt r.greatest id && nat_lt (length (objects_read r)) MOST_OBJECTS && nat_le (r.slots + slots) MOST_SLOTS && (is_seen r.kinds kind || nat_lt (length r.kinds) MOST_KINDS)
+    is_before_roots r.stage && nat_lt r.greatest id && nat_lt (length (objects_read r)) MOST_OBJECTS && nat_le (r.slots + slots) MOST_SLOTS &&
+    (is_seen r.kinds kind || nat_lt (length r.kinds) MOST_KINDS)
 
 abbrev pub with_object : Reading → ℕ → ℕ → List ℕ → Reading
 with_object r id slots kind = record {

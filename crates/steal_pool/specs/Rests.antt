@@ -10,7 +10,9 @@ use Rattle.steal_pool.specs.Loans.{IsThiefOf}
 
 -- no job and no hand on others is there, and all rights on the deque are
 abbrev pub IsAlone : {J : Type 0} → ℕ → Place J → Type 0
-IsAlone n p = (is_some p.job ≡ false) × (vec_len p.others ≡ 0) × (n ≤ vec_capacity p.others + 1) × (vec_len p.spare + 1 ≡ n) × (n ≤ vec_capacity p.spare + 1) × All (IsThiefOf (worker_deque p.lane.owner)) p.spare.items × ((own_hand p.lane).rights ≡ 16)
+IsAlone n p =
+    (is_some p.job ≡ false) × (vec_len p.others ≡ 0) × (n ≤ vec_capacity p.others + 1) × (vec_len p.spare + 1 ≡ n) × (n ≤ vec_capacity p.spare + 1)
+    × All (IsThiefOf (worker_deque p.lane.owner)) p.spare.items × ((own_hand p.lane).rights ≡ 16)
 
 -- no task waits, and all that was put into the deque was taken
 abbrev pub IsEmpty : {J : Type 0} → Place J → Type 0

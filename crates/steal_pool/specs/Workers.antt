@@ -36,7 +36,8 @@ pub record Advances {J S : Type 0} (M : Meaning J S) (s : S) (x y : J × Sources
   pub same_fit : M.fit y.0 s ≡ M.fit x.0 s
   pub falls : M.room y.0 + length put ≤ M.room x.0
   pub turns : M.turns x.0 ≤ M.turns y.0 + length done
-  pub sum : (h : Task → ℕ) → total h done + total h y.1.queue.tasks + total h (own_hand y.1.lane).put + total_taken h x.1 ≡ total h put + total h x.1.queue.tasks + total h (own_hand x.1.lane).put + total_taken h y.1
+  pub sum : (h : Task → ℕ) →
+      total h done + total h y.1.queue.tasks + total h (own_hand y.1.lane).put + total_taken h x.1 ≡ total h put + total h x.1.queue.tasks + total h (own_hand x.1.lane).put + total_taken h y.1
   pub room : y.1.queue.room ≡ x.1.queue.room
   pub hand : own_hand y.1.lane ≡ record (own_hand x.1.lane) { put = (own_hand y.1.lane).put; took = (own_hand y.1.lane).took }
   pub deque : worker_deque y.1.lane.owner ≡ worker_deque x.1.lane.owner

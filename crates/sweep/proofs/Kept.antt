@@ -79,7 +79,9 @@ module _ (h : Heap) (kept : List ℕ) (traced : AreTraced h kept) where
       sym (length-map (with_only (traced_ids h) h.table).objects (λ (o : Object). o.id))
       ∙ ap length (ids-with_only (traced_ids h) h.table ∙ traced_themselves)
 
-  pub sweeps : (before after : Parts) (freed : ℕ) → ArePartsOf h before → after.placed.table ≡ with_only kept before.placed.table → after.assertions ≡ assertions_on kept before.assertions → after.regions ≡ regions_with kept before.regions → freed ≡ length before.placed.table.objects - length after.placed.table.objects → SweepsHeap h after freed
+  pub sweeps : (before after : Parts) (freed : ℕ) → ArePartsOf h before → after.placed.table ≡ with_only kept before.placed.table →
+      after.assertions ≡ assertions_on kept before.assertions → after.regions ≡ regions_with kept before.regions →
+      freed ≡ length before.placed.table.objects - length after.placed.table.objects → SweepsHeap h after freed
   unfolding after_sweep
   sweeps before after freed parts table assertions regions count =
       let left : with_only (traced_ids h) h.table ≡ after.placed.table = sym (same_table h.table) ∙ (ap (with_only kept) parts.table ∙ sym table) in

@@ -21,7 +21,8 @@ module _ (last : ℕ) where
 
   pub upto-start : (regions : List (List (List ℕ))) (thread : ℕ) → AreUpTo last regions → AreUpTo last (with_region regions thread)
   upto-start regions thread upto =
-      All-set (All (All (λ id. id ≤ last))) regions thread ([] ∷ regions_of regions thread) (All-cons (All (λ id. id ≤ last)) [] (regions_of regions thread) (All-nil (λ id. id ≤ last)) (upto-of regions thread upto)) upto
+      All-set (All (All (λ id. id ≤ last))) regions thread ([] ∷ regions_of regions thread)
+      (All-cons (All (λ id. id ≤ last)) [] (regions_of regions thread) (All-nil (λ id. id ≤ last)) (upto-of regions thread upto)) upto
 
   pub upto-finish : (regions : List (List (List ℕ))) (thread : ℕ) → AreUpTo last regions → AreUpTo last (without_innermost regions thread)
   upto-finish regions thread upto =
@@ -31,12 +32,15 @@ module _ (last : ℕ) where
   upto-keep p regions upto =
       All-map (All (All (λ id. id ≤ last))) (map (filter p)) regions
       (All-weaker (All (All (λ id. id ≤ last))) (λ rs. All (All (λ id. id ≤ last)) (map (filter p) rs))
-      (λ rs each. All-map (All (λ id. id ≤ last)) (filter p) rs (All-weaker (All (λ id. id ≤ last)) (λ ids. All (λ id. id ≤ last) (filter p ids)) (λ ids all. All-filter p (λ id. id ≤ last) ids all) rs each))
+      (λ rs each. All-map (All (λ id. id ≤ last)) (filter p) rs
+      (All-weaker (All (λ id. id ≤ last)) (λ ids. All (λ id. id ≤ last) (filter p ids)) (λ ids all. All-filter p (λ id. id ≤ last) ids all) rs each))
       regions upto)
 
   pub upto-above : (regions : List (List (List ℕ))) (thread id : ℕ) → last < id → AreUpTo last regions → IsAbove id (regions_of regions thread)
   upto-above regions thread id above upto =
-      All-weaker (All (λ other. other ≤ last)) (All (λ other. other < id)) (λ ids all. All-weaker (λ other. other ≤ last) (λ other. other < id) (λ other within. omega arith) ids all) (regions_of regions thread) (upto-of regions thread upto)
+      All-weaker (All (λ other. other ≤ last)) (All (λ other. other < id))
+      (λ ids all. All-weaker (λ other. other ≤ last) (λ other. other < id) (λ other within. omega arith) ids all) (regions_of regions thread)
+      (upto-of regions thread upto)
 
 upto-more : (last more : ℕ) (regions : List (List (List ℕ))) → last ≤ more → AreUpTo last regions → AreUpTo more regions
 upto-more last more regions less upto =
@@ -49,5 +53,6 @@ upto-note last regions thread id above upto =
     let up = upto-more last id regions (omega arith) upto in
     All-set (All (All (λ x. x ≤ id))) regions thread (map (λ (r : List ℕ). r ++ id ∷ []) (regions_of regions thread))
     (All-map (All (λ x. x ≤ id)) (λ (r : List ℕ). r ++ id ∷ []) (regions_of regions thread)
-    (All-weaker (All (λ x. x ≤ id)) (λ (r : List ℕ). All (λ x. x ≤ id) (r ++ id ∷ [])) (λ r all. All-push (λ x. x ≤ id) r id all (omega arith)) (regions_of regions thread) (upto-of id regions thread up)))
+    (All-weaker (All (λ x. x ≤ id)) (λ (r : List ℕ). All (λ x. x ≤ id) (r ++ id ∷ [])) (λ r all. All-push (λ x. x ≤ id) r id all (omega arith))
+    (regions_of regions thread) (upto-of id regions thread up)))
     up

@@ -37,14 +37,16 @@ found-next : (rules : RunRules) (old new : Audit) (c : Collection) → old.rules
 found-next rules old new c is collected = collected.0 ∙ ap (λ (r : Rules). collection_of r (old.collections + 1) old.heap) is
 
 -- and the auditor stands behind it
-stands-behind : (rules : RunRules) (old new : Audit) (c : Collection) → old.rules ≡ collection_rules rules → IsCollected old (Ok c) new → auditor_state rules new ≡ behind_next (auditor_state rules old)
+stands-behind : (rules : RunRules) (old new : Audit) (c : Collection) → old.rules ≡ collection_rules rules → IsCollected old (Ok c) new →
+    auditor_state rules new ≡ behind_next (auditor_state rules old)
 unfolding after_next
 stands-behind rules old new c is collected =
     ap (λ (a : Audit). auditor_state rules a) collected.1
     ∙ ap (λ (r : Rules). let s : AuditState = record { rules = rules; heap = after_collection r old.heap; totals = record { collections = old.collections + 1; violations = old.violations + length (collection_of r (old.collections + 1) old.heap).verdicts } } in s) is
 
 -- what it made due is its effect
-pub takes-due : (rules : RunRules) (old new : Audit) (c : Collection) (made : Result Taken OutOfMemory) → old.rules ≡ collection_rules rules → IsCollected old (Ok c) new → IfOk made (IsDue rules.react c) →
+pub takes-due : (rules : RunRules) (old new : Audit) (c : Collection) (made : Result Taken OutOfMemory) → old.rules ≡ collection_rules rules →
+    IsCollected old (Ok c) new → IfOk made (IsDue rules.react c) →
     IfOk made (λ taken. Takes (audit_meaning.takes (auditor_state rules old) Collect) (Ok taken) (auditor_state rules new))
 takes-due rules old new c made is collected due =
     let s = auditor_state rules old in
@@ -52,7 +54,8 @@ takes-due rules old new c made is collected due =
     subst (λ (t : AuditState). IfOk made (λ taken. Takes (audit_meaning.takes s Collect) (Ok taken) t)) (sym (stands-behind rules old new c is collected)) (effects.takes-due s made next)
 
 -- a collection is taken as the event that is one
-pub takes-collect : (rules : RunRules) (old new : Audit) (e : Event) (taken : Taken) → e ≡ Collect → Takes (audit_meaning.takes (auditor_state rules old) Collect) (Ok taken) (auditor_state rules new) →
+pub takes-collect : (rules : RunRules) (old new : Audit) (e : Event) (taken : Taken) → e ≡ Collect →
+    Takes (audit_meaning.takes (auditor_state rules old) Collect) (Ok taken) (auditor_state rules new) →
     Takes (audit_meaning.takes (auditor_state rules old) e) (Ok taken) (auditor_state rules new)
 takes-collect rules old new e taken is takes =
     subst (λ (x : Event). Takes (audit_meaning.takes (auditor_state rules old) x) (Ok taken) (auditor_state rules new)) (sym is) takes
@@ -60,7 +63,8 @@ takes-collect rules old new e taken is takes =
 -- ---- operations
 
 -- an operation that was applied
-pub applied-goes_on : (rules : RunRules) (old new : Audit) (e : Event) (text : List ℕ) → e ≢ Collect → step old.heap e ≡ Ok new.heap → new ≡ record old { heap = new.heap; cells = new.cells } → text ≡ [] →
+pub applied-goes_on : (rules : RunRules) (old new : Audit) (e : Event) (text : List ℕ) → e ≢ Collect → step old.heap e ≡ Ok new.heap →
+    new ≡ record old { heap = new.heap; cells = new.cells } → text ≡ [] →
     audit_meaning.takes (auditor_state rules old) e ≡ goes_on text (auditor_state rules new)
 applied-goes_on rules old new e text other is rest empty =
     effects.takes-applied (auditor_state rules old) e new.heap other is

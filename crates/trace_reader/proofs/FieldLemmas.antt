@@ -8,10 +8,12 @@ use Rattle.serde_json.specs.Find.{get_member, as_str}
 use Rattle.serde_json.proofs.Views.{get_member-put, get_member-put_other}
 use Rattle.graph_meaning.specs.declared.refusal.Refusal.{Refusal}
 use Rattle.graph_meaning.specs.declared.refusal.FieldName.{FieldName}
-use Rattle.graph_meaning.specs.declared.refusal.FieldName.TheVariants.{OpField, IdField, TypeField, SlotsField, ThreadField, AtField, SlotField, ToField, NameField, LimitField, OwnerField, OwneeField, WeakField}
+use Rattle.graph_meaning.specs.declared.refusal.FieldName.TheVariants.{OpField, IdField, TypeField, SlotsField, ThreadField, AtField, SlotField}
+use Rattle.graph_meaning.specs.declared.refusal.FieldName.TheVariants.{ToField, NameField, LimitField, OwnerField, OwneeField, WeakField}
 use Rattle.trace_reader.specs.declared.fields.Fields.{Fields}
 use Rattle.trace_reader.specs.declared.object.FieldValue.{FieldValue}
-use Rattle.trace_reader.specs.Meaning.{field_text, needed_value, ◌>>=◌, event_in, operation, alloc_in, store_in, set_weak_in, root_in, dead_in, start_in, all_dead_in, instances_in, unshared_in, owned_in}
+use Rattle.trace_reader.specs.Meaning.{field_text, needed_value, ◌>>=◌, event_in, operation, alloc_in, store_in, set_weak_in, root_in, dead_in}
+use Rattle.trace_reader.specs.Meaning.{start_in, all_dead_in, instances_in, unshared_in, owned_in}
 use Rattle.trace_reader.specs.Objects.{value_data, no_fields, value_of, with_value, HasFieldsOf, all_fields, put_if_some, members_of}
 
 -- ---- keys
@@ -103,7 +105,8 @@ cond_same : (b : Bool) (o : Option Data) → cond b o o ≡ o
 cond_same true o = refl
 cond_same false o = refl
 
-get_member-put_if_some : (o : Option FieldValue) (k : List ℕ) (ms : Members) (b : Bool) → get_member k ms ≡ cond b (option_map value_data o) None → get_member k (put_if_some k o ms) ≡ option_map value_data o
+get_member-put_if_some : (o : Option FieldValue) (k : List ℕ) (ms : Members) (b : Bool) →
+    get_member k ms ≡ cond b (option_map value_data o) None → get_member k (put_if_some k o ms) ≡ option_map value_data o
 get_member-put_if_some None k ms b rest = rest ∙ cond_same b None
 get_member-put_if_some (Some v) k ms b rest = get_member-put k (value_data v) ms
 

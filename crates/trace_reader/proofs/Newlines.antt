@@ -46,7 +46,8 @@ too_long_below xs allowed h k p = record {
   within = omega arith;
 }
 
-pub too_long_at : (xs : List ℕ) (allowed : ℕ) → LONGEST_LINE < length xs → allowed ≡ LONGEST_LINE → HasNoNewline (take (min allowed (LONGEST_LINE + 1)) xs) → get_or xs LONGEST_LINE 0 ≢ 10 → HasTooLongLine xs allowed
+pub too_long_at : (xs : List ℕ) (allowed : ℕ) → LONGEST_LINE < length xs → allowed ≡ LONGEST_LINE →
+    HasNoNewline (take (min allowed (LONGEST_LINE + 1)) xs) → get_or xs LONGEST_LINE 0 ≢ 10 → HasTooLongLine xs allowed
 too_long_at xs allowed h k p q = record {
   there = omega arith;
   one_line = All-more (λ b. b ≢ 10) xs LONGEST_LINE 0 h (front_of_front xs LONGEST_LINE (min allowed (LONGEST_LINE + 1)) (omega arith) p) q;

@@ -13,7 +13,8 @@ use Rattle.serde_json.specs.Read.{of_json, of_members, converted, read}
 abbrev behind : Members → Option (json.Members × List Token) → Option (Members × List Token)
 behind found = converted (λ all. of_members all found)
 
-behind-member : (k : List ℕ) (j : json.Json) (d : Data) (found : Members) → of_json j ≡ Some d → (o : Option (json.Members × List Token)) → behind found (parse_map (json.member k j) o) ≡ behind (put k d found) o
+behind-member : (k : List ℕ) (j : json.Json) (d : Data) (found : Members) → of_json j ≡ Some d → (o : Option (json.Members × List Token)) →
+    behind found (parse_map (json.member k j) o) ≡ behind (put k d found) o
 behind-member k j d found e None = refl
 behind-member k j d found e (Some p) = rw e
 

@@ -1,5 +1,6 @@
 -- How the pieces of a trace, and their items, meet the steps of a cutter.
-use Rattle.std.proofs.Common.{◌≡◌, ◌≢◌, ℕ, ◌+◌, ◌<◌, ◌≤◌, ◌&&◌, false, eqb, ltb, leb, not, IsTrue, List, [], ◌∷◌, ◌++◌, length, take, drop, get_or, refl, sym, ap, ◌∙◌, arith, append_assoc, append-nil, length-append, length-take-le, take-append-drop, inl, inr}
+use Rattle.std.proofs.Common.{◌≡◌, ◌≢◌, ℕ, ◌+◌, ◌<◌, ◌≤◌, ◌&&◌, false, eqb, ltb, leb, not, IsTrue, List, [], ◌∷◌, ◌++◌, length, take, drop, get_or}
+use Rattle.std.proofs.Common.{refl, sym, ap, ◌∙◌, arith, append_assoc, append-nil, length-append, length-take-le, take-append-drop, inl, inr}
 use Rattle.std.specs.List.{concat}
 use Rattle.std.proofs.lemmas.Bool.{ne_eqb, cond-true, cond-false, le-ltb, lt-ltb, le-leb, lt-leb, cases_lt}
 use Rattle.std.proofs.lemmas.Bool.Decides.{eqb_tells}
@@ -102,13 +103,15 @@ unfolding item_of
 item_of-too_long limit before piece long within =
     cond-true _ _ _ (ap (λ b. b && leb (before + LONGEST_LINE) limit) (lt-ltb LONGEST_LINE (length (line_of piece)) long) ∙ le-leb (before + LONGEST_LINE) limit within)
 
-pub item_of-past_limit : (limit before : ℕ) (piece : List ℕ) → (LONGEST_LINE < length (line_of piece) → before + LONGEST_LINE ≤ limit → ⊥) → limit < before + length piece → item_of limit before piece ≡ refused TraceTooLong
+pub item_of-past_limit : (limit before : ℕ) (piece : List ℕ) → (LONGEST_LINE < length (line_of piece) → before + LONGEST_LINE ≤ limit → ⊥) →
+    limit < before + length piece → item_of limit before piece ≡ refused TraceTooLong
 unfolding item_of
 item_of-past_limit limit before piece not_long past =
     let long = length (line_of piece) in
     let test : (ltb LONGEST_LINE long && leb (before + LONGEST_LINE) limit) ≡ false =
     elim (cases_lt LONGEST_LINE long) as (λ _. (ltb LONGEST_LINE long && leb (before + LONGEST_LINE) limit) ≡ false) [
-      | inl more ↦ ap (λ b. b && leb (before + LONGEST_LINE) limit) (lt-ltb LONGEST_LINE long more) ∙ lt-leb (before + LONGEST_LINE) limit (elim (cases_lt limit (before + LONGEST_LINE)) [ inl out ↦ out | inr close ↦ absurd (not_long more close) ])
+      | inl more ↦ ap (λ b. b && leb (before + LONGEST_LINE) limit) (lt-ltb LONGEST_LINE long more)
+          ∙ lt-leb (before + LONGEST_LINE) limit (elim (cases_lt limit (before + LONGEST_LINE)) [ inl out ↦ out | inr close ↦ absurd (not_long more close) ])
       | inr less ↦ ap (λ b. b && leb (before + LONGEST_LINE) limit) (le-ltb LONGEST_LINE long less)
     ] in
     cond-false _ _ _ test
@@ -127,7 +130,8 @@ item_of-given old new bytes piece n gives =
     item_of-short old.limit old.given piece (omega (arith, ap length same, gives.short)) (omega (arith, gives.given, gives.within)) ∙ ap item_of_line same
 
 -- the piece of a line that is given is the first, whatever the source gives after it; nothing, where its end was read
-pub pieces-given : (old new : CutterState) (bytes piece rest : List ℕ) (n : ℕ) → GivesLine old new bytes piece n → (IsTrue new.at_end → rest ≡ []) → pieces (bytes ++ rest) ≡ piece ∷ pieces (new.pending ++ rest)
+pub pieces-given : (old new : CutterState) (bytes piece rest : List ℕ) (n : ℕ) → GivesLine old new bytes piece n →
+    (IsTrue new.at_end → rest ≡ []) → pieces (bytes ++ rest) ≡ piece ∷ pieces (new.pending ++ rest)
 pieces-given old new bytes piece rest n gives end =
     let next = gives.next in
     ap (λ bs. pieces (bs ++ rest)) next.split
@@ -159,7 +163,8 @@ items_from-done new limit given rest done end =
     ap (λ bs. items_from limit given (pieces (bs ++ rest))) done.nothing_left ∙ ap (λ bs. items_from limit given (pieces bs)) end
 
 -- the first item left is the refusal that the cutter met, whatever the source gives after its bytes
-pub items_from-line_too_long : (new : CutterState) (rest : List ℕ) → HasTooLongLine new.pending (room new) → (more : List Item) × (items_from new.limit new.given (pieces (new.pending ++ rest)) ≡ refused LineTooLong ∷ more)
+pub items_from-line_too_long : (new : CutterState) (rest : List ℕ) → HasTooLongLine new.pending (room new) →
+    (more : List Item) × (items_from new.limit new.given (pieces (new.pending ++ rest)) ≡ refused LineTooLong ∷ more)
 items_from-line_too_long new rest long =
     let front = take (LONGEST_LINE + 1) new.pending in
     let size : length front ≡ LONGEST_LINE + 1 = length-take-le (LONGEST_LINE + 1) new.pending long.there in
@@ -188,7 +193,8 @@ past_limit limit given bytes piece others is not_long past =
     )
 
 -- it is not whole in the bytes that the trace may still have, and is not too long by one byte more
-pub items_from-trace_too_long : (new : CutterState) (rest : List ℕ) → new.given ≤ new.limit → EndsPastLimit new.pending (room new) → (more : List Item) × (items_from new.limit new.given (pieces (new.pending ++ rest)) ≡ refused TraceTooLong ∷ more)
+pub items_from-trace_too_long : (new : CutterState) (rest : List ℕ) → new.given ≤ new.limit → EndsPastLimit new.pending (room new) →
+    (more : List Item) × (items_from new.limit new.given (pieces (new.pending ++ rest)) ≡ refused TraceTooLong ∷ more)
 items_from-trace_too_long new rest within past =
     let pending = new.pending in
     let n = room new in

@@ -1,5 +1,6 @@
 -- A step of the cutter, from the reading and from the cut that it found.
-use Rattle.std.proofs.Common.{◌≡◌, ℕ, ◌+◌, ◌-◌, ◌⊎◌, suc, Option, None, List, [], ◌∷◌, ◌++◌, length, take, drop, Result, Err, refl, sym, ap, ◌∙◌, arith, subst, append_assoc, length-append, length-take-le, inl, inr, add-one}
+use Rattle.std.proofs.Common.{◌≡◌, ℕ, ◌+◌, ◌-◌, ◌⊎◌, suc, Option, None, List, [], ◌∷◌, ◌++◌, length, take, drop, Result, Err, refl, sym, ap, ◌∙◌}
+use Rattle.std.proofs.Common.{arith, subst, append_assoc, length-append, length-take-le, inl, inr, add-one}
 use Rattle.std.proofs.Math.Seq.{split_at}
 use Rattle.std.specs.Option.{MatchOption}
 use Rattle.trace_reader.specs.declared.error.CutError.{CutError}

@@ -10,7 +10,8 @@ use Rattle.heap_base.specs.declared.limits.TheConstants.{MOST_THREADS}
 use Rattle.graph_meaning.specs.declared.event.Event.{Event}
 use Rattle.graph_meaning.specs.declared.event.Event.TheVariants.{Alloc, Store, SetWeak, Root, AssertDead, StartRegion, AssertAllDead, AssertInstances, AssertUnshared, AssertOwnedBy, Collect}
 use Rattle.graph_meaning.specs.declared.refusal.FieldName.{FieldName}
-use Rattle.graph_meaning.specs.declared.refusal.FieldName.TheVariants.{OpField, IdField, TypeField, SlotsField, ThreadField, AtField, SlotField, ToField, NameField, LimitField, OwnerField, OwneeField, WeakField}
+use Rattle.graph_meaning.specs.declared.refusal.FieldName.TheVariants.{OpField, IdField, TypeField, SlotsField, ThreadField, AtField, SlotField}
+use Rattle.graph_meaning.specs.declared.refusal.FieldName.TheVariants.{ToField, NameField, LimitField, OwnerField, OwneeField, WeakField}
 use Rattle.graph_meaning.specs.declared.refusal.Refusal.{Refusal}
 use Rattle.graph_meaning.specs.declared.refusal.Stop.{Stop}
 use Rattle.graph_meaning.specs.declared.refusal.Stop.TheVariants.{Refused, OutOfMemory}

@@ -4,7 +4,8 @@ use Rattle.serde_json.specs.Data.{Data, null, boolean, number, unsigned, string,
 use Rattle.serde_json.specs.Find.{get_member}
 use Rattle.serde_json.specs.View.{view}
 use Rattle.graph_meaning.specs.declared.refusal.FieldName.{FieldName}
-use Rattle.graph_meaning.specs.declared.refusal.FieldName.TheVariants.{OpField, IdField, TypeField, SlotsField, ThreadField, AtField, SlotField, ToField, NameField, LimitField, OwnerField, OwneeField, WeakField}
+use Rattle.graph_meaning.specs.declared.refusal.FieldName.TheVariants.{OpField, IdField, TypeField, SlotsField, ThreadField, AtField, SlotField}
+use Rattle.graph_meaning.specs.declared.refusal.FieldName.TheVariants.{ToField, NameField, LimitField, OwnerField, OwneeField, WeakField}
 use Rattle.trace_reader.specs.Meaning.{field_text}
 use Rattle.trace_reader.specs.declared.fields.Fields.{Fields}
 use Rattle.trace_reader.specs.declared.object.FieldValue.{FieldValue}

@@ -26,7 +26,8 @@ at_end_of (Some x) (Some rest) bytes trace e same read =
     let left : x ≡ bytes = cc in
     append_cancel_left trace rest [] (sym read ∙ left ∙ sym same ∙ sym (append-nil trace))
 
-whole_of : (limit : ℕ) (of : List Item → Report) (old new : Outside) (answer : Status) (bytes : List ℕ) → old.source.bytes ≡ Some bytes → ReportsTrace limit of old new answer → IsWhole limit of old new answer bytes
+whole_of : (limit : ℕ) (of : List Item → Report) (old new : Outside) (answer : Status) (bytes : List ℕ) → old.source.bytes ≡ Some bytes →
+    ReportsTrace limit of old new answer → IsWhole limit of old new answer bytes
 whole_of limit of old new answer bytes e r =
     let same = told old.source.bytes bytes r.bytes e r.trace in
     record {
@@ -38,7 +39,8 @@ whole_of limit of old new answer bytes e r =
       status = r.status ∙ ap (λ b. (of (items_of limit b)).status) same;
     }
 
-part_of : (limit : ℕ) (of : List Item → Report) (old new : Outside) (bytes : List ℕ) → old.source.bytes ≡ Some bytes → AppendsPartOfReport limit of old new → AppendsPart old.sink.bytes new.sink.bytes ((of (items_of limit bytes)).text)
+part_of : (limit : ℕ) (of : List Item → Report) (old new : Outside) (bytes : List ℕ) → old.source.bytes ≡ Some bytes →
+    AppendsPartOfReport limit of old new → AppendsPart old.sink.bytes new.sink.bytes ((of (items_of limit bytes)).text)
 part_of limit of old new bytes e r =
     subst (λ (b : List ℕ). AppendsPart old.sink.bytes new.sink.bytes ((of (items_of limit b)).text)) (told old.source.bytes bytes r.bytes e r.trace) r.part
 

@@ -1,5 +1,6 @@
 -- How the run of a whole trace ends.
-use Rattle.std.proofs.Common.{◌≡◌, ◌⊎◌, inl, inr, ℕ, ◌+◌, ◌≤◌, List, [], ◌∷◌, ◌++◌, length, take, Bool, true, false, ◌||◌, IsTrue, Option, Some, None, Result, Ok, Err, IfSome, refl, sym, ◌∙◌, ap, subst, arith}
+use Rattle.std.proofs.Common.{◌≡◌, ◌⊎◌, inl, inr, ℕ, ◌+◌, ◌≤◌, List, [], ◌∷◌, ◌++◌, length, take, Bool, true, false, ◌||◌, IsTrue, Option, Some}
+use Rattle.std.proofs.Common.{None, Result, Ok, Err, IfSome, refl, sym, ◌∙◌, ap, subst, arith}
 use Rattle.std.specs.List.{concat, AllByRecursion}
 use Rattle.std.specs.Io.KnownBytes.{Appends, Consumes, IsAtEnd}
 use Rattle.std.proofs.KnownBytes.{Consumes-trans, Appends-nil, Appends-trans}
@@ -35,7 +36,8 @@ AppendsPart-longer old new front rest (n, within, part) =
     (n, omega (arith, length-append front rest), subst (λ (t : List ℕ). Appends old new t) (sym (take-append-le n front rest within)) part)
 
 -- behind what was appended before, a part of the rest is a part of the whole
-pub AppendsPart-behind : (start held after : Option (List ℕ)) (front text whole : List ℕ) → whole ≡ front ++ text → Appends start held front → AppendsPart held after text → AppendsPart start after whole
+pub AppendsPart-behind : (start held after : Option (List ℕ)) (front text whole : List ℕ) → whole ≡ front ++ text → Appends start held front →
+    AppendsPart held after text → AppendsPart start after whole
 AppendsPart-behind start held after front text whole e before (n, within, part) = (
   length front + n,
   omega (arith, ap length e, length-append front text),
@@ -53,7 +55,9 @@ EndsRun-at at_end sink sink' r r' status same ends = subst (λ (x : Ran). EndsRu
 
 -- The trace is what was taken and the rest, which is empty where the end was read. A source that doesn't tell its bytes
 -- may as well have held what was taken, and no more.
-pub rest_of : (start after : Option (List ℕ)) (taken : List ℕ) (AtEnd : Type 0) → Consumes start after taken → (AtEnd → IfSome start (λ bytes. IsAtEnd after)) → (rest : List ℕ) × IfSome start (λ left. left ≡ taken ++ rest) × (AtEnd → rest ≡ []) × Consumes start after taken
+pub rest_of : (start after : Option (List ℕ)) (taken : List ℕ) (AtEnd : Type 0) → Consumes start after taken →
+    (AtEnd → IfSome start (λ bytes. IsAtEnd after)) →
+    (rest : List ℕ) × IfSome start (λ left. left ≡ taken ++ rest) × (AtEnd → rest ≡ []) × Consumes start after taken
 rest_of None after taken AtEnd consumed end = ([], tt, (λ _. refl), consumed)
 rest_of (Some xs) None taken AtEnd consumed end = absurd consumed
 rest_of (Some xs) (Some rest) taken AtEnd consumed end = (rest, consumed, end, consumed)
@@ -106,7 +110,9 @@ module _ {State : Type 0} (p : Meaning State) (limit : ℕ) (first : State) (sta
   read_or_halted true end either = inl (end refl)
   read_or_halted false end either = inr (subst IsTrue (sym whole_halted) either)
 
-  reports : (at_end : Bool) (status : Status) → (IsTrue at_end → Consumes start.source.bytes now'.source.bytes bytes) → IsTrue (at_end || (report_on rest).is_halted) → (report_on rest).status ≡ status → Appends now.sink.bytes now'.sink.bytes (report_on rest).text → ReportsTrace limit (report_by p first) start now' status
+  reports : (at_end : Bool) (status : Status) → (IsTrue at_end → Consumes start.source.bytes now'.source.bytes bytes) →
+      IsTrue (at_end || (report_on rest).is_halted) → (report_on rest).status ≡ status →
+      Appends now.sink.bytes now'.sink.bytes (report_on rest).text → ReportsTrace limit (report_by p first) start now' status
   reports at_end status end either is appended = record {
     bytes = bytes;
     trace = all.trace;
@@ -138,11 +144,15 @@ pub record Trace (limit : ℕ) (start now' : Outside) (c c' : CutterState) (took
   pub nothing : IsTrue c'.at_end → rest ≡ []
   pub read : Consumes start.source.bytes now'.source.bytes (taken ++ took)
 
-trace_of : {State : Type 0} (p : Meaning State) (limit : ℕ) (first : State) (start now now' : Outside) (c c' : CutterState) (s : State) (n : ℕ) (took taken : List ℕ) (done : List (List ℕ)) (text : List ℕ) (result : Result (Option ℕ) CutError) →
+trace_of :
+    {State : Type 0} (p : Meaning State) (limit : ℕ) (first : State) (start now now' : Outside) (c c' : CutterState) (s : State) (n : ℕ)
+    (took taken : List ℕ) (done : List (List ℕ)) (text : List ℕ) (result : Result (Option ℕ) CutError) →
     Progress p limit first start now c s n taken done text → StepsOn c c' now.source.bytes now'.source.bytes now.source.faults now'.source.faults result took →
     Trace limit start now' c c' took taken done
 trace_of p limit first start now now' c c' s n took taken done text result so_far steps =
-    let (rest, left, nothing, read) = rest_of start.source.bytes now'.source.bytes (taken ++ took) (IsTrue c'.at_end) (Consumes-trans _ _ _ _ _ so_far.consumed steps.consumes) (end_now p limit first start now now' c c' s n taken took done text result so_far steps) in
+    let (rest, left, nothing, read) =
+    rest_of start.source.bytes now'.source.bytes (taken ++ took) (IsTrue c'.at_end) (Consumes-trans _ _ _ _ _ so_far.consumed steps.consumes)
+    (end_now p limit first start now now' c c' s n taken took done text result so_far steps) in
     let none : IsTrue c.at_end → took ++ rest ≡ [] = λ t. ap (λ x. x ++ rest) (steps.stays_at_end t).1 ∙ nothing (steps.stays_at_end t).0 in
     let cut : pieces ((taken ++ took) ++ rest) ≡ done ++ pieces ((c.pending ++ took) ++ rest) =
     ap pieces (append_assoc taken took rest) ∙ so_far.cut (took ++ rest) none ∙ ap (λ x. done ++ pieces x) (sym (append_assoc c.pending took rest)) in
@@ -184,7 +194,9 @@ finished p limit first start now now' c c' s n took status progress steps ends =
     (EndsRun-at true now.sink now'.sink _ _ status last ends)
 
 -- the bytes that the cutter holds are refused, whatever follows them
-refused_cut : {State : Type 0} (p : Meaning State) (limit : ℕ) (first : State) (start now now' : Outside) (c c' : CutterState) (s : State) (n : ℕ) (took : List ℕ) (r : Refusal) (result : Result (Option ℕ) CutError) (status : Status) →
+refused_cut :
+    {State : Type 0} (p : Meaning State) (limit : ℕ) (first : State) (start now now' : Outside) (c c' : CutterState) (s : State) (n : ℕ)
+    (took : List ℕ) (r : Refusal) (result : Result (Option ℕ) CutError) (status : Status) →
     InProgress p limit first start now c s n → StepsOn c c' now.source.bytes now'.source.bytes now.source.faults now'.source.faults result took →
     ((rest : List ℕ) → (more : List Item) × (items_from limit c.given (pieces ((c.pending ++ took) ++ rest)) ≡ refused r ∷ more)) →
     EndsRun false now.sink now'.sink (report_on (ends_so (refused_line (n + 1) r))) status → Ended limit (report_by p first) start now' status
@@ -230,8 +242,11 @@ line_ends p limit first start now now' c c' s n number took line status progress
 -- a line that is too long, and a trace that is too long
 refused_there : (limit : ℕ) (c c' : CutterState) (bytes rest : List ℕ) (r : Refusal) → c'.limit ≡ limit → c'.given ≡ c.given → c'.pending ≡ bytes →
     (more : List Item) × (items_from c'.limit c'.given (pieces (c'.pending ++ rest)) ≡ refused r ∷ more) → (more : List Item) × (items_from limit c.given (pieces (bytes ++ rest)) ≡ refused r ∷ more)
-refused_there limit c c' bytes rest r same given pending (more, first) =
-    (more, ap (λ l. items_from l c.given (pieces (bytes ++ rest))) (sym same) ∙ ap (λ b. items_from c'.limit b (pieces (bytes ++ rest))) (sym given) ∙ ap (λ t. items_from c'.limit c'.given (pieces (t ++ rest))) (sym pending) ∙ first)
+refused_there limit c c' bytes rest r same given pending (more, first) = (
+  more,
+  ap (λ l. items_from l c.given (pieces (bytes ++ rest))) (sym same) ∙ ap (λ b. items_from c'.limit b (pieces (bytes ++ rest))) (sym given)
+      ∙ ap (λ t. items_from c'.limit c'.given (pieces (t ++ rest))) (sym pending) ∙ first,
+)
 
 pub line_too_long : {State : Type 0} (p : Meaning State) (limit : ℕ) (first : State) (start now now' : Outside) (c c' : CutterState) (s : State) (n : ℕ) (took : List ℕ) (status : Status) →
     InProgress p limit first start now c s n → StepsOn c c' now.source.bytes now'.source.bytes now.source.faults now'.source.faults (Err cut_error.LineTooLong) took →
@@ -239,7 +254,8 @@ pub line_too_long : {State : Type 0} (p : Meaning State) (limit : ℕ) (first : 
 line_too_long p limit first start now now' c c' s n took status progress steps ends =
     let cut : Cuts c c' (c.pending ++ took) now.source.faults now'.source.faults (Err cut_error.LineTooLong) = cuts_of c.stopped _ _ progress.so_far.stopped steps.cuts in
     refused_cut p limit first start now now' c c' s n took refusal.LineTooLong _ status progress steps
-    (λ rest. refused_there limit c c' (c.pending ++ took) rest refusal.LineTooLong (steps.limit ∙ progress.so_far.same_limit) cut.0.given cut.0.pending (items_from-line_too_long c' rest cut.1.too_long)) ends
+    (λ rest. refused_there limit c c' (c.pending ++ took) rest refusal.LineTooLong (steps.limit ∙ progress.so_far.same_limit) cut.0.given
+    cut.0.pending (items_from-line_too_long c' rest cut.1.too_long)) ends
 
 pub trace_too_long : {State : Type 0} (p : Meaning State) (limit : ℕ) (first : State) (start now now' : Outside) (c c' : CutterState) (s : State) (n : ℕ) (took : List ℕ) (status : Status) →
     InProgress p limit first start now c s n → StepsOn c c' now.source.bytes now'.source.bytes now.source.faults now'.source.faults (Err cut_error.TraceTooLong) took →
@@ -247,7 +263,10 @@ pub trace_too_long : {State : Type 0} (p : Meaning State) (limit : ℕ) (first :
 trace_too_long p limit first start now now' c c' s n took status progress steps ends =
     let cut : Cuts c c' (c.pending ++ took) now.source.faults now'.source.faults (Err cut_error.TraceTooLong) = cuts_of c.stopped _ _ progress.so_far.stopped steps.cuts in
     refused_cut p limit first start now now' c c' s n took refusal.TraceTooLong _ status progress steps
-    (λ rest. refused_there limit c c' (c.pending ++ took) rest refusal.TraceTooLong (steps.limit ∙ progress.so_far.same_limit) cut.0.given cut.0.pending (items_from-trace_too_long c' rest (let given = cut.0.given in let within = progress.so_far.within in let kept = steps.limit in let same = progress.so_far.same_limit in omega arith) cut.1.past_limit)) ends
+    (λ rest. refused_there limit c c' (c.pending ++ took) rest refusal.TraceTooLong (steps.limit ∙ progress.so_far.same_limit) cut.0.given
+    cut.0.pending (items_from-trace_too_long c' rest
+    (let given = cut.0.given in let within = progress.so_far.within in let kept = steps.limit in let same = progress.so_far.same_limit in omega arith)
+    cut.1.past_limit)) ends
 
 -- ---- a read that failed
 

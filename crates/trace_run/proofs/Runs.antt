@@ -41,7 +41,8 @@ LeadsTo-push p s s' s'' items text more_text n item leads is = record {
 }
 
 -- where nothing follows, the run comes to its end
-pub run-leads_to : {State : Type 0} (p : Meaning State) (s s' : State) (items : List Item) (text : List ℕ) (n : ℕ) → LeadsTo p s items text s' n → run p s 0 items ≡ behind text (ends_so (end_of_trace (p.ends s')))
+pub run-leads_to : {State : Type 0} (p : Meaning State) (s s' : State) (items : List Item) (text : List ℕ) (n : ℕ) →
+    LeadsTo p s items text s' n → run p s 0 items ≡ behind text (ends_so (end_of_trace (p.ends s')))
 run-leads_to p s s' items text n leads =
     ap (run p s 0) (sym (append-nil items)) ∙ leads.on [] ∙ ap (behind text) (run-nil p s' n)
 
@@ -50,5 +51,6 @@ run-leads_to p s s' items text n leads =
 pub report_on-text : (text : List ℕ) (r : Ran) → (report_on (behind text r)).text ≡ text ++ (report_on r).text
 report_on-text text r = append_assoc text r.texts (last_text r.ending)
 
-pub report_on-behind : (text : List ℕ) (r : Ran) → ((report_on (behind text r)).status ≡ (report_on r).status) × ((report_on (behind text r)).is_halted ≡ (report_on r).is_halted) × ((report_on (behind text r)).is_at_end ≡ (report_on r).is_at_end)
+pub report_on-behind : (text : List ℕ) (r : Ran) →
+    ((report_on (behind text r)).status ≡ (report_on r).status) × ((report_on (behind text r)).is_halted ≡ (report_on r).is_halted) × ((report_on (behind text r)).is_at_end ≡ (report_on r).is_at_end)
 report_on-behind text r = (refl, refl, refl)

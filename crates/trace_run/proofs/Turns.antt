@@ -18,7 +18,8 @@ pub Appends-as : (old new : Option (List ℕ)) (text text' : List ℕ) → text 
 Appends-as old new text text' p appended = subst (λ (t : List ℕ). Appends old new t) p appended
 
 -- a run that ends behind a text that was written
-EndsRun-behind : (at_end : Bool) (sink mid sink' : Stream) (front : List ℕ) (r : Ran) (status : Status) → Appends sink.bytes mid.bytes front → sink.faults ≤ mid.faults → EndsRun at_end mid sink' (report_on r) status → EndsRun at_end sink sink' (report_on (behind front r)) status
+EndsRun-behind : (at_end : Bool) (sink mid sink' : Stream) (front : List ℕ) (r : Ran) (status : Status) → Appends sink.bytes mid.bytes front →
+    sink.faults ≤ mid.faults → EndsRun at_end mid sink' (report_on r) status → EndsRun at_end sink sink' (report_on (behind front r)) status
 EndsRun-behind at_end sink mid sink' front r Clean before later ends = (ends.0, ends.1, Appends-as _ _ _ _ (sym (report_on-text front r)) (Appends-trans _ _ _ _ _ before ends.2))
 EndsRun-behind at_end sink mid sink' front r Violated before later ends = (ends.0, ends.1, Appends-as _ _ _ _ (sym (report_on-text front r)) (Appends-trans _ _ _ _ _ before ends.2))
 EndsRun-behind at_end sink mid sink' front r TraceFault before later ends = (ends.0, Appends-as _ _ _ _ (sym (report_on-text front r)) (Appends-trans _ _ _ _ _ before ends.1))
@@ -30,7 +31,8 @@ EndsRun-behind at_end sink mid sink' front r NoMemory before later ends =
 EndsRun-behind at_end sink mid sink' front r Usage before later ends = absurd ends
 
 -- the text that was due was written, and the run halts
-pub ends-halted : {State : Type 0} (effect : Effect State) (line : ℕ) (sink mid sink' : Stream) (text : List ℕ) (last : Last) (found : LastText) (status : Status) → effect ≡ halts text last → IsLast last found →
+pub ends-halted : {State : Type 0} (effect : Effect State) (line : ℕ) (sink mid sink' : Stream) (text : List ℕ) (last : Last) (found : LastText) (status : Status) →
+    effect ≡ halts text last → IsLast last found →
     Appends sink.bytes mid.bytes text → sink.faults ≤ mid.faults → ((d : Last) → IsLast d found → EndsRun false mid sink' (report_on (ends_so (halted d))) status) →
     (on : State → Ran) → EndsRun false sink sink' (report_on (by_effect line effect on)) status
 ends-halted {State} effect line sink mid sink' text last found status is same before later ends on =
@@ -38,7 +40,8 @@ ends-halted {State} effect line sink mid sink' text last found status is same be
     (EndsRun-behind false sink mid sink' text (ends_so (halted last)) status before later (ends last same))
 
 -- a line is taken as one with an equal item is
-pub TakesLine-at : {State : Type 0} (m : Meaning State) (s after : State) (lines : ℕ) (item item' : Item) (sink sink' : Stream) (flow : Flow) → item' ≡ item → TakesLine (takes_item m s item) lines after sink sink' flow → TakesLine (takes_item m s item') lines after sink sink' flow
+pub TakesLine-at : {State : Type 0} (m : Meaning State) (s after : State) (lines : ℕ) (item item' : Item) (sink sink' : Stream) (flow : Flow) →
+    item' ≡ item → TakesLine (takes_item m s item) lines after sink sink' flow → TakesLine (takes_item m s item') lines after sink sink' flow
 TakesLine-at m s after lines item item' sink sink' flow same takes =
     subst (λ (i : Item). TakesLine (takes_item m s i) lines after sink sink' flow) (sym same) takes
 

@@ -35,7 +35,8 @@ pub record HasFacts (limit : ℕ) (of : List Item → Report) (old new : Outside
 -- Each of these follows, whatever the status.
 abbrev pub FactsFollow : Type 0
 FactsFollow =
-    (limit : ℕ) (of : List Item → Report) (old new : Outside) (answer : Status) (bytes : List ℕ) → old.source.bytes ≡ Some bytes → Ended limit of old new answer → HasFacts limit of old new answer bytes
+    (limit : ℕ) (of : List Item → Report) (old new : Outside) (answer : Status) (bytes : List ℕ) → old.source.bytes ≡ Some bytes →
+    Ended limit of old new answer → HasFacts limit of old new answer bytes
 
 -- no read of a source that counts no faults is said to have failed
 abbrev pub NoReadFails : Type 0

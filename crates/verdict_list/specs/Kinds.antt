@@ -1,5 +1,6 @@
 -- The types over their limit, by their numbers.
-use Rattle.std.specs.Prelude.{◌≡◌, ◌==◌, ℕ, ◌<◌, List, [], length, Bool, true, false, Option, None, Some, IsSome, IfSome, nat_lt, if◌then◌else◌, unwrap_or, slice_get, slice_index, slice_index_or, option_and_then}
+use Rattle.std.specs.Prelude.{◌≡◌, ◌==◌, ℕ, ◌<◌, List, [], length, Bool, true, false, Option, None, Some, IsSome, IfSome, nat_lt, if◌then◌else◌}
+use Rattle.std.specs.Prelude.{unwrap_or, slice_get, slice_index, slice_index_or, option_and_then}
 use Rattle.std.specs.Option.{option_map_or}
 use Rattle.graph_meaning.specs.Collecting.{instances}
 use Rattle.graph_meaning.specs.Heap.{Heap}

@@ -16,7 +16,10 @@ loop-id-preserved c =
     let keys = c.loop-id.set.keys in
     let id = c.id-item.result in
     let within : index < length ids = c.loop-id-test.true in
-    let inserted : c.insert.new.self.keys ≡ fold (insert_key nat_cmp) c.args.set.now.keys (take (index + 1) ids) = c.in-Ok.ensures.keys ∙ ap (λ ks. insert_key nat_cmp ks id) c.loop-id.invariant.inserted ∙ ap (insert_key nat_cmp (fold (insert_key nat_cmp) c.args.set.now.keys (take index ids))) c.id-item.is ∙ sym (fold_more (insert_key nat_cmp) c.args.set.now.keys ids index id within) in
+    let inserted : c.insert.new.self.keys ≡ fold (insert_key nat_cmp) c.args.set.now.keys (take (index + 1) ids) =
+    c.in-Ok.ensures.keys ∙ ap (λ ks. insert_key nat_cmp ks id) c.loop-id.invariant.inserted
+    ∙ ap (insert_key nat_cmp (fold (insert_key nat_cmp) c.args.set.now.keys (take index ids))) c.id-item.is
+    ∙ sym (fold_more (insert_key nat_cmp) c.args.set.now.keys ids index id within) in
     elim c.if-is_new.branch [
       | then-is_new w ↦
           let fresh : list_any (is_at (nat_cmp id)) keys ≡ false = not-true _ (sym c.in-Ok.ensures.added ∙ w.if-is_new.true) in

@@ -14,7 +14,8 @@ loop-owner-preserved-in_ok-insert c =
     let live : is_live t owner ≡ true = search rules in
     record {
       sorted = c.in_ok-insert.ensures.ordered;
-      gathered = λ id. rw c.in_ok-insert.ensures.keys (gather_live t keys left owner id live ∙ ap (λ ids. has_id keys id || (has_id ids id && is_live t id)) (sym first) ∙ c.loop-owner.invariant.gathered id);
+      gathered =
+          λ id. rw c.in_ok-insert.ensures.keys (gather_live t keys left owner id live ∙ ap (λ ids. has_id keys id || (has_id ids id && is_live t id)) (sym first) ∙ c.loop-owner.invariant.gathered id);
     }
 
 pub returns : goal.returns

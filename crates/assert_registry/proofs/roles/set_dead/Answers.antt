@@ -20,6 +20,7 @@ loop-id-preserved c =
     rw c.set_dead.ensures (record {
       cells = record { dead = length-set flags cell true ∙ i.cells.dead; unshared = i.cells.unshared; ownees = i.cells.ownees };
       live = All-rest (λ x. IsTrue (is_live p.table x)) id left c.loop-id.id-iterator first i.live;
-      set = λ other. flag_more p c.requires.placed id cell c.live_cell.ensures.cell flags left within other ∙ ap (λ ids. get_or flags other false || holds_one_of p ids other) (sym first) ∙ i.set other;
+      set =
+          λ other. flag_more p c.requires.placed id cell c.live_cell.ensures.cell flags left within other ∙ ap (λ ids. get_or flags other false || holds_one_of p ids other) (sym first) ∙ i.set other;
       rest = ap (λ (r : RoleTable). record r { dead = set flags cell true }) i.rest;
     })

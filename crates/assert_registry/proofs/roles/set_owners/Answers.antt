@@ -46,6 +46,8 @@ loop-ownee-preserved c =
       cells = record { dead = i.cells.dead; unshared = i.cells.unshared; ownees = length-set roles cell role ∙ i.cells.ownees };
       live = All-rest (λ x. IsTrue (is_live p.table x)) ownee (keys_of left) (keys_of c.loop-ownee.ownee-iterator) (ap keys_of first) i.live;
       owned = All-rest (λ o. owner_of owners o.0 ≡ Some o.1) (ownee, owner) left c.loop-ownee.ownee-iterator first i.owned;
-      set = λ other. role_more p c.requires.placed owners left roles ownee owner cell role c.live_cell.ensures.cell found c.role_of.ensures within other (subst (λ es. HasRoleSoFar p owners es roles other) first (i.set other));
+      set =
+          λ other. role_more p c.requires.placed owners left roles ownee owner cell role c.live_cell.ensures.cell found c.role_of.ensures within
+          other (subst (λ es. HasRoleSoFar p owners es roles other) first (i.set other));
       rest = ap (λ (r : RoleTable). record r { ownees = set roles cell role }) i.rest;
     })

@@ -59,9 +59,18 @@ loop-pass-preserved c =
       table = c.join_seat.ensures.0 ∙ inv.table;
       passes = all.0;
       rights = (let a = ap (λ (m : Me (Unit {0}) View). m.0.rights) me in let t = total-pop rights_of _ rest pass e in let i = inv.rights in omega arith);
-      adds = λ x. (let a = ap (λ (m : Me (Unit {0}) View). times x m.0.adds) me ∙ times-append x v.adds w.adds in let t = total-pop (λ p. times x (adds p)) _ rest pass e in let i = inv.adds x in omega arith);
-      wins = λ x. (let a = ap (λ (m : Me (Unit {0}) View). times x m.0.wins) me ∙ times-append x v.wins w.wins in let t = total-pop (λ p. times x (wins p)) _ rest pass e in let i = inv.wins x in omega arith);
-      marks = λ m x. (let a = ap (λ (u : Me (Unit {0}) View). times_marked m x u.0.marks) me ∙ times_marked-append m x v.marks w.marks in let t = total-pop (λ p. times_marked m x (marks p)) _ rest pass e in let i = inv.marks m x in omega arith);
+      adds =
+          λ x.
+          (let a = ap (λ (m : Me (Unit {0}) View). times x m.0.adds) me ∙ times-append x v.adds w.adds in
+          let t = total-pop (λ p. times x (adds p)) _ rest pass e in let i = inv.adds x in omega arith);
+      wins =
+          λ x.
+          (let a = ap (λ (m : Me (Unit {0}) View). times x m.0.wins) me ∙ times-append x v.wins w.wins in
+          let t = total-pop (λ p. times x (wins p)) _ rest pass e in let i = inv.wins x in omega arith);
+      marks =
+          λ m x.
+          (let a = ap (λ (u : Me (Unit {0}) View). times_marked m x u.0.marks) me ∙ times_marked-append m x v.marks w.marks in
+          let t = total-pop (λ p. times_marked m x (marks p)) _ rest pass e in let i = inv.marks m x in omega arith);
     }
 
 total-none : (f : Pass → ℕ) (ps : List Pass) → length ps ≡ 0 → total f ps ≡ 0

@@ -41,7 +41,10 @@ loop-number-preserved c =
       table = split.0 ∙ inv.table;
       seat = split.2 ∙ (λ i. (one_right_less (inv.seat i).0, (inv.seat i).1)) ∙ ap (λ (r : ℕ). (new_view r, [])) (omega arith);
       passes = All-same (IsPassOf h) _ _ items (All-push (IsPassOf h) old _ inv.passes (split.3 ∙ inv.table, refl));
-      numbers = ap numbers items ∙ (map-append (λ (p : Pass). p.number) old (_ ∷ []) ∙ (ap (λ ns. ns ++ n ∷ []) inv.numbers ∙ (range-push 1 (n - 1) n (omega arith) ∙ ap (range_with_len 1) {x = suc (n - 1)} {y = n + 1 - 1} (omega arith))));
+      numbers =
+          ap numbers items
+          ∙ (map-append (λ (p : Pass). p.number) old (_ ∷ [])
+          ∙ (ap (λ ns. ns ++ n ∷ []) inv.numbers ∙ (range-push 1 (n - 1) n (omega arith) ∙ ap (range_with_len 1) {x = suc (n - 1)} {y = n + 1 - 1} (omega arith))));
       fresh = All-same IsFresh _ _ items (All-push IsFresh old _ inv.fresh record {
         left = refl;
         adds = ap (λ (m : Me (Unit {0}) View). m.0.adds) me;

@@ -49,7 +49,8 @@ pub close-words-requires : goal.close-words-requires
 close-words-requires g c =
     record {
       passes = subst (ArePassesOf c.args.kit.memory.headers) (sym c.take_passes.ensures)
-          (passes-after (graph_of c.args.table.now c.args.roles.now) c.args.kit.memory.jobs.items c.run_phases.new.jobs.items c.run_phases.ensures.phases _ c.run_phases.ensures.ready c.args.kit.memory.pass_each);
+          (passes-after (graph_of c.args.table.now c.args.roles.now) c.args.kit.memory.jobs.items c.run_phases.new.jobs.items
+          c.run_phases.ensures.phases _ c.run_phases.ensures.ready c.args.kit.memory.pass_each);
     }
 
 pub returns-clause-trace : goal.returns-clause-trace
@@ -59,7 +60,9 @@ returns-clause-trace g c h stand =
     let ms = c.run_phases.new.jobs.items in
     let shut = c.close-words.ensures in
     let made = c.make.ensures in
-    is-trace p c.args.roles.now c.cells-cells.ensures.placed c.cells-cells.ensures.sound c.requires.roles kit.memory.jobs.items ms (all-new kit.memory.headers.cells (length kit.memory.tally) kit.memory.jobs.items kit.memory.new_jobs) c.run_phases.ensures.phases c.close-words.result
+    is-trace p c.args.roles.now c.cells-cells.ensures.placed c.cells-cells.ensures.sound c.requires.roles kit.memory.jobs.items ms
+    (all-new kit.memory.headers.cells (length kit.memory.tally) kit.memory.jobs.items kit.memory.new_jobs) c.run_phases.ensures.phases
+    c.close-words.result
     (are-closed (length p.cells) kit.memory.headers.cells c.close-words.result ms c.take_passes.new.passes.items c.requires.cells c.take_passes.ensures shut.counts shut.marks shut.wins)
     h stand c.make.result made.words (shut.cells ∙ c.requires.cells) made.counts
     (ap length made.instances ∙ c.merge_tallies.ensures.kinds ∙ c.requires.kinds)
@@ -72,6 +75,8 @@ returns-clause-counts g c h stand cell id at =
     let ms = c.run_phases.new.jobs.items in
     let shut = c.close-words.ensures in
     ap (λ w. count_in w cell) c.make.ensures.words
-    ∙ count-of p c.args.roles.now c.cells-cells.ensures.placed c.cells-cells.ensures.sound c.requires.roles kit.memory.jobs.items ms (all-new kit.memory.headers.cells (length kit.memory.tally) kit.memory.jobs.items kit.memory.new_jobs) c.run_phases.ensures.phases c.close-words.result
+    ∙ count-of p c.args.roles.now c.cells-cells.ensures.placed c.cells-cells.ensures.sound c.requires.roles kit.memory.jobs.items ms
+    (all-new kit.memory.headers.cells (length kit.memory.tally) kit.memory.jobs.items kit.memory.new_jobs) c.run_phases.ensures.phases
+    c.close-words.result
     (are-closed (length p.cells) kit.memory.headers.cells c.close-words.result ms c.take_passes.new.passes.items c.requires.cells c.take_passes.ensures shut.counts shut.marks shut.wins)
     h stand cell id at

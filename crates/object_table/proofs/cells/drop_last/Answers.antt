@@ -15,5 +15,8 @@ loop-cell-preserved c =
     let popped = c.pop.ensures ∙ before in
     record {
       count = ap length popped ∙ length-take-le (c.loop-cell.cell - 1) c.loop-cell.pages.cells (omega (arith, c.loop-cell.invariant.count));
-      front = front_more c.args.kept.now c.args.pages.now.cells c.loop-cell.pages.cells c.pop.new.self.cells (c.loop-cell.cell - 1) c.loop-cell.invariant.front (omega (arith, c.loop-cell.invariant.count, c.loop-cell-test.true)) popped (sym c.stays.ensures ∙ c.if-stays.false);
+      front =
+          front_more c.args.kept.now c.args.pages.now.cells c.loop-cell.pages.cells c.pop.new.self.cells (c.loop-cell.cell - 1)
+          c.loop-cell.invariant.front (omega (arith, c.loop-cell.invariant.count, c.loop-cell-test.true)) popped
+          (sym c.stays.ensures ∙ c.if-stays.false);
     }

@@ -9,7 +9,8 @@ pub loop-cell-init : goal.loop-cell-init
 loop-cell-init c = swept_none c.args.kept.now c.args.pages.now.cells c.len-cell.result c.len-cell.ensures
 
 pub sweep_cell-first-requires-clause-strong : goal.sweep_cell-first-requires-clause-strong
-sweep_cell-first-requires-clause-strong c = strong-not_swept c.args.kept.now c.args.pages.now.cells c.loop-cell.pages.cells c.loop-cell.cell c.loop-cell.first c.loop-cell.invariant c.loop-cell-test.true c.requires
+sweep_cell-first-requires-clause-strong c =
+    strong-not_swept c.args.kept.now c.args.pages.now.cells c.loop-cell.pages.cells c.loop-cell.cell c.loop-cell.first c.loop-cell.invariant c.loop-cell-test.true c.requires
 
 pub sweep_cell-first-requires-clause-in_range : goal.sweep_cell-first-requires-clause-in_range
 sweep_cell-first-requires-clause-in_range c = swept_within c.args.kept.now c.args.pages.now.cells c.loop-cell.pages.cells c.loop-cell.cell c.loop-cell.first c.loop-cell.invariant c.loop-cell-test.true
@@ -17,7 +18,10 @@ sweep_cell-first-requires-clause-in_range c = swept_within c.args.kept.now c.arg
 pub loop-cell-preserved : goal.loop-cell-preserved
 loop-cell-preserved c =
     let change = cell_after (is_flagged c.args.kept.now (c.loop-cell.cell - 1)) c.args.kept.now c.loop-cell.first in
-    swept_more c.args.kept.now c.args.pages.now.cells c.loop-cell.pages.cells c.sweep_cell-first.new.pages.cells c.loop-cell.cell c.loop-cell.first c.sweep_cell-first.result c.loop-cell.invariant c.loop-cell-test.true (put_alone c.loop-cell.pages c.sweep_cell-first.new.pages (c.loop-cell.cell - 1) change c.sweep_cell-first.ensures.put) c.sweep_cell-first.ensures.first
+    swept_more c.args.kept.now c.args.pages.now.cells c.loop-cell.pages.cells c.sweep_cell-first.new.pages.cells c.loop-cell.cell c.loop-cell.first
+    c.sweep_cell-first.result c.loop-cell.invariant c.loop-cell-test.true
+    (put_alone c.loop-cell.pages c.sweep_cell-first.new.pages (c.loop-cell.cell - 1) change c.sweep_cell-first.ensures.put)
+    c.sweep_cell-first.ensures.first
 
 pub returns-clause-cells : goal.returns-clause-cells
 returns-clause-cells c = (swept_all c.args.kept.now c.args.pages.now.cells c.loop-cell.pages.cells c.loop-cell.cell c.loop-cell.first c.loop-cell.invariant (omega arith)).0

@@ -11,5 +11,7 @@ invariant-loop-place l = record {
   within : l.place ≤ length l.ids;
   count : length l.cells.cells ≡ length l.initial.cells.cells;
   freed : (cell : ℕ) → held_at l.cells.cells cell ≡ held_unless (is_freed l.kept (drop l.place l.ids) cell) l.initial.cells.cells cell;
-  slots : l.slots + sum_by (λ e. slots_at_cell l.initial.cells.cells e.1) (filter (λ e. is_flagged l.kept e.1) (drop l.place l.ids)) ≡ sum_by (λ e. slots_at_cell l.initial.cells.cells e.1) (drop l.place l.ids);
+  slots :
+      l.slots + sum_by (λ e. slots_at_cell l.initial.cells.cells e.1) (filter (λ e. is_flagged l.kept e.1) (drop l.place l.ids))
+      ≡ sum_by (λ e. slots_at_cell l.initial.cells.cells e.1) (drop l.place l.ids);
 }

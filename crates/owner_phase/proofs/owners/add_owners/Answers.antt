@@ -26,16 +26,21 @@ module _ (n i : ℕ) (owners : List ℕ) (fs : List (List Task)) (some : 0 < n) 
 
 pub add-requires-clause-worker : goal.add-requires-clause-worker
 add-requires-clause-worker c =
-    (has-room c.args.workers c.loop-number.number c.args.owners.now c.loop-number.first.lists c.requires.some c.loop-number-test.true c.loop-number.invariant.lists c.args.first.now.room c.requires.room).0
+    (has-room c.args.workers c.loop-number.number c.args.owners.now c.loop-number.first.lists c.requires.some c.loop-number-test.true
+    c.loop-number.invariant.lists c.args.first.now.room c.requires.room).0
 
 pub add-requires-clause-room : goal.add-requires-clause-room
 add-requires-clause-room c =
-    let r = (has-room c.args.workers c.loop-number.number c.args.owners.now c.loop-number.first.lists c.requires.some c.loop-number-test.true c.loop-number.invariant.lists c.args.first.now.room c.requires.room).1 in
+    let r =
+    (has-room c.args.workers c.loop-number.number c.args.owners.now c.loop-number.first.lists c.requires.some c.loop-number-test.true
+    c.loop-number.invariant.lists c.args.first.now.room c.requires.room).1 in
     let e = c.loop-number.invariant.room in
     omega arith
 
 pub loop-number-preserved : goal.loop-number-preserved
 loop-number-preserved c = record {
-  lists = one-more c.args.workers c.loop-number.number c.args.owners.now c.loop-number.first.lists c.requires.some c.loop-number-test.true c.loop-number.invariant.lists c.add.new.self.lists c.add.ensures.lists;
+  lists =
+      one-more c.args.workers c.loop-number.number c.args.owners.now c.loop-number.first.lists c.requires.some c.loop-number-test.true
+      c.loop-number.invariant.lists c.add.new.self.lists c.add.ensures.lists;
   room = c.add.ensures.room ∙ c.loop-number.invariant.room;
 }

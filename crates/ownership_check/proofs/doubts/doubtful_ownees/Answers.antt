@@ -24,7 +24,11 @@ loop-number-preserved c =
     let was = c.loop-number.invariant in
     elim c.if-is_in_doubt.branch [
       | then-is_in_doubt+in_ok-push w ↦
-          rw w.doubts-is (w.in_ok-push.ensures.items ∙ ap (λ xs. xs ++ cell ∷ []) was ∙ ap (λ b. filter test (take i (cells_by_id p)) ++ cond b (cell ∷ []) []) (sym w.if-is_in_doubt.true ∙ c.is_in_doubt.ensures) ∙ sym more)
+          rw w.doubts-is
+          (w.in_ok-push.ensures.items ∙ ap (λ xs. xs ++ cell ∷ []) was
+          ∙ ap (λ b. filter test (take i (cells_by_id p)) ++ cond b (cell ∷ []) []) (sym w.if-is_in_doubt.true ∙ c.is_in_doubt.ensures) ∙ sym more)
       | else-is_in_doubt w ↦
-          rw w.doubts-is (was ∙ sym (append-nil (filter test (take i (cells_by_id p)))) ∙ ap (λ b. filter test (take i (cells_by_id p)) ++ cond b (cell ∷ []) []) (sym w.if-is_in_doubt.false ∙ c.is_in_doubt.ensures) ∙ sym more)
+          rw w.doubts-is
+          (was ∙ sym (append-nil (filter test (take i (cells_by_id p))))
+          ∙ ap (λ b. filter test (take i (cells_by_id p)) ++ cond b (cell ∷ []) []) (sym w.if-is_in_doubt.false ∙ c.is_in_doubt.ensures) ∙ sym more)
     ]

@@ -17,4 +17,5 @@ returns-clause-found c =
     let live : c.live-live.result ≡ length c.args.parts.now.heap.table.objects = c.live-live.ensures.count ∙ ap (λ (x : Placed). length x.table.objects) is in
     let freed = c.finish-swept.ensures.freed in
     let few = traced-few c.args.parts.now.heap in
-    found-by h rules c.args.number c.live-live.result _ c.finish-swept.result.freed c.finish-swept.result.cleared c.in_ok-verdicts.verdicts live (omega (arith, live, freed, few)) freed (c.finish-swept.ensures.cleared rules refl) (c.in_ok-verdicts.ensures.verdicts h stand trace)
+    found-by h rules c.args.number c.live-live.result _ c.finish-swept.result.freed c.finish-swept.result.cleared c.in_ok-verdicts.verdicts live
+    (omega (arith, live, freed, few)) freed (c.finish-swept.ensures.cleared rules refl) (c.in_ok-verdicts.ensures.verdicts h stand trace)

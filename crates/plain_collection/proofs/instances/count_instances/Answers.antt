@@ -21,22 +21,30 @@ loop-number-init c =
     rw c.in_ok-counts.ensures (record {
       counts = length-replicate n 0 ∙ c.kinds.ensures.count;
       few = no_count n;
-      counted = λ h trace. (replicate n None, length-replicate n None ∙ c.kinds.ensures.count, counted_none p (no_roles 0 0) h (replicate n 0) (replicate n None) (λ kind. get_or-replicate_same n kind 0) (λ kind. get_or-replicate_same n kind None));
+      counted =
+          λ h trace. (
+            replicate n None,
+            length-replicate n None ∙ c.kinds.ensures.count,
+            counted_none p (no_roles 0 0) h (replicate n 0) (replicate n None) (λ kind. get_or-replicate_same n kind 0) (λ kind. get_or-replicate_same n kind None),
+          );
     })
 
 pub bounds-kept-cell : goal.bounds-kept-cell
 bounds-kept-cell c =
-    let (id, held, at) = nth_id c.args.table.now c.loop-number.number c.nth_cell-cell.result c.live-number-end.result c.nth_cell-cell.ensures.cell c.loop-number-test.true c.live-number-end.ensures.count in
+    let (id, held, at) =
+    nth_id c.args.table.now c.loop-number.number c.nth_cell-cell.result c.live-number-end.result c.nth_cell-cell.ensures.cell c.loop-number-test.true c.live-number-end.ensures.count in
     omega (arith, held-within c.args.table.now c.nth_cell-cell.result id held, c.requires)
 
 pub kind_at-requires : goal.kind_at-requires
 kind_at-requires c =
-    let (id, held, at) = nth_id c.args.table.now c.loop-number.number c.nth_cell-cell.result c.live-number-end.result c.nth_cell-cell.ensures.cell c.loop-number-test.true c.live-number-end.ensures.count in
+    let (id, held, at) =
+    nth_id c.args.table.now c.loop-number.number c.nth_cell-cell.result c.live-number-end.result c.nth_cell-cell.ensures.cell c.loop-number-test.true c.live-number-end.ensures.count in
     record { taken = ap is_some held }
 
 pub count_one-requires-clause-kind : goal.count_one-requires-clause-kind
 count_one-requires-clause-kind c =
-    let (id, held, at) = nth_id c.args.table.now c.loop-number.number c.nth_cell-cell.result c.live-number-end.result c.nth_cell-cell.ensures.cell c.loop-number-test.true c.live-number-end.ensures.count in
+    let (id, held, at) =
+    nth_id c.args.table.now c.loop-number.number c.nth_cell-cell.result c.live-number-end.result c.nth_cell-cell.ensures.cell c.loop-number-test.true c.live-number-end.ensures.count in
     let within = kind-in_range c.args.table.now c.cells-all.ensures.placed c.nth_cell-cell.result c.kind_at.result (ap is_some held) c.kind_at.ensures.number in
     omega (arith, within, c.loop-number.invariant.counts)
 
@@ -54,14 +62,20 @@ loop-number-preserved c =
           let number = w.kind_at.result in
           let taken : IsSome (id_in p c.nth_cell-cell.result) = ap is_some held in
           let within : number < length p.table.kinds = kind-in_range p c.cells-all.ensures.placed c.nth_cell-cell.result number taken w.kind_at.ensures.number in
-          let named : kind_at p.table id ≡ name_of p number = ap (kind_at p.table) (sym (id-held p c.nth_cell-cell.result id held)) ∙ sym (kind-is p c.cells-all.ensures.placed c.nth_cell-cell.result number taken w.kind_at.ensures.number (name_of p number) (named_at p number within)) in
+          let named : kind_at p.table id ≡ name_of p number =
+          ap (kind_at p.table) (sym (id-held p c.nth_cell-cell.result id held))
+          ∙ sym (kind-is p c.cells-all.ensures.placed c.nth_cell-cell.result number taken w.kind_at.ensures.number (name_of p number) (named_at p number within)) in
           rw (w.counts-is, w.count_one.ensures) (record {
             counts = length-set c.loop-number.counts.items number _ ∙ i.counts;
             few = few_more c.loop-number.counts.items number c.loop-number.number (omega (arith, within, i.counts)) i.few;
             counted = λ h trace.
                 let traced : is_traced h id ≡ true = sym (trace c.nth_cell-cell.result id held) ∙ w.if-kept-cell.true in
-                let (places, many, counted) = i.counted h trace in
-                (_, length-set places number _ ∙ many, counted_more p (no_roles 0 0) h c.cells-all.ensures.sound.kinds c.loop-number.counts.items places c.loop-number.number id c.nth_cell-cell.result number at traced held within named i.counts many counted);
+                let (places, many, counted) = i.counted h trace in (
+                  _,
+                  length-set places number _ ∙ many,
+                  counted_more p (no_roles 0 0) h c.cells-all.ensures.sound.kinds c.loop-number.counts.items places c.loop-number.number id
+                      c.nth_cell-cell.result number at traced held within named i.counts many counted,
+                );
           })
       | else-kept-cell w ↦ rw w.counts-is (record {
         counts = i.counts;

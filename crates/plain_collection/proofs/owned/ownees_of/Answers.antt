@@ -25,7 +25,11 @@ loop-number-preserved c =
     let is = c.has_owner.ensures ∙ ap has_owner c.owner.ensures in
     elim c.if-has_owner.branch [
       | then-has_owner+in_ok-push w ↦
-          rw w.ownees-is (w.in_ok-push.ensures.items ∙ ap (λ xs. xs ++ cell ∷ []) was ∙ ap (λ b. filter test (take i (cells_by_id p)) ++ cond b (cell ∷ []) []) (sym w.if-has_owner.true ∙ is) ∙ sym more)
+          rw w.ownees-is
+          (w.in_ok-push.ensures.items ∙ ap (λ xs. xs ++ cell ∷ []) was
+          ∙ ap (λ b. filter test (take i (cells_by_id p)) ++ cond b (cell ∷ []) []) (sym w.if-has_owner.true ∙ is) ∙ sym more)
       | else-has_owner w ↦
-          rw w.ownees-is (was ∙ sym (append-nil (filter test (take i (cells_by_id p)))) ∙ ap (λ b. filter test (take i (cells_by_id p)) ++ cond b (cell ∷ []) []) (sym w.if-has_owner.false ∙ is) ∙ sym more)
+          rw w.ownees-is
+          (was ∙ sym (append-nil (filter test (take i (cells_by_id p))))
+          ∙ ap (λ b. filter test (take i (cells_by_id p)) ++ cond b (cell ∷ []) []) (sym w.if-has_owner.false ∙ is) ∙ sym more)
     ]

@@ -95,4 +95,6 @@ returns-clause-counts c before is_scanned said begun =
     let t = c.args.table.now.table in
     let many = length-map t.objects (λ (o : Object). o.id) in
     let all = take_all c.loop-number.number (ids t) (omega arith) in
-    counts-same p (λ id. before id ++ flat_map (slots_to t id) (filter is_scanned (take c.loop-number.number (ids t)))) _ c.loop-number.counts.items (λ id. ap (λ xs. before id ++ flat_map (slots_to t id) (filter is_scanned xs)) all) (c.loop-number.invariant.counts before is_scanned said begun)
+    counts-same p (λ id. before id ++ flat_map (slots_to t id) (filter is_scanned (take c.loop-number.number (ids t)))) _ c.loop-number.counts.items
+    (λ id. ap (λ xs. before id ++ flat_map (slots_to t id) (filter is_scanned xs)) all)
+    (c.loop-number.invariant.counts before is_scanned said begun)

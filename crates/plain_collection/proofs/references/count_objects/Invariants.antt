@@ -8,7 +8,9 @@ use Rattle.plain_collection.proofs.references.count_objects.Given as goal
 
 abbrev pub invariant-loop-number : goal.invariant-loop-number
 invariant-loop-number l = record {
-  counts : (before : ℕ → List Reference) (is_scanned : ℕ → Bool) → ScannedByCell l.table l.roles l.kept is_scanned → CountsLists l.table before l.fn.counts.items → CountsLists l.table (λ id. before id ++ flat_map (slots_to l.table.table id) (filter is_scanned (take l.number (ids l.table.table)))) l.counts.items;
+  counts : (before : ℕ → List Reference) (is_scanned : ℕ → Bool) → ScannedByCell l.table l.roles l.kept is_scanned →
+      CountsLists l.table before l.fn.counts.items →
+      CountsLists l.table (λ id. before id ++ flat_map (slots_to l.table.table id) (filter is_scanned (take l.number (ids l.table.table)))) l.counts.items;
   each : length l.counts.items ≡ length l.fn.counts.items;
   few : AtMost (2 ^ 32 + 2 ^ 32 * l.number) l.counts.items;
 }

@@ -21,7 +21,8 @@ loop-root-preserved c =
     let root : List ℕ × ℕ = get_or c.args.table.now.table.roots c.loop-root.root ([], 0) in
     let there : slice_get c.args.table.now.table.roots c.loop-root.root ≡ Some root = slice_get-get_or roots n ([], 0) within in
     let held : id_in c.args.table.now c.root_cell.result ≡ Some root.1 = subst (λ o. IfSome o (λ r. id_in c.args.table.now c.root_cell.result ≡ Some r.1)) there c.root_cell.ensures.cell in
-    let more : IsOneMore root.1 (by_root root.0) (by_roots (take n roots)) (by_roots (take (n + 1) roots)) = subst (λ rs. IsOneMore root.1 (by_root root.0) (by_roots (take n roots)) (by_roots rs)) (sym (take_more roots n ([], 0) within)) (one_more (λ r. by_root r.0) (λ r. r.1) (take n roots) root) in
+    let more : IsOneMore root.1 (by_root root.0) (by_roots (take n roots)) (by_roots (take (n + 1) roots)) =
+    subst (λ rs. IsOneMore root.1 (by_root root.0) (by_roots (take n roots)) (by_roots rs)) (sym (take_more roots n ([], 0) within)) (one_more (λ r. by_root r.0) (λ r. r.1) (take n roots) root) in
     let was = c.loop-root.invariant in
     let counts = c.loop-root.counts.items in
     let cell = c.root_cell.result in

@@ -53,7 +53,8 @@ loop-slot-preserved c =
             counts = λ before begun.
                 let more = one_more-after held.0 (by_slot holder slot) before (by_edges holder es) (by_edges holder later) next in
                 subst (CountsLists p (λ x. before x ++ by_edges holder later x)) (sym w.count_one.ensures)
-                (counted-more p (λ x. before x ++ by_edges holder es x) (λ x. before x ++ by_edges holder later x) counts w.in-Some.target held.0 (by_slot holder slot) c.requires.placed held.1 inside more (was.counts before begun));
+                (counted-more p (λ x. before x ++ by_edges holder es x) (λ x. before x ++ by_edges holder later x) counts w.in-Some.target held.0
+                (by_slot holder slot) c.requires.placed held.1 inside more (was.counts before begun));
             each = ap length w.count_one.ensures ∙ length-set counts w.in-Some.target _ ∙ was.each;
             few = λ most begun.
                 subst (AtMost (most + (slot + 1))) (sym w.count_one.ensures)
@@ -63,7 +64,8 @@ loop-slot-preserved c =
           let none = no-edge (edge_of (slot_in p c.args.holder slot)) (sym (sym (ap is_some w.in_default.is) ∙ c.slot_at.ensures.in_a_cell)) in
           rw w.counts-is (record {
             counts = λ before begun.
-                counts-same p (λ x. before x ++ by_edges holder es x) (λ x. before x ++ by_edges holder later x) counts (λ id. ap (λ xs. before id ++ by_edges holder xs id) (sym (edges-none slots slot within none))) (was.counts before begun);
+                counts-same p (λ x. before x ++ by_edges holder es x) (λ x. before x ++ by_edges holder later x) counts
+                (λ id. ap (λ xs. before id ++ by_edges holder xs id) (sym (edges-none slots slot within none))) (was.counts before begun);
             each = was.each;
             few = λ most begun. most-weaker counts (most + slot) (most + (slot + 1)) (omega arith) (was.few most begun);
           })
@@ -75,7 +77,8 @@ returns-clause-counts c before begun =
     let slots = slots_in c.args.table.now c.args.holder in
     let holder = id_at c.args.table.now.cells c.args.holder in
     let all = edges-all slots c.loop-slot.slot (omega arith) ∙ sym (edges-cell p c.args.holder holder (held-id p c.args.holder c.requires.holder)) in
-    counts-same p (λ id. before id ++ by_edges holder (edges_of (take c.loop-slot.slot slots)) id) _ c.loop-slot.counts.items (λ id. ap (λ xs. before id ++ by_edges holder xs id) all) (c.loop-slot.invariant.counts before begun)
+    counts-same p (λ id. before id ++ by_edges holder (edges_of (take c.loop-slot.slot slots)) id) _ c.loop-slot.counts.items
+    (λ id. ap (λ xs. before id ++ by_edges holder xs id) all) (c.loop-slot.invariant.counts before begun)
 
 pub returns-clause-few : goal.returns-clause-few
 returns-clause-few c most begun =

@@ -9,7 +9,8 @@ use Rattle.plain_collection.proofs.references.count_slots.Given as goal
 
 abbrev pub invariant-loop-slot : goal.invariant-loop-slot
 invariant-loop-slot l = record {
-  counts : (before : ℕ → List Reference) → CountsLists l.table before l.fn.counts.items → CountsLists l.table (λ id. before id ++ by_edges (id_at l.table.cells l.holder) (edges_of (take l.slot (slots_in l.table l.holder))) id) l.counts.items;
+  counts : (before : ℕ → List Reference) → CountsLists l.table before l.fn.counts.items →
+      CountsLists l.table (λ id. before id ++ by_edges (id_at l.table.cells l.holder) (edges_of (take l.slot (slots_in l.table l.holder))) id) l.counts.items;
   each : length l.counts.items ≡ length l.fn.counts.items;
   few : (most : ℕ) → AtMost most l.fn.counts.items → AtMost (most + l.slot) l.counts.items;
 }

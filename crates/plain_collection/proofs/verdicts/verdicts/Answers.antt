@@ -44,7 +44,9 @@ returns-clause-verdicts c h stand trace =
     let n = c.args.paths in
     let violating = c.in_ok-check.ensures.violating h stand (ownees-doubted p r h stand c.in_ok-ownees.ownees.items c.in_ok-ownees.ensures.ownees) in
     let ownees : GoesOn n c.in_ok-list.list (map (ownedby_verdict h) (violating_ownees h)) c.push_ownees.new.list =
-    subst (λ vs. GoesOn n c.in_ok-list.list vs c.push_ownees.new.list) (map_pairs (ownedby_verdict h) (owned_pair p h) c.in_ok-check.check.ownees (violating_ownees h) (ownees-are p r h c.in_ok-check.check stand violating))
+    subst (λ vs. GoesOn n c.in_ok-list.list vs c.push_ownees.new.list)
+    (map_pairs (ownedby_verdict h) (owned_pair p h) c.in_ok-check.check.ownees (violating_ownees h)
+    (ownees-are p r h c.in_ok-check.check stand violating))
     (c.in_ok-push_ownees.ensures.verdicts h stand violating) in
     whole n c.in_ok-list.list c.push_ownees.new.list (counted_in p t) h (c.in_ok-list.ensures.verdicts h stand trace.counts) ownees
     ∙ ap (first_with_paths n) (verdicts-agree p c.cells-cells.ensures.placed h t trace.references (subst (λ tb. AllLive tb h.unshared) stand.table stand.refers.unshared))

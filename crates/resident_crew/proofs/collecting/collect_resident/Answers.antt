@@ -7,5 +7,6 @@ pub returns : goal.returns
 returns g c =
     let a : Audit = c.args.auditor.now in
     let t = c.in_ok-traced.traced in
-    let agree : next_counted t a ≡ next_collection a = counted_as_defined a c.table-table.result.now c.table-table.ensures.table c.in_ok-traced.ensures.placed c.in_ok-roles.roles c.in_ok-roles.ensures.roles t c.in_ok-traced.ensures.counts in
+    let agree : next_counted t a ≡ next_collection a =
+    counted_as_defined a c.table-table.result.now c.table-table.ensures.table c.in_ok-traced.ensures.placed c.in_ok-roles.roles c.in_ok-roles.ensures.roles t c.in_ok-traced.ensures.counts in
     (c.in_ok-collection.ensures.found ∙ agree, c.in_ok-collection.ensures.after)

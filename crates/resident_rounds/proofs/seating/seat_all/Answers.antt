@@ -27,6 +27,8 @@ loop-job-preserved g c =
     record {
       all = append_assoc at.yielded (x ∷ []) _ ∙ rw (← steps) at.invariant.all;
       left = (let was = at.invariant.left in let gone = c.in-Some.ensures.steps.1 in omega arith);
-      made = subst (λ (z : List (List Task) × List _). Each R (at.yielded ++ x ∷ []) z.0 z.1) (λ i. (sym taken i, sym pushed.items i)) (each_more R at.yielded (take n fs) at.shares.items x (get_or fs n []) c.in_ok-seat.field-0 at.invariant.made here);
+      made =
+          subst (λ (z : List (List Task) × List _). Each R (at.yielded ++ x ∷ []) z.0 z.1) (λ i. (sym taken i, sym pushed.items i))
+          (each_more R at.yielded (take n fs) at.shares.items x (get_or fs n []) c.in_ok-seat.field-0 at.invariant.made here);
       count = omega arith;
     }

@@ -13,5 +13,6 @@ run-requires-clause-turns g c κs within =
     let few = c.workers-workers.ensures.few in
     let same : c.deref-2.result.now ≡ c.deref.result.now = c.deref-2.ensures ∙ sym c.deref.ensures in
     let first = subst (λ (s : Cells). AreFirst c.workers-workers.result s.count c.in_ok-first.first.lists) same c.in_ok-first.ensures in
-    enough_turns (λ (s : Cells). s.count) (λ (j : Counter). j.room) (λ (j : Counter). j.turns) cells js.items c.in_ok-first.first.lists (omega arith) c.in_ok-jobs.ensures.range c.in_ok-jobs.ensures.each
+    enough_turns (λ (s : Cells). s.count) (λ (j : Counter). j.room) (λ (j : Counter). j.turns) cells js.items c.in_ok-first.first.lists
+    (omega arith) c.in_ok-jobs.ensures.range c.in_ok-jobs.ensures.each
     (subst (λ (k : ℕ). AreFirst k cells c.in_ok-first.first.lists) (sym n) first)

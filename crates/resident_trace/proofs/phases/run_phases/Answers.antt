@@ -49,21 +49,24 @@ begin_root_phase-requires g c =
     record { firsts = owner_firsts c.lend.result.roles.now; begun = c.begin_owner_phase.ensures.begun; lists = c.begin_owner_phase.ensures.first; first_room = c.begin_owner_phase.ensures.first_room } in
     let went = goes-on Owner OwnerGains c.lend.ensures owners c.in_ok-after_owners.ensures.ran 67108866 (omega arith) c.requires.begin c.requires.turns in
     let held = all_held c.in_ok-after_owners.after_owners.items in
-    let taken_up : Begun TakeUp (λ gr. TakeUpGains gr held) c.lend-2.ensures c.in_ok-after_owners.after_owners.items c.begin_take_up.new.jobs.items c.begin_owner_phase.new.first c.begin_take_up.new.first =
+    let taken_up : Begun TakeUp (λ gr. TakeUpGains gr held) c.lend-2.ensures c.in_ok-after_owners.after_owners.items c.begin_take_up.new.jobs.items
+    c.begin_owner_phase.new.first c.begin_take_up.new.first =
     record { firsts = held_firsts c.in_ok-after_owners.after_owners.items; begun = c.begin_take_up.ensures.begun; lists = c.begin_take_up.ensures.first; first_room = c.begin_take_up.ensures.first_room } in
     subst (λ x. CanBegin x c.in_ok-after_take_up.after_take_up.items c.begin_take_up.new.first) (sym c.lend-3.ensures)
     (goes-on TakeUp (λ gr. TakeUpGains gr held) c.lend-2.ensures taken_up c.in_ok-after_take_up.ensures.ran 33554433 (omega arith) went.0 went.1).0
 
 pub run_jobs-requires-3-clause-can : goal.run_jobs-requires-3-clause-can
 run_jobs-requires-3-clause-can g c κs within =
-    (subst (λ x. HasBegun x Root (RootGains (graph_in x)) c.in_ok-after_take_up.after_take_up.items c.begin_root_phase.new.jobs.items c.begin_root_phase.new.first.lists) c.lend-3.ensures c.begin_root_phase.ensures.begun).can_run _ (omega arith)
+    (subst (λ x. HasBegun x Root (RootGains (graph_in x)) c.in_ok-after_take_up.after_take_up.items c.begin_root_phase.new.jobs.items
+    c.begin_root_phase.new.first.lists) c.lend-3.ensures c.begin_root_phase.ensures.begun).can_run _ (omega arith)
 
 pub run_jobs-requires-3-clause-jobs : goal.run_jobs-requires-3-clause-jobs
 run_jobs-requires-3-clause-jobs g c κs within =
     let owners : Begun Owner OwnerGains c.lend.ensures c.args.jobs.items c.begin_owner_phase.new.jobs.items c.args.first c.begin_owner_phase.new.first =
     record { firsts = owner_firsts c.lend.result.roles.now; begun = c.begin_owner_phase.ensures.begun; lists = c.begin_owner_phase.ensures.first; first_room = c.begin_owner_phase.ensures.first_room } in
     let held = all_held c.in_ok-after_owners.after_owners.items in
-    let taken_up : Begun TakeUp (λ gr. TakeUpGains gr held) c.lend-2.ensures c.in_ok-after_owners.after_owners.items c.begin_take_up.new.jobs.items c.begin_owner_phase.new.first c.begin_take_up.new.first =
+    let taken_up : Begun TakeUp (λ gr. TakeUpGains gr held) c.lend-2.ensures c.in_ok-after_owners.after_owners.items c.begin_take_up.new.jobs.items
+    c.begin_owner_phase.new.first c.begin_take_up.new.first =
     record { firsts = held_firsts c.in_ok-after_owners.after_owners.items; begun = c.begin_take_up.ensures.begun; lists = c.begin_take_up.ensures.first; first_room = c.begin_take_up.ensures.first_room } in
     c.begin_root_phase.ensures.begun.many
     ∙ as-many TakeUp (λ gr. TakeUpGains gr held) c.lend-2.ensures taken_up c.in_ok-after_take_up.ensures.ran

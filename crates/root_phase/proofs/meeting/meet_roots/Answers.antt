@@ -17,7 +17,9 @@ meet_one-requires-clause-turns c =
     let roots = c.requires.ready.sound.limits.roots in
     let count = c.roots-root-end.ensures.count in
     let within = c.loop-root-test.true in
-    let t = turns-left (lent c.args.shared.now) c.loop-root.root (record { job = c.args.job.now; lists = c.args.first.now.lists }) (record { job = c.loop-root.job; lists = c.loop-root.first.lists }) c.loop-root.invariant.met (omega arith) in
+    let t =
+    turns-left (lent c.args.shared.now) c.loop-root.root (record { job = c.args.job.now; lists = c.args.first.now.lists })
+    (record { job = c.loop-root.job; lists = c.loop-root.first.lists }) c.loop-root.invariant.met (omega arith) in
     omega arith
 
 pub meet_one-requires-clause-cell : goal.meet_one-requires-clause-cell
@@ -41,7 +43,8 @@ add-requires-clause-worker c =
     let workers : c.args.workers ≡ length c.args.first.now.lists = (sym (ap length c.requires.lists ∙ length-replicate c.args.workers _)) in
     let old : JobAndLists = record { job = c.args.job.now; lists = c.args.first.now.lists } in
     let now : JobAndLists = record { job = c.loop-root.job; lists = c.loop-root.first.lists } in
-    (has-room s c.loop-root.root c.root_cell-cell.result c.meet_one.result old now c.meet_one.new.job c.loop-root.invariant.met next c.args.workers c.loop-root.number workers c.loop-root.invariant.number c.if-meet_one.true c.args.first.now.room c.requires.some c.requires.room).0
+    (has-room s c.loop-root.root c.root_cell-cell.result c.meet_one.result old now c.meet_one.new.job c.loop-root.invariant.met next c.args.workers
+    c.loop-root.number workers c.loop-root.invariant.number c.if-meet_one.true c.args.first.now.room c.requires.some c.requires.room).0
 
 pub add-requires-clause-room : goal.add-requires-clause-room
 add-requires-clause-room c =
@@ -56,7 +59,10 @@ add-requires-clause-room c =
     let workers : c.args.workers ≡ length c.args.first.now.lists = (sym (ap length c.requires.lists ∙ length-replicate c.args.workers _)) in
     let old : JobAndLists = record { job = c.args.job.now; lists = c.args.first.now.lists } in
     let now : JobAndLists = record { job = c.loop-root.job; lists = c.loop-root.first.lists } in
-    let r = (has-room s c.loop-root.root c.root_cell-cell.result c.meet_one.result old now c.meet_one.new.job c.loop-root.invariant.met next c.args.workers c.loop-root.number workers c.loop-root.invariant.number c.if-meet_one.true c.args.first.now.room c.requires.some c.requires.room).1 in
+    let r =
+    (has-room s c.loop-root.root c.root_cell-cell.result c.meet_one.result old now c.meet_one.new.job c.loop-root.invariant.met next
+    c.args.workers c.loop-root.number workers c.loop-root.invariant.number c.if-meet_one.true c.args.first.now.room c.requires.some
+    c.requires.room).1 in
     let e = c.loop-root.invariant.room in
     omega arith
 
@@ -73,7 +79,9 @@ overflow_add-number c =
     let workers : c.args.workers ≡ length c.args.first.now.lists = (sym (ap length c.requires.lists ∙ length-replicate c.args.workers _)) in
     let old : JobAndLists = record { job = c.args.job.now; lists = c.args.first.now.lists } in
     let now : JobAndLists = record { job = c.loop-root.job; lists = c.loop-root.first.lists } in
-    let l = below s c.loop-root.root c.root_cell-cell.result c.meet_one.result old now c.meet_one.new.job c.loop-root.invariant.met next c.args.workers c.loop-root.number workers c.loop-root.invariant.number c.if-meet_one.true in
+    let l =
+    below s c.loop-root.root c.root_cell-cell.result c.meet_one.result old now c.meet_one.new.job c.loop-root.invariant.met next c.args.workers
+    c.loop-root.number workers c.loop-root.invariant.number c.if-meet_one.true in
     let few = c.requires.ready.placed.few in
     omega arith
 
@@ -92,9 +100,13 @@ loop-root-preserved c =
     let now : JobAndLists = record { job = c.loop-root.job; lists = c.loop-root.first.lists } in
     elim c.if-meet_one.branch [
       | then-meet_one w ↦
-          let r = goes-on s c.loop-root.root c.root_cell-cell.result c.meet_one.result old now c.meet_one.new.job c.loop-root.invariant.met next c.args.workers c.loop-root.number workers c.loop-root.invariant.number w.if-meet_one.true w.add.new.self.lists w.add.ensures.lists in
+          let r =
+          goes-on s c.loop-root.root c.root_cell-cell.result c.meet_one.result old now c.meet_one.new.job c.loop-root.invariant.met next
+          c.args.workers c.loop-root.number workers c.loop-root.invariant.number w.if-meet_one.true w.add.new.self.lists w.add.ensures.lists in
           rw (w.first-is, w.number-is) (record { met = r.0; number = r.1; ready = c.meet_one.ensures.ready; room = w.add.ensures.room ∙ c.loop-root.invariant.room })
       | else-meet_one w ↦
-          let r = passed-by s c.loop-root.root c.root_cell-cell.result c.meet_one.result old now c.meet_one.new.job c.loop-root.invariant.met next c.args.workers c.loop-root.number workers c.loop-root.invariant.number w.if-meet_one.false in
+          let r =
+          passed-by s c.loop-root.root c.root_cell-cell.result c.meet_one.result old now c.meet_one.new.job c.loop-root.invariant.met next
+          c.args.workers c.loop-root.number workers c.loop-root.invariant.number w.if-meet_one.false in
           rw (w.first-is, w.number-is) (record { met = r.0; number = r.1; ready = c.meet_one.ensures.ready; room = c.loop-root.invariant.room })
     ]

@@ -8,23 +8,28 @@ use Rattle.sweep.proofs.sweeping.sweep.Goals as goal
 pub overflow_sub-result : goal.overflow_sub-result
 overflow_sub-result c =
     let before = c.args.table.now.table in
-    let left : length c.keep.new.self.table.objects ≤ length before.objects = subst (λ (t : Table). length t.objects ≤ length before.objects) (sym c.keep.ensures.kept) (length-with_only (kept_ids c.args.table.now.cells c.args.kept.now) before) in
+    let left : length c.keep.new.self.table.objects ≤ length before.objects =
+    subst (λ (t : Table). length t.objects ≤ length before.objects) (sym c.keep.ensures.kept) (length-with_only (kept_ids c.args.table.now.cells c.args.kept.now) before) in
     omega (arith, c.live-before.ensures, c.live.ensures)
 
 pub returns-clause-assertions : goal.returns-clause-assertions
 returns-clause-assertions c =
     let kept = kept_ids c.args.table.now.cells c.args.kept.now in
-    let live : (id : ℕ) → is_live c.keep.new.self.table id ≡ has_id kept id = λ id. ap (λ (t : Table). is_live t id) c.keep.ensures.kept ∙ live_is_kept c.args.table.now c.args.kept.now c.cells.ensures.placed id in
+    let live : (id : ℕ) → is_live c.keep.new.self.table id ≡ has_id kept id =
+    λ id. ap (λ (t : Table). is_live t id) c.keep.ensures.kept ∙ live_is_kept c.args.table.now c.args.kept.now c.cells.ensures.placed id in
     c.keep-2.ensures ∙ assertions-kept c.keep.new.self.table kept live c.args.registry.now
 
 pub returns-clause-regions : goal.returns-clause-regions
 returns-clause-regions c =
     let kept = kept_ids c.args.table.now.cells c.args.kept.now in
-    let live : (id : ℕ) → is_live c.keep.new.self.table id ≡ has_id kept id = λ id. ap (λ (t : Table). is_live t id) c.keep.ensures.kept ∙ live_is_kept c.args.table.now c.args.kept.now c.cells.ensures.placed id in
+    let live : (id : ℕ) → is_live c.keep.new.self.table id ≡ has_id kept id =
+    λ id. ap (λ (t : Table). is_live t id) c.keep.ensures.kept ∙ live_is_kept c.args.table.now c.args.kept.now c.cells.ensures.placed id in
     c.keep-3.ensures ∙ regions-kept c.keep.new.self.table kept live c.args.regions.now
 
 pub returns-clause-heap : goal.returns-clause-heap
 returns-clause-heap c h traced parts =
     let kept = kept_ids c.args.table.now.cells c.args.kept.now in
     let count : c.live-before.result - c.live.result ≡ length c.args.table.now.table.objects - length c.keep.new.self.table.objects = omega (arith, c.live-before.ensures, c.live.ensures) in
-    sweeps h kept traced (record { placed = c.args.table.now; assertions = c.args.registry.now; regions = c.args.regions.now }) (record { placed = c.keep.new.self; assertions = c.keep-2.new.self; regions = c.keep-3.new.self }) (c.live-before.result - c.live.result) parts c.keep.ensures.kept (returns-clause-assertions c) (returns-clause-regions c) count
+    sweeps h kept traced (record { placed = c.args.table.now; assertions = c.args.registry.now; regions = c.args.regions.now })
+    (record { placed = c.keep.new.self; assertions = c.keep-2.new.self; regions = c.keep-3.new.self }) (c.live-before.result - c.live.result) parts
+    c.keep.ensures.kept (returns-clause-assertions c) (returns-clause-regions c) count

@@ -18,4 +18,5 @@ returns g c =
     let rules = rules_by c.args.plan.paths c.args.plan.react in
     let old = seen (stream_of g.S.Source.left g.S.Source.faults c.args.source.now) (stream_of g.K.Sink.held g.K.Sink.faults c.args.sink.now) in
     let new = seen (stream_of g.S.Source.left g.S.Source.faults c.run.new.source) (stream_of g.K.Sink.held g.K.Sink.faults c.run.new.sink) in
-    equal_reports LONGEST_TRACE (report_by audit_meaning (auditor_state rules c.in-Ok.auditor)) (audit_report rules) old new c.run.result (is_reported rules c.in-Ok.auditor _ c.in-Ok.ensures.first) c.run.ensures
+    equal_reports LONGEST_TRACE (report_by audit_meaning (auditor_state rules c.in-Ok.auditor)) (audit_report rules) old new c.run.result
+    (is_reported rules c.in-Ok.auditor _ c.in-Ok.ensures.first) c.run.ensures

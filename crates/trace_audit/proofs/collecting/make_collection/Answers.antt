@@ -10,7 +10,9 @@ returns g c =
     let new = c.collect.new.arg2 in
     let collected : IsCollected old (Ok c.in_ok-collection.collection) new = c.requires.collects _ _ _ _ _ c.in_ok-collection.ensures in
     record {
-      takes = λ rules by is. takes-due rules old new c.in_ok-collection.collection c.due_behind.result is collected (subst (λ r. IfOk c.due_behind.result (IsDue r c.in_ok-collection.collection)) (sym by) c.due_behind.ensures);
+      takes =
+          λ rules by is. takes-due rules old new c.in_ok-collection.collection c.due_behind.result is collected
+          (subst (λ r. IfOk c.due_behind.result (IsDue r c.in_ok-collection.collection)) (sym by) c.due_behind.ensures);
       rules = rules-kept old new c.in_ok-collection.collection collected;
       few = one_more old new c.in_ok-collection.collection collected;
     }

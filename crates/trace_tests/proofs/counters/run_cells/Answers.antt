@@ -20,5 +20,6 @@ run-requires-clause-turns g c κs within =
     let same : c.workers-2.result ≡ c.workers.result = c.workers-2.ensures ∙ sym c.workers.ensures in
     let few = c.args.crew.now.few in
     let is = c.workers.ensures in
-    enough_turns (λ (s : Cells). s.count) (λ (j : Counter). j.room) (λ (j : Counter). j.turns) c.args.cells.now.count js.items c.in_ok-first.first.lists (omega arith) c.in_ok-jobs.ensures.range c.in_ok-jobs.ensures.each
+    enough_turns (λ (s : Cells). s.count) (λ (j : Counter). j.room) (λ (j : Counter). j.turns) c.args.cells.now.count js.items
+    c.in_ok-first.first.lists (omega arith) c.in_ok-jobs.ensures.range c.in_ok-jobs.ensures.each
     (subst (λ k. AreFirst k c.args.cells.now.count c.in_ok-first.first.lists) (same ∙ sym n) c.in_ok-first.ensures)

@@ -7,7 +7,9 @@ use Rattle.header_rule.proofs.Sharing.{numbers-same}
 use Rattle.word_tests.proofs.headers.is_fair.Goals as goal
 
 -- passes that are the same, after they were written back
-written_back : (h : Headers) (n : ℕ) (ps qs rest : List Pass) → n ≡ length ps → length qs ≡ length ps → ((i : ℕ) (d : Pass) → i < length ps → IsSamePass h (slice_index_or ps i d) (slice_index_or qs i d)) → ArePassesOf h ps → ArePassesOf h (take n (qs ++ rest))
+written_back : (h : Headers) (n : ℕ) (ps qs rest : List Pass) → n ≡ length ps → length qs ≡ length ps →
+    ((i : ℕ) (d : Pass) → i < length ps → IsSamePass h (slice_index_or ps i d) (slice_index_or qs i d)) → ArePassesOf h ps →
+    ArePassesOf h (take n (qs ++ rest))
 written_back h n ps qs rest e l each are =
     subst (ArePassesOf h) (sym (ap (λ k. take k (qs ++ rest)) (e ∙ sym l) ∙ take-append_seam qs rest))
     (λ k d low. (each k d (omega arith)).0, numbers-same ps qs l (λ i d low. (each i d low).1) ∙ are.1)

@@ -10,7 +10,8 @@ pub invariant_of-self : goal.invariant_of-self
 invariant_of-self c =
     let t = c.args.table.now.table in
     let (consistent, room) = c.self.invariant in
-    let owners : c.retain-3.new.self.entries ≡ filter (λ o. is_live t o.0) c.self.inside.owners.entries = filter_same_pairs _ (λ o. is_live t o.0) _ (λ k v b w f' s. search rules) _ _ c.retain-3.ensures.filtered in (
+    let owners : c.retain-3.new.self.entries ≡ filter (λ o. is_live t o.0) c.self.inside.owners.entries =
+    filter_same_pairs _ (λ o. is_live t o.0) _ (λ k v b w f' s. search rules) _ _ c.retain-3.ensures.filtered in (
       record {
         dead = c.retain.ensures.ordered;
         unshared = c.retain-2.ensures.ordered;
@@ -25,5 +26,6 @@ returns c =
     let t = c.args.table.now.table in
     let dead : c.retain.new.self.keys ≡ filter (is_live t) c.self.inside.dead.keys = filter_same _ (is_live t) _ (λ x b f' s. search rules) _ _ c.retain.ensures.filtered in
     let unshared : c.retain-2.new.self.keys ≡ filter (is_live t) c.self.inside.unshared.keys = filter_same _ (is_live t) _ (λ x b f' s. search rules) _ _ c.retain-2.ensures.filtered in
-    let owners : c.retain-3.new.self.entries ≡ filter (λ o. is_live t o.0) c.self.inside.owners.entries = filter_same_pairs _ (λ o. is_live t o.0) _ (λ k v b w f' s. search rules) _ _ c.retain-3.ensures.filtered in
+    let owners : c.retain-3.new.self.entries ≡ filter (λ o. is_live t o.0) c.self.inside.owners.entries =
+    filter_same_pairs _ (λ o. is_live t o.0) _ (λ k v b w f' s. search rules) _ _ c.retain-3.ensures.filtered in
     rw (← c.self.view_is, dead, unshared, owners) refl

@@ -68,9 +68,17 @@ returns-clause-by_assertions c =
     let dead = c.self.inside.dead.keys in
     let unshared = c.self.inside.unshared.keys in
     rw (← c.self.view_is) (record {
-      dead = λ cell. ap (λ fs. get_or fs cell false) (dead_set c) ∙ c.set_dead.ensures.set cell ∙ ap (λ (r : RoleTable). get_or r.dead cell false || holds_one_of p dead cell) c.in_ok-roles.ensures ∙ ap (λ b. b || holds_one_of p dead cell) (get_or-replicate_same c.cells.result cell false);
-      unshared = λ cell. ap (λ fs. get_or fs cell false) (unshared_set c) ∙ c.set_unshared.ensures.set cell ∙ ap (λ fs. get_or fs cell false || holds_one_of p unshared cell) (none_before c) ∙ ap (λ b. b || holds_one_of p unshared cell) (get_or-replicate_same c.cells.result cell false);
-      ownees = λ cell. subst (λ (rs : List OwnerRole). IsRoleBy p (owner_at p c.self.inside.owners.entries cell) (get_or rs cell NotOwned)) (sym (ap (λ (r : RoleTable). r.ownees) c.add_owners.ensures.rest)) (c.set_owners.ensures.set cell);
+      dead =
+          λ cell. ap (λ fs. get_or fs cell false) (dead_set c) ∙ c.set_dead.ensures.set cell
+          ∙ ap (λ (r : RoleTable). get_or r.dead cell false || holds_one_of p dead cell) c.in_ok-roles.ensures
+          ∙ ap (λ b. b || holds_one_of p dead cell) (get_or-replicate_same c.cells.result cell false);
+      unshared =
+          λ cell. ap (λ fs. get_or fs cell false) (unshared_set c) ∙ c.set_unshared.ensures.set cell
+          ∙ ap (λ fs. get_or fs cell false || holds_one_of p unshared cell) (none_before c)
+          ∙ ap (λ b. b || holds_one_of p unshared cell) (get_or-replicate_same c.cells.result cell false);
+      ownees =
+          λ cell. subst (λ (rs : List OwnerRole). IsRoleBy p (owner_at p c.self.inside.owners.entries cell) (get_or rs cell NotOwned))
+          (sym (ap (λ (r : RoleTable). r.ownees) c.add_owners.ensures.rest)) (c.set_owners.ensures.set cell);
       limits = λ kind. ap (λ ls. get_or ls kind None) (limits_set c) ∙ c.set_limits.ensures.set kind ∙ ap (λ ls. get_or ls kind None) c.deref.ensures.value;
       owners = c.add_owners.ensures.added ∙ ap (map Some) c.in_ok-live.ensures;
     })

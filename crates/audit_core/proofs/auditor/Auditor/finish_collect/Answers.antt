@@ -32,10 +32,13 @@ returns-clause-found c =
     let is : p ≡ placed_in q = c.table-table.ensures in
     let roles : AreItsRoles before c.args.roles.now = subst (λ (a : Audit). AreItsRoles a c.args.roles.now) (sym whole) c.requires.roles in
     let trace : IsTraceOf (placed_in q) q.heap t = subst (λ (a : Audit). IsTraceOf (placed_of a) a.heap t) (sym whole) c.requires.trace in
-    let verdicts = c.in_ok-verdicts.ensures.verdicts q.heap (subst (λ (x : Placed). StandFor x c.args.roles.now q.heap) (sym is) roles.of_heap) (subst (λ (x : Placed). IsTraceOf x q.heap t) (sym is) trace) in
+    let verdicts =
+    c.in_ok-verdicts.ensures.verdicts q.heap (subst (λ (x : Placed). StandFor x c.args.roles.now q.heap) (sym is) roles.of_heap) (subst (λ (x : Placed). IsTraceOf x q.heap t) (sym is) trace) in
     let asked : rules.force ≡ is_some c.in_ok-to_clear.to_clear = ap (λ (a : Audit). a.rules.force) whole ∙ sym c.in_ok-to_clear.ensures.force in
     let force : rules.force ≡ is_some c.as_ref.result = asked ∙ sym c.as_ref.ensures.variant in
-    found_by (counted_in p t) q.heap rules (c.self.inside.collections + 1) c.live-live.result c.traced.result c.finish-swept.result.freed c.finish-swept.result.cleared c.in_ok-verdicts.verdicts (c.live-live.ensures.count ∙ ap (λ (x : Placed). length x.table.objects) is) (c.traced.ensures ∙ trace.traced)
+    found_by (counted_in p t) q.heap rules (c.self.inside.collections + 1) c.live-live.result c.traced.result c.finish-swept.result.freed
+    c.finish-swept.result.cleared c.in_ok-verdicts.verdicts (c.live-live.ensures.count ∙ ap (λ (x : Placed). length x.table.objects) is)
+    (c.traced.ensures ∙ trace.traced)
     c.finish-swept.ensures.freed (c.finish-swept.ensures.cleared rules force) verdicts
     ∙ ap (λ (x : Placed). collection_counted (counted_in x t) rules (c.self.inside.collections + 1) q.heap) is
     ∙ ap (next_counted t) whole
@@ -51,7 +54,8 @@ returns-clause-after c =
     let is : p ≡ placed_in q = c.table-table.ensures in
     let roles : AreItsRoles before c.args.roles.now = subst (λ (a : Audit). AreItsRoles a c.args.roles.now) (sym whole) c.requires.roles in
     let trace : IsTraceOf (placed_in q) q.heap t = subst (λ (a : Audit). IsTraceOf (placed_of a) a.heap t) (sym whole) c.requires.trace in
-    let verdicts = c.in_ok-verdicts.ensures.verdicts q.heap (subst (λ (x : Placed). StandFor x c.args.roles.now q.heap) (sym is) roles.of_heap) (subst (λ (x : Placed). IsTraceOf x q.heap t) (sym is) trace) in
+    let verdicts =
+    c.in_ok-verdicts.ensures.verdicts q.heap (subst (λ (x : Placed). StandFor x c.args.roles.now q.heap) (sym is) roles.of_heap) (subst (λ (x : Placed). IsTraceOf x q.heap t) (sym is) trace) in
     let asked : rules.force ≡ is_some c.in_ok-to_clear.to_clear = ap (λ (a : Audit). a.rules.force) whole ∙ sym c.in_ok-to_clear.ensures.force in
     let force : rules.force ≡ is_some c.as_ref.result = asked ∙ sym c.as_ref.ensures.variant in
     left_by (counted_in p t) before c.finish-swept.new.self.cells c.finish-swept.new.self.heap c.len.result c.in_ok-verdicts.verdicts (c.finish-swept.ensures.left rules force) c.len.ensures verdicts

@@ -18,14 +18,16 @@ pub returns-in_err-reserve : goal.returns-in_err-reserve
 returns-in_err-reserve c =
     let s : Parts = record { placed = c.self.inside.table; assertions = c.self.inside.registry; regions = c.self.inside.regions } in
     rw (← c.self.view_is, handed_on c.from_residual.result OutOfMemory c.from_residual.ensures)
-    (steps-alloc s c.self.invariant s.placed c.reserve.new.self (Err OutOfMemory) c.args.id c.args.kind.now c.args.slots c.args.thread (sym c.in_default.ensures.refusal) tt (refl, ap (λ (r : RegionTable). r.regions) c.in_err-reserve.ensures.err))
+    (steps-alloc s c.self.invariant s.placed c.reserve.new.self (Err OutOfMemory) c.args.id c.args.kind.now c.args.slots c.args.thread
+    (sym c.in_default.ensures.refusal) tt (refl, ap (λ (r : RegionTable). r.regions) c.in_err-reserve.ensures.err))
 
 pub returns-in_err-alloc_object : goal.returns-in_err-alloc_object
 returns-in_err-alloc_object c =
     let s : Parts = record { placed = c.self.inside.table; assertions = c.self.inside.registry; regions = c.self.inside.regions } in
     let stop = c.in_err-alloc_object.field-0.0 in
     rw (← c.self.view_is, handed_on c.from_residual-in_err-alloc_object.result stop c.from_residual-in_err-alloc_object.ensures)
-    (steps-alloc s c.self.invariant c.alloc_object.new.self c.reserve.new.self (Err stop) c.args.id c.args.kind.now c.args.slots c.args.thread c.in_err-alloc_object.ensures.refused tt (c.in_err-alloc_object.ensures.err, ap (λ (r : RegionTable). r.regions) c.in_ok-reserve.ensures.done))
+    (steps-alloc s c.self.invariant c.alloc_object.new.self c.reserve.new.self (Err stop) c.args.id c.args.kind.now c.args.slots c.args.thread
+    c.in_err-alloc_object.ensures.refused tt (c.in_err-alloc_object.ensures.err, ap (λ (r : RegionTable). r.regions) c.in_ok-reserve.ensures.done))
 
 pub note-requires-clause-above : goal.note-requires-clause-above
 note-requires-clause-above c =
@@ -36,10 +38,20 @@ note-requires-clause-above c =
 pub invariant_of-self-2 : goal.invariant_of-self-2
 invariant_of-self-2 c =
     let s : Parts = record { placed = c.self.inside.table; assertions = c.self.inside.registry; regions = c.self.inside.regions } in
-    parts-alloc s c.self.invariant c.alloc_object.new.self c.note.new.self c.args.id c.args.kind.now c.args.slots c.args.thread (sym c.in_default.ensures.refusal) c.in_ok-alloc_object.ensures.added (ap (λ (r : RegionTable). r.regions) c.note.ensures ∙ ap (λ (r : RegionTable). with_member r.regions c.args.thread c.args.id) c.in_ok-reserve.ensures.done) (ap (λ (r : RegionTable). r.unasserted) c.note.ensures ∙ ap (λ (r : RegionTable). with_member r.unasserted c.args.thread c.args.id) c.in_ok-reserve.ensures.done)
+    parts-alloc s c.self.invariant c.alloc_object.new.self c.note.new.self c.args.id c.args.kind.now c.args.slots c.args.thread
+    (sym c.in_default.ensures.refusal) c.in_ok-alloc_object.ensures.added
+    (ap (λ (r : RegionTable). r.regions) c.note.ensures
+    ∙ ap (λ (r : RegionTable). with_member r.regions c.args.thread c.args.id) c.in_ok-reserve.ensures.done)
+    (ap (λ (r : RegionTable). r.unasserted) c.note.ensures
+    ∙ ap (λ (r : RegionTable). with_member r.unasserted c.args.thread c.args.id) c.in_ok-reserve.ensures.done)
 
 pub returns : goal.returns
 returns c =
     let s : Parts = record { placed = c.self.inside.table; assertions = c.self.inside.registry; regions = c.self.inside.regions } in
     rw (← c.self.view_is)
-    (steps-alloc s c.self.invariant c.alloc_object.new.self c.note.new.self (Ok tt) c.args.id c.args.kind.now c.args.slots c.args.thread (sym c.in_default.ensures.refusal) (c.in_ok-alloc_object.ensures.added, (ap (λ (r : RegionTable). r.regions) c.note.ensures ∙ ap (λ (r : RegionTable). with_member r.regions c.args.thread c.args.id) c.in_ok-reserve.ensures.done)) tt)
+    (steps-alloc s c.self.invariant c.alloc_object.new.self c.note.new.self (Ok tt) c.args.id c.args.kind.now c.args.slots c.args.thread
+    (sym c.in_default.ensures.refusal) (
+      c.in_ok-alloc_object.ensures.added,
+      (ap (λ (r : RegionTable). r.regions) c.note.ensures ∙ ap (λ (r : RegionTable). with_member r.regions c.args.thread c.args.id) c.in_ok-reserve.ensures.done),
+    )
+    tt)

@@ -22,7 +22,8 @@ pub returns-in_err-assert_dead_all : goal.returns-in_err-assert_dead_all
 returns-in_err-assert_dead_all c =
     let s : Parts = record { placed = c.self.inside.table; assertions = c.self.inside.registry; regions = c.self.inside.regions } in
     rw (← c.self.view_is, handed_on c.from_residual-in_err-assert_dead_all.result OutOfMemory c.from_residual-in_err-assert_dead_all.ensures)
-    (steps-assert_all_dead s c.self.invariant (record s { assertions = c.assert_dead_all.new.self }) (Err OutOfMemory) c.args.thread (sym c.in_ok-unasserted.ensures.refused) tt (ap (λ a. record s { assertions = a }) c.in_err-assert_dead_all.ensures.err)).0
+    (steps-assert_all_dead s c.self.invariant (record s { assertions = c.assert_dead_all.new.self }) (Err OutOfMemory) c.args.thread
+    (sym c.in_ok-unasserted.ensures.refused) tt (ap (λ a. record s { assertions = a }) c.in_err-assert_dead_all.ensures.err)).0
 
 module _ (c : In_ok-finish) where
   -- the parts before the region ends, and after it

@@ -19,27 +19,46 @@ pub returns-in_err-reserve_kinds : goal.returns-in_err-reserve_kinds
 returns-in_err-reserve_kinds c =
     let s : Parts = record { placed = c.self.inside.table; assertions = c.self.inside.registry; regions = c.self.inside.regions } in
     rw (← c.self.view_is, handed_on c.from_residual.result OutOfMemory c.from_residual.ensures)
-    (steps-no_limit s c.self.invariant c.args.kind.now c.args.limit OutOfMemory s.placed c.reserve_kinds.new.self 0 (sym c.in_default.ensures) refl (c.in_err-reserve_kinds.ensures.err ∙ no_more_room s.assertions))
+    (steps-no_limit s c.self.invariant c.args.kind.now c.args.limit OutOfMemory s.placed c.reserve_kinds.new.self 0 (sym c.in_default.ensures) refl
+    (c.in_err-reserve_kinds.ensures.err ∙ no_more_room s.assertions))
 
 pub invariant_of-self-in_err-number : goal.invariant_of-self-in_err-number
 invariant_of-self-in_err-number c =
     let s : Parts = record { placed = c.self.inside.table; assertions = c.self.inside.registry; regions = c.self.inside.regions } in
-    parts-no_limit s c.self.invariant c.args.kind.now c.args.limit c.kind_of.new.self c.reserve_kinds.new.self (length s.placed.table.kinds + 1) c.in_err-number.ensures.err (c.in_ok-reserve_kinds.ensures.done ∙ ap (λ n. record s.assertions { limits = with_room s.assertions.limits (n + 1) }) c.kinds.ensures.count)
+    parts-no_limit s c.self.invariant c.args.kind.now c.args.limit c.kind_of.new.self c.reserve_kinds.new.self (length s.placed.table.kinds + 1)
+    c.in_err-number.ensures.err
+    (c.in_ok-reserve_kinds.ensures.done ∙ ap (λ n. record s.assertions { limits = with_room s.assertions.limits (n + 1) }) c.kinds.ensures.count)
 
 pub returns-in_err-number : goal.returns-in_err-number
 returns-in_err-number c =
     let s : Parts = record { placed = c.self.inside.table; assertions = c.self.inside.registry; regions = c.self.inside.regions } in
     let stop = c.in_err-number.field-0.0 in
     rw (← c.self.view_is, handed_on c.from_residual-in_err-number.result stop c.from_residual-in_err-number.ensures)
-    (steps-no_limit s c.self.invariant c.args.kind.now c.args.limit stop c.kind_of.new.self c.reserve_kinds.new.self (length s.placed.table.kinds + 1) c.in_err-number.ensures.refused c.in_err-number.ensures.err (c.in_ok-reserve_kinds.ensures.done ∙ ap (λ n. record s.assertions { limits = with_room s.assertions.limits (n + 1) }) c.kinds.ensures.count))
+    (steps-no_limit s c.self.invariant c.args.kind.now c.args.limit stop c.kind_of.new.self c.reserve_kinds.new.self
+    (length s.placed.table.kinds + 1) c.in_err-number.ensures.refused c.in_err-number.ensures.err
+    (c.in_ok-reserve_kinds.ensures.done ∙ ap (λ n. record s.assertions { limits = with_room s.assertions.limits (n + 1) }) c.kinds.ensures.count))
 
 pub invariant_of-self-2 : goal.invariant_of-self-2
 invariant_of-self-2 c =
     let s : Parts = record { placed = c.self.inside.table; assertions = c.self.inside.registry; regions = c.self.inside.regions } in
-    parts-limit s c.self.invariant c.args.kind.now c.args.limit c.kind_of.new.self c.assert_instances.new.self (length s.placed.table.kinds + 1) c.in_ok-number.number (sym c.in_default.ensures) c.in_ok-number.ensures.seen c.in_ok-number.ensures.number (c.assert_instances.ensures ∙ ap (λ (a : Assertions). record a { limits = slice_set a.limits c.in_ok-number.number (Some c.args.limit) }) (c.in_ok-reserve_kinds.ensures.done ∙ ap (λ n. record s.assertions { limits = with_room s.assertions.limits (n + 1) }) c.kinds.ensures.count)) (room_for_kind s.assertions.limits s.placed.table.kinds c.args.kind.now c.in_ok-number.number (subst (λ (t : Table). position (bytes_eq c.args.kind.now) t.kinds ≡ Some c.in_ok-number.number) c.in_ok-number.ensures.seen c.in_ok-number.ensures.number))
+    parts-limit s c.self.invariant c.args.kind.now c.args.limit c.kind_of.new.self c.assert_instances.new.self (length s.placed.table.kinds + 1)
+    c.in_ok-number.number (sym c.in_default.ensures) c.in_ok-number.ensures.seen c.in_ok-number.ensures.number
+    (c.assert_instances.ensures
+    ∙ ap (λ (a : Assertions). record a { limits = slice_set a.limits c.in_ok-number.number (Some c.args.limit) })
+    (c.in_ok-reserve_kinds.ensures.done ∙ ap (λ n. record s.assertions { limits = with_room s.assertions.limits (n + 1) }) c.kinds.ensures.count))
+    (room_for_kind s.assertions.limits s.placed.table.kinds c.args.kind.now c.in_ok-number.number
+    (subst (λ (t : Table). position (bytes_eq c.args.kind.now) t.kinds ≡ Some c.in_ok-number.number) c.in_ok-number.ensures.seen
+    c.in_ok-number.ensures.number))
 
 pub returns : goal.returns
 returns c =
     let s : Parts = record { placed = c.self.inside.table; assertions = c.self.inside.registry; regions = c.self.inside.regions } in
     rw (← c.self.view_is)
-    (steps-limit s c.self.invariant c.args.kind.now c.args.limit c.kind_of.new.self c.assert_instances.new.self (length s.placed.table.kinds + 1) c.in_ok-number.number (sym c.in_default.ensures) c.in_ok-number.ensures.seen c.in_ok-number.ensures.number (c.assert_instances.ensures ∙ ap (λ (a : Assertions). record a { limits = slice_set a.limits c.in_ok-number.number (Some c.args.limit) }) (c.in_ok-reserve_kinds.ensures.done ∙ ap (λ n. record s.assertions { limits = with_room s.assertions.limits (n + 1) }) c.kinds.ensures.count)) (room_for_kind s.assertions.limits s.placed.table.kinds c.args.kind.now c.in_ok-number.number (subst (λ (t : Table). position (bytes_eq c.args.kind.now) t.kinds ≡ Some c.in_ok-number.number) c.in_ok-number.ensures.seen c.in_ok-number.ensures.number)) tt)
+    (steps-limit s c.self.invariant c.args.kind.now c.args.limit c.kind_of.new.self c.assert_instances.new.self (length s.placed.table.kinds + 1)
+    c.in_ok-number.number (sym c.in_default.ensures) c.in_ok-number.ensures.seen c.in_ok-number.ensures.number
+    (c.assert_instances.ensures
+    ∙ ap (λ (a : Assertions). record a { limits = slice_set a.limits c.in_ok-number.number (Some c.args.limit) })
+    (c.in_ok-reserve_kinds.ensures.done ∙ ap (λ n. record s.assertions { limits = with_room s.assertions.limits (n + 1) }) c.kinds.ensures.count))
+    (room_for_kind s.assertions.limits s.placed.table.kinds c.args.kind.now c.in_ok-number.number
+    (subst (λ (t : Table). position (bytes_eq c.args.kind.now) t.kinds ≡ Some c.in_ok-number.number) c.in_ok-number.ensures.seen
+    c.in_ok-number.ensures.number)) tt)

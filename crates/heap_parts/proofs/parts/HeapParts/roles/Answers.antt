@@ -13,4 +13,11 @@ pub returns-clause-of_heap : goal.returns-clause-of_heap
 returns-clause-of_heap c =
     let s : Parts = record { placed = c.self.inside.table; assertions = c.self.inside.registry; regions = c.self.inside.regions } in
     subst (λ (h : PlacedHeap). IfOk c.roles.result (λ r. StandFor (placed_in h) r h.heap)) c.self.view_is
-    (IfOk-weaker c.roles.result (AreRolesBy s.assertions s.placed) (λ r. StandFor (placed_in (placed_heap s)) r (heap_of s)) (λ r by. roles_stand_for_heap (heap_of s) s.assertions s.placed r c.self.invariant.heap.refers c.self.invariant.heap.ordered (record { dead = refl; unshared = refl; owners = refl; limits = named-agree s.placed.table.kinds s.assertions.limits c.cells.ensures.sound.kinds }) refl c.cells.ensures.sound.kinds by) c.roles.ensures.by_assertions)
+    (IfOk-weaker c.roles.result (AreRolesBy s.assertions s.placed) (λ r. StandFor (placed_in (placed_heap s)) r (heap_of s))
+    (λ r by. roles_stand_for_heap (heap_of s) s.assertions s.placed r c.self.invariant.heap.refers c.self.invariant.heap.ordered
+    (record {
+      dead = refl;
+      unshared = refl;
+      owners = refl;
+      limits = named-agree s.placed.table.kinds s.assertions.limits c.cells.ensures.sound.kinds;
+    }) refl c.cells.ensures.sound.kinds by) c.roles.ensures.by_assertions)

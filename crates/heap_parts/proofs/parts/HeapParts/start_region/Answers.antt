@@ -8,10 +8,14 @@ use Rattle.heap_parts.proofs.parts.HeapParts.start_region.Goals as goal
 pub invariant_of-self : goal.invariant_of-self
 invariant_of-self c =
     let s : Parts = record { placed = c.self.inside.table; assertions = c.self.inside.registry; regions = c.self.inside.regions } in
-    (steps-start_region s c.self.invariant c.start.new.self c.start.result c.args.thread c.start.ensures.refused (on_ok_weaker c.start.result (λ e. (ap (λ (r : RegionTable). r.regions) e, ap (λ (r : RegionTable). r.unasserted) e)) c.start.ensures.started) c.start.ensures.err).1
+    (steps-start_region s c.self.invariant c.start.new.self c.start.result c.args.thread c.start.ensures.refused
+    (on_ok_weaker c.start.result (λ e. (ap (λ (r : RegionTable). r.regions) e, ap (λ (r : RegionTable). r.unasserted) e)) c.start.ensures.started)
+    c.start.ensures.err).1
 
 pub returns : goal.returns
 returns c =
     let s : Parts = record { placed = c.self.inside.table; assertions = c.self.inside.registry; regions = c.self.inside.regions } in
     rw (← c.self.view_is)
-    (steps-start_region s c.self.invariant c.start.new.self c.start.result c.args.thread c.start.ensures.refused (on_ok_weaker c.start.result (λ e. (ap (λ (r : RegionTable). r.regions) e, ap (λ (r : RegionTable). r.unasserted) e)) c.start.ensures.started) c.start.ensures.err).0
+    (steps-start_region s c.self.invariant c.start.new.self c.start.result c.args.thread c.start.ensures.refused
+    (on_ok_weaker c.start.result (λ e. (ap (λ (r : RegionTable). r.regions) e, ap (λ (r : RegionTable). r.unasserted) e)) c.start.ensures.started)
+    c.start.ensures.err).0

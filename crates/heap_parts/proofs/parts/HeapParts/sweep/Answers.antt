@@ -24,7 +24,8 @@ module _ (c : goal.After-sweep) where
 
   sweeps : SweepsHeap (heap_of before) after c.sweep.result
   sweeps =
-      c.sweep.ensures.heap (heap_of before) (are_traced before c.self.invariant c.cells.ensures.placed c.args.kept.now tell) (parts_of_heap before c.self.invariant c.cells.ensures.placed c.args.kept.now tell)
+      c.sweep.ensures.heap (heap_of before) (are_traced before c.self.invariant c.cells.ensures.placed c.args.kept.now tell)
+      (parts_of_heap before c.self.invariant c.cells.ensures.placed c.args.kept.now tell)
 
 pub invariant_of-self : goal.invariant_of-self
 invariant_of-self c =

@@ -29,12 +29,15 @@ module _ (c : goal.After-clear_to-cleared) where
 
   sweeps : SweepsHeap (heap_of before) swept c.sweep-freed.result
   sweeps =
-      c.sweep-freed.ensures.heap (heap_of before) (are_traced before c.self.invariant c.cells.ensures.placed c.args.kept.now tell) (parts_of_heap before c.self.invariant c.cells.ensures.placed c.args.kept.now tell)
+      c.sweep-freed.ensures.heap (heap_of before) (are_traced before c.self.invariant c.cells.ensures.placed c.args.kept.now tell)
+      (parts_of_heap before c.self.invariant c.cells.ensures.placed c.args.kept.now tell)
 
   by_force : IsSweptByForce (heap_of before) after c.clear_to-cleared.result
   by_force =
       let to_clear = subst (λ (h : PlacedHeap). AreDeadAndTraced h c.args.to_clear.now) (sym c.self.view_is) c.requires.to_clear in
-      swept_by_force before c.self.invariant c.cells.ensures.placed c.args.kept.now tell swept c.cells-2.ensures.placed c.sweep-freed.result sweeps c.sweep-freed.ensures.table c.sweep-freed.ensures.cells c.sweep-freed.ensures.assertions c.sweep-freed.ensures.regions c.args.to_clear.now to_clear after c.clear_to-cleared.result c.clear_to-cleared.ensures.cleared refl refl c.clear_to-cleared.ensures.count
+      swept_by_force before c.self.invariant c.cells.ensures.placed c.args.kept.now tell swept c.cells-2.ensures.placed c.sweep-freed.result sweeps
+      c.sweep-freed.ensures.table c.sweep-freed.ensures.cells c.sweep-freed.ensures.assertions c.sweep-freed.ensures.regions c.args.to_clear.now
+      to_clear after c.clear_to-cleared.result c.clear_to-cleared.ensures.cleared refl refl c.clear_to-cleared.ensures.count
 
 pub invariant_of-self : goal.invariant_of-self
 invariant_of-self c = (by_force c).parts

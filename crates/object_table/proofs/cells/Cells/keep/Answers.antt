@@ -13,7 +13,8 @@ sweep-self-inside-requires c =
 pub invariant_of-self : goal.invariant_of-self
 invariant_of-self c =
     let shorter = front_shorter c.args.kept.now c.self.inside.pages.cells c.drop_last.new.pages.cells c.drop_last.ensures in
-    swept_housed c.args.kept.now c.drop_last.new.pages.cells c.sweep-self-inside.new.pages.cells c.sweep-self-inside.result (omega (arith, shorter, c.self.invariant.few)) c.sweep-self-inside.ensures.cells c.sweep-self-inside.ensures.first
+    swept_housed c.args.kept.now c.drop_last.new.pages.cells c.sweep-self-inside.new.pages.cells c.sweep-self-inside.result
+    (omega (arith, shorter, c.self.invariant.few)) c.sweep-self-inside.ensures.cells c.sweep-self-inside.ensures.first
 
 pub returns-clause-count : goal.returns-clause-count
 returns-clause-count c = rw (← c.self.view_is)

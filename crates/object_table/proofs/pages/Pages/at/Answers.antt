@@ -9,4 +9,7 @@ pub at-requires : goal.at-requires
 at-requires c = used_place c.self.inside.pages.items c.self.inside.count c.args.cell c.index.result.now c.self.invariant (rw (← c.self.view_is) at c.requires) c.index.ensures
 
 pub returns : goal.returns
-returns c = rw (← c.self.view_is) (used_read c.self.inside.pages.items c.self.inside.count c.args.cell c.index.result.now c.self.invariant (rw (← c.self.view_is) at c.requires) c.index.ensures c.at.result.now c.at.ensures)
+returns c =
+    rw (← c.self.view_is)
+    (used_read c.self.inside.pages.items c.self.inside.count c.args.cell c.index.result.now c.self.invariant (rw (← c.self.view_is) at c.requires)
+    c.index.ensures c.at.result.now c.at.ensures)

@@ -15,7 +15,12 @@ put-requires c =
     used_place c.self.inside.pages.items c.self.inside.count (c.self.inside.count - 1) c.index_mut-page.result.now c.self.invariant last c.index_mut-page.ensures.value
 
 pub invariant_of-self : goal.invariant_of-self
-invariant_of-self c = (popped c.self.inside.pages.items c.self.inside.count c.index_mut-page.result.now c.put.new.self (Empty None) c.self.invariant (rw (← c.self.view_is) at c.requires) c.index_mut-page.ensures.value c.put.ensures).0
+invariant_of-self c =
+    (popped c.self.inside.pages.items c.self.inside.count c.index_mut-page.result.now c.put.new.self (Empty None) c.self.invariant
+    (rw (← c.self.view_is) at c.requires) c.index_mut-page.ensures.value c.put.ensures).0
 
 pub returns : goal.returns
-returns c = rw (← c.self.view_is) (popped c.self.inside.pages.items c.self.inside.count c.index_mut-page.result.now c.put.new.self (Empty None) c.self.invariant (rw (← c.self.view_is) at c.requires) c.index_mut-page.ensures.value c.put.ensures).1
+returns c =
+    rw (← c.self.view_is)
+    (popped c.self.inside.pages.items c.self.inside.count c.index_mut-page.result.now c.put.new.self (Empty None) c.self.invariant
+    (rw (← c.self.view_is) at c.requires) c.index_mut-page.ensures.value c.put.ensures).1

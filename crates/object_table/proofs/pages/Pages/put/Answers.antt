@@ -9,7 +9,12 @@ pub put-requires : goal.put-requires
 put-requires c = used_place c.self.inside.pages.items c.self.inside.count c.args.cell c.index_mut-page.result.now c.self.invariant (rw (← c.self.view_is) at c.requires) c.index_mut-page.ensures.value
 
 pub invariant_of-self : goal.invariant_of-self
-invariant_of-self c = (used_put c.self.inside.pages.items c.self.inside.count c.args.cell c.index_mut-page.result.now c.self.invariant (rw (← c.self.view_is) at c.requires) c.index_mut-page.ensures.value c.args.value c.put.new.self c.put.ensures).0
+invariant_of-self c =
+    (used_put c.self.inside.pages.items c.self.inside.count c.args.cell c.index_mut-page.result.now c.self.invariant
+    (rw (← c.self.view_is) at c.requires) c.index_mut-page.ensures.value c.args.value c.put.new.self c.put.ensures).0
 
 pub returns : goal.returns
-returns c = rw (← c.self.view_is) (used_put c.self.inside.pages.items c.self.inside.count c.args.cell c.index_mut-page.result.now c.self.invariant (rw (← c.self.view_is) at c.requires) c.index_mut-page.ensures.value c.args.value c.put.new.self c.put.ensures).1
+returns c =
+    rw (← c.self.view_is)
+    (used_put c.self.inside.pages.items c.self.inside.count c.args.cell c.index_mut-page.result.now c.self.invariant
+    (rw (← c.self.view_is) at c.requires) c.index_mut-page.ensures.value c.args.value c.put.new.self c.put.ensures).1

@@ -23,16 +23,59 @@ learn-requires-clause-room c new =
     kind_fits (placed_of (parts_in c.self.inside)).table c.args.kind.now fits.allowed_kind new
 
 pub put-requires-clause-few : goal.put-requires-clause-few
-put-requires-clause-few c = rw c.reserve.ensures.cells (room_for_cell (parts_in c.self.inside) c.self.invariant c.args.kind.now c.args.id c.unwrap_or-number.result c.args.slots (rw (c.find-found.ensures, c.len.ensures.count) at c.unwrap_or-number.ensures) (rw (← c.self.view_is) at c.requires))
+put-requires-clause-few c =
+    rw c.reserve.ensures.cells
+    (room_for_cell (parts_in c.self.inside) c.self.invariant c.args.kind.now c.args.id c.unwrap_or-number.result c.args.slots
+    (rw (c.find-found.ensures, c.len.ensures.count) at c.unwrap_or-number.ensures) (rw (← c.self.view_is) at c.requires))
 
 pub invariant_of-self-2 : goal.invariant_of-self-2
-invariant_of-self-2 c = rw (c.put.ensures, c.in_ok-push.ensures.last, c.next.ensures, c.in-Ok.ensures.seen, c.number-self-inside.ensures.value, c.in_ok-object.ensures, c.reserve.ensures.cells) (table_with_one (parts_in c.self.inside) c.self.invariant c.args.kind.now c.args.id c.unwrap_or-number.result c.args.slots (rw (c.find-found.ensures, c.len.ensures.count) at c.unwrap_or-number.ensures) (rw (← c.self.view_is) at c.requires))
+invariant_of-self-2 c =
+    rw (
+      c.put.ensures,
+      c.in_ok-push.ensures.last,
+      c.next.ensures,
+      c.in-Ok.ensures.seen,
+      c.number-self-inside.ensures.value,
+      c.in_ok-object.ensures,
+      c.reserve.ensures.cells,
+    )
+    (table_with_one (parts_in c.self.inside) c.self.invariant c.args.kind.now c.args.id c.unwrap_or-number.result c.args.slots
+    (rw (c.find-found.ensures, c.len.ensures.count) at c.unwrap_or-number.ensures) (rw (← c.self.view_is) at c.requires))
 
 pub returns-clause-added : goal.returns-clause-added
-returns-clause-added c = rw (← c.self.view_is, c.put.ensures, c.in_ok-push.ensures.last, c.next.ensures, c.in-Ok.ensures.seen, c.number-self-inside.ensures.value, c.in_ok-object.ensures, c.reserve.ensures.cells) (added_is (parts_in c.self.inside) c.self.invariant.laid c.args.kind.now c.args.id c.unwrap_or-number.result c.args.slots (rw (c.find-found.ensures, c.len.ensures.count) at c.unwrap_or-number.ensures))
+returns-clause-added c =
+    rw (
+      ← c.self.view_is,
+      c.put.ensures,
+      c.in_ok-push.ensures.last,
+      c.next.ensures,
+      c.in-Ok.ensures.seen,
+      c.number-self-inside.ensures.value,
+      c.in_ok-object.ensures,
+      c.reserve.ensures.cells,
+    )
+    (added_is (parts_in c.self.inside) c.self.invariant.laid c.args.kind.now c.args.id c.unwrap_or-number.result c.args.slots
+    (rw (c.find-found.ensures, c.len.ensures.count) at c.unwrap_or-number.ensures))
 
 pub returns-clause-cells : goal.returns-clause-cells
-returns-clause-cells c = rw (← c.self.view_is, c.put.ensures, c.in_ok-push.ensures.last, c.next.ensures, c.in-Ok.ensures.seen, c.number-self-inside.ensures.value, c.in_ok-object.ensures, c.reserve.ensures.cells) (added_takes (parts_in c.self.inside) c.self.invariant.laid c.args.kind.now c.args.id c.unwrap_or-number.result c.args.slots (rw (c.find-found.ensures, c.len.ensures.count) at c.unwrap_or-number.ensures))
+returns-clause-cells c =
+    rw (
+      ← c.self.view_is,
+      c.put.ensures,
+      c.in_ok-push.ensures.last,
+      c.next.ensures,
+      c.in-Ok.ensures.seen,
+      c.number-self-inside.ensures.value,
+      c.in_ok-object.ensures,
+      c.reserve.ensures.cells,
+    )
+    (added_takes (parts_in c.self.inside) c.self.invariant.laid c.args.kind.now c.args.id c.unwrap_or-number.result c.args.slots
+    (rw (c.find-found.ensures, c.len.ensures.count) at c.unwrap_or-number.ensures))
 
 pub returns-clause-lowest : goal.returns-clause-lowest
-returns-clause-lowest c = rw (c.put.ensures, c.in_ok-object.ensures, c.reserve.ensures.cells) (added_lowest (parts_in c.self.inside) c.self.invariant.laid c.args.kind.now c.args.id c.unwrap_or-number.result c.args.slots (rw (c.find-found.ensures, c.len.ensures.count) at c.unwrap_or-number.ensures) (table_with_one (parts_in c.self.inside) c.self.invariant c.args.kind.now c.args.id c.unwrap_or-number.result c.args.slots (rw (c.find-found.ensures, c.len.ensures.count) at c.unwrap_or-number.ensures) (rw (← c.self.view_is) at c.requires)).laid)
+returns-clause-lowest c =
+    rw (c.put.ensures, c.in_ok-object.ensures, c.reserve.ensures.cells)
+    (added_lowest (parts_in c.self.inside) c.self.invariant.laid c.args.kind.now c.args.id c.unwrap_or-number.result c.args.slots
+    (rw (c.find-found.ensures, c.len.ensures.count) at c.unwrap_or-number.ensures)
+    (table_with_one (parts_in c.self.inside) c.self.invariant c.args.kind.now c.args.id c.unwrap_or-number.result c.args.slots
+    (rw (c.find-found.ensures, c.len.ensures.count) at c.unwrap_or-number.ensures) (rw (← c.self.view_is) at c.requires)).laid)

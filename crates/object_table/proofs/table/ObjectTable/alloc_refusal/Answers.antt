@@ -26,4 +26,10 @@ pub returns-else-slots-self : goal.returns-else-slots-self
 returns-else-slots-self c =
     let t : Table = (placed_of (parts_in c.self.inside)).table in
     let live = rw (← c.self.view_is) at c.live.ensures.count in
-    record { refusal = c.kind_refusal.ensures ∙ rw (← c.self.view_is) (sym (alloc_kind t c.args.id c.args.kind.now c.args.slots (omega arith) (omega (arith, live)) (omega (arith, c.self.invariant.counted, c.self.invariant.sound.limits.slots)))) }
+    record {
+      refusal =
+          c.kind_refusal.ensures
+          ∙ rw (← c.self.view_is)
+          (sym (alloc_kind t c.args.id c.args.kind.now c.args.slots (omega arith) (omega (arith, live))
+          (omega (arith, c.self.invariant.counted, c.self.invariant.sound.limits.slots))));
+    }

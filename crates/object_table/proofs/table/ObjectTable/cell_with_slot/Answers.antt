@@ -32,4 +32,7 @@ returns-clause-refused c =
     rw (← c.self.view_is) (sym (slot_there t c.args.at c.args.slot live (rw long (omega arith))))
 
 pub returns-clause-cell : goal.returns-clause-cell
-returns-clause-cell c = rw (← c.self.view_is) (id_in-held (parts_in c.self.inside) c.self.invariant.laid c.in-Some.cell ∙ stands_found (parts_in c.self.inside) c.self.invariant.laid c.args.at c.in-Some.cell (sym c.find.ensures ∙ c.in-Some.is))
+returns-clause-cell c =
+    rw (← c.self.view_is)
+    (id_in-held (parts_in c.self.inside) c.self.invariant.laid c.in-Some.cell
+    ∙ stands_found (parts_in c.self.inside) c.self.invariant.laid c.args.at c.in-Some.cell (sym c.find.ensures ∙ c.in-Some.is))

@@ -16,7 +16,10 @@ pub returns-clause-cleared : goal.returns-clause-cleared
 returns-clause-cleared c = rw (← c.self.view_is, c.clear_to-slots.ensures.cleared, c.clear_to-roots.ensures.cleared) (cleared_is (parts_in c.self.inside) c.self.invariant.laid c.args.marked.now)
 
 pub returns-clause-count : goal.returns-clause-count
-returns-clause-count c = rw (← c.self.view_is) (holders_counted (parts_in c.self.inside) c.self.invariant c.args.marked.now c.clear_to-slots.result c.clear_to-roots.result c.clear_to-slots.ensures.count c.clear_to-roots.ensures.count)
+returns-clause-count c =
+    rw (← c.self.view_is)
+    (holders_counted (parts_in c.self.inside) c.self.invariant c.args.marked.now c.clear_to-slots.result c.clear_to-roots.result
+    c.clear_to-slots.ensures.count c.clear_to-roots.ensures.count)
 
 pub returns-clause-cells : goal.returns-clause-cells
 returns-clause-cells c = rw (← c.self.view_is, c.clear_to-slots.ensures.cleared) (cleared_cells (parts_in c.self.inside) c.self.invariant.laid c.args.marked.now)

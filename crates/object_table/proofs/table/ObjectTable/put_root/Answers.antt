@@ -12,7 +12,8 @@ set-requires c new =
     (root_fits t c.args.name.now c.args.id (rw (← c.self.view_is) at (sym c.root_refusal.ensures ∙ c.in_default.is))).1 (ap is_some new)
 
 pub invariant_of-self-2 : goal.invariant_of-self-2
-invariant_of-self-2 c = rw c.in_ok-set.ensures.set (table_with_root (parts_in c.self.inside) c.self.invariant c.args.name.now c.args.id (rw (← c.self.view_is) at (sym c.root_refusal.ensures ∙ c.in_default.is)))
+invariant_of-self-2 c =
+    rw c.in_ok-set.ensures.set (table_with_root (parts_in c.self.inside) c.self.invariant c.args.name.now c.args.id (rw (← c.self.view_is) at (sym c.root_refusal.ensures ∙ c.in_default.is)))
 
 pub returns-clause-set : goal.returns-clause-set
 unfolding with_root

@@ -14,7 +14,8 @@ loop-stack-preserved c =
     let ys = c.loop-stack.stack-items in
     let same = c.loop-stack.auto.stack-items in
     let here = c.loop-stack-test.true in
-    turn (thread_with_ids (is_live c.args.table.now.table)) c.loop-stack.stack-index c.deref_mut-stack-items.result.now ys c.keep.new.self c.stack-item.result c.loop-stack.invariant (omega arith) c.keep.ensures
+    turn (thread_with_ids (is_live c.args.table.now.table)) c.loop-stack.stack-index c.deref_mut-stack-items.result.now ys c.keep.new.self
+    c.stack-item.result c.loop-stack.invariant (omega arith) c.keep.ensures
 
 pub invariant_of-self : goal.invariant_of-self
 invariant_of-self c =
@@ -24,7 +25,10 @@ invariant_of-self c =
     let v = c.self.inside.threads in
     let p = is_live c.args.table.now.table in
     let cut = with_items_is v ys (omega (arith, v.ok.0, ap length c.deref_mut-stack-items.ensures.value)) in
-    let changed = cut ∙ (all_turned (thread_with_ids p) c.loop-stack.stack-index c.deref_mut-stack-items.result.now ys c.loop-stack.invariant (omega arith) ∙ ap (map (thread_with_ids p)) c.deref_mut-stack-items.ensures.value) in
+    let changed =
+    cut
+    ∙ (all_turned (thread_with_ids p) c.loop-stack.stack-index c.deref_mut-stack-items.result.now ys c.loop-stack.invariant (omega arith)
+    ∙ ap (map (thread_with_ids p)) c.deref_mut-stack-items.ensures.value) in
     subst AreThreads (sym changed) (AreThreads-kept p v.items c.self.invariant)
 
 pub returns : goal.returns
@@ -35,5 +39,8 @@ returns c =
     let v = c.self.inside.threads in
     let p = is_live c.args.table.now.table in
     let cut = with_items_is v ys (omega (arith, v.ok.0, ap length c.deref_mut-stack-items.ensures.value)) in
-    let changed = cut ∙ (all_turned (thread_with_ids p) c.loop-stack.stack-index c.deref_mut-stack-items.result.now ys c.loop-stack.invariant (omega arith) ∙ ap (map (thread_with_ids p)) c.deref_mut-stack-items.ensures.value) in
+    let changed =
+    cut
+    ∙ (all_turned (thread_with_ids p) c.loop-stack.stack-index c.deref_mut-stack-items.result.now ys c.loop-stack.invariant (omega arith)
+    ∙ ap (map (thread_with_ids p)) c.deref_mut-stack-items.ensures.value) in
     ap region_table changed ∙ (region_table-kept p v.items ∙ ap (table_with_ids p) c.self.view_is)

@@ -21,7 +21,8 @@ invariant_of-self c =
     let here = place_of_reserved ts c.args.self.now c.self.view_is c.number.result c.args.thread c.number.ensures.value c.requires.reserved in
     let t : ThreadRegions = c.index_mut-stack.result.now in
     let before : AreRegions t.regions = subst (λ (u : ThreadRegions). AreRegions u.regions) (sym c.index_mut-stack.ensures.value) (AreRegions-at ts c.number.result t c.self.invariant here) in
-    let above = subst (IsAbove c.args.id) (sym (regions-at ts c.args.self.now c.self.view_is c.number.result c.args.thread c.number.ensures.value t t here c.index_mut-stack.ensures.value)) c.requires.above in
+    let above =
+    subst (IsAbove c.args.id) (sym (regions-at ts c.args.self.now c.self.view_is c.number.result c.args.thread c.number.ensures.value t t here c.index_mut-stack.ensures.value)) c.requires.above in
     AreThreads-set ts c.number.result c.note.new.self c.self.invariant (subst (λ (u : ThreadRegions). AreRegions u.regions) (sym c.note.ensures) (AreRegions-note c.args.id t.regions before above))
 
 pub returns : goal.returns
@@ -32,4 +33,5 @@ returns c =
     let t : ThreadRegions = c.index_mut-stack.result.now in
     let noted = λ (u : ThreadRegions). thread_with_object u c.args.id in
     let is_thread = thread-at ts old c.self.view_is c.number.result c.args.thread c.number.ensures.value t t here c.index_mut-stack.ensures.value in
-    thread_changed ts old c.self.view_is c.number.result c.args.thread c.number.ensures.value c.note.new.self (noted (thread_in ts old c.self.view_is c.number.result c.args.thread c.number.ensures.value)) here (c.note.ensures ∙ ap noted is_thread)
+    thread_changed ts old c.self.view_is c.number.result c.args.thread c.number.ensures.value c.note.new.self
+    (noted (thread_in ts old c.self.view_is c.number.result c.args.thread c.number.ensures.value)) here (c.note.ensures ∙ ap noted is_thread)

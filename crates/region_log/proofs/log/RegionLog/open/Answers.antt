@@ -15,7 +15,8 @@ invariant_of-self-2 c =
     let is = region_table-same ts c.self.inside.threads.items place.same ∙ c.self.view_is in
     let t : ThreadRegions = c.index_mut-stack.result.now in
     let before : AreRegions t.regions = subst (λ (u : ThreadRegions). AreRegions u.regions) (sym c.index_mut-stack.ensures.value) (AreRegions-at ts n t threads here) in
-    let few = subst (λ (rs : List (List ℕ)). length rs < MOST_REGIONS) (sym (regions-at ts c.args.self.now is n c.args.thread c.number.ensures.value t t here c.index_mut-stack.ensures.value)) c.requires in
+    let few =
+    subst (λ (rs : List (List ℕ)). length rs < MOST_REGIONS) (sym (regions-at ts c.args.self.now is n c.args.thread c.number.ensures.value t t here c.index_mut-stack.ensures.value)) c.requires in
     AreThreads-set ts n c.open.new.self threads
     (either_way c.open.result c.open.ensures.ok c.open.ensures.err
     (λ opened. subst (λ (u : ThreadRegions). AreRegions u.regions) (sym opened) (AreRegions-start t.regions before few))
@@ -32,5 +33,6 @@ returns-clause-opened c =
     let t : ThreadRegions = c.index_mut-stack.result.now in
     let is_thread = thread-at ts old is n c.args.thread c.number.ensures.value t t here c.index_mut-stack.ensures.value in
     on_ok_weaker c.open.result
-    (λ done. thread_changed ts old is n c.args.thread c.number.ensures.value c.open.new.self (thread_with_region (thread_in ts old is n c.args.thread c.number.ensures.value)) here (done ∙ ap thread_with_region is_thread))
+    (λ done. thread_changed ts old is n c.args.thread c.number.ensures.value c.open.new.self
+    (thread_with_region (thread_in ts old is n c.args.thread c.number.ensures.value)) here (done ∙ ap thread_with_region is_thread))
     c.open.ensures.ok

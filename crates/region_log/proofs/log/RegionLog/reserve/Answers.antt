@@ -15,7 +15,8 @@ returns-clause-done c =
     let t : ThreadRegions = c.index_mut-stack.result.now in
     let is_thread = thread-at ts old is n c.args.thread c.number.ensures.value t t here c.index_mut-stack.ensures.value in
     on_ok_weaker c.reserve.result
-    (λ reserved. reservation_changed ts old is n c.args.thread c.number.ensures.value c.reserve.new.self true here (reserved ∙ ap (λ (u : ThreadRegions). let kept : ThreadRegions = record u { reserved = true } in kept) is_thread))
+    (λ reserved. reservation_changed ts old is n c.args.thread c.number.ensures.value c.reserve.new.self true here
+    (reserved ∙ ap (λ (u : ThreadRegions). let kept : ThreadRegions = record u { reserved = true } in kept) is_thread))
     c.reserve.ensures.ok
 
 pub returns-clause-reserved : goal.returns-clause-reserved

@@ -34,6 +34,9 @@ returns c =
     let v = c.self.inside in
     let live = is_live c.args.table.now.table in
     let seen = c.self.view_is in
-    let regions = (λ i. regions_from (c.drop_freed.ensures.ids i) (c.drop_freed.ensures.starts i)) ∙ (regions-keep live v.ids.items v.starts.items ∙ ap (λ (t : ThreadRegions). map (filter live) t.regions) seen) in
-    let unasserted = (λ i. regions_from (c.drop_freed-2.ensures.ids i) (c.drop_freed-2.ensures.starts i)) ∙ (regions-keep live v.unasserted.items v.unasserted_starts.items ∙ ap (λ (t : ThreadRegions). map (filter live) t.unasserted) seen) in
+    let regions =
+    (λ i. regions_from (c.drop_freed.ensures.ids i) (c.drop_freed.ensures.starts i)) ∙ (regions-keep live v.ids.items v.starts.items ∙ ap (λ (t : ThreadRegions). map (filter live) t.regions) seen) in
+    let unasserted =
+    (λ i. regions_from (c.drop_freed-2.ensures.ids i) (c.drop_freed-2.ensures.starts i))
+    ∙ (regions-keep live v.unasserted.items v.unasserted_starts.items ∙ ap (λ (t : ThreadRegions). map (filter live) t.unasserted) seen) in
     λ i. record { regions = regions i; unasserted = unasserted i; reserved = (ap (λ (t : ThreadRegions). t.reserved) seen) i }

@@ -28,7 +28,9 @@ returns c =
           ap seen w.self-inside-is
           ∙ (λ i. record {
             regions = ((ap (λ (ids : List ℕ). regions_from ids v.starts.items) w.push_reserved.ensures.items) ∙ regions-append v.ids.items (id ∷ []) v.starts.items c.self.invariant.0.within) i;
-            unasserted = ((ap (λ (ids : List ℕ). regions_from ids v.unasserted_starts.items) w.push_reserved-then-not-is_empty.ensures.items) ∙ regions-append v.unasserted.items (id ∷ []) v.unasserted_starts.items c.self.invariant.2.within) i;
+            unasserted =
+                ((ap (λ (ids : List ℕ). regions_from ids v.unasserted_starts.items) w.push_reserved-then-not-is_empty.ensures.items)
+                ∙ regions-append v.unasserted.items (id ∷ []) v.unasserted_starts.items c.self.invariant.2.within) i;
             reserved = false;
           })
       | else-not-is_empty w ↦

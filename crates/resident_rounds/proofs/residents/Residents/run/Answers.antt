@@ -42,7 +42,8 @@ loop-self-smaller g c =
     let rs = c.deal.new.shares in
     let z = c.in_ok-shares-2.ensures.worked in
     let b : Pairs IsBegun qs rs = subst (λ (xs : List _). Pairs IsBegun xs rs) c.deref_mut.ensures.value c.in_ok-deal.ensures.dealt in
-    let left : c.gather.new.tasks.items ≡ all_left qs = c.in_ok-gather.ensures ∙ (ap (λ (ts : List Task). ts ++ all_left c.deref-in-loop-self.result.now) c.clear.ensures.items ∙ ap all_left c.deref-in-loop-self.ensures.value) in
+    let left : c.gather.new.tasks.items ≡ all_left qs =
+    c.in_ok-gather.ensures ∙ (ap (λ (ts : List Task). ts ++ all_left c.deref-in-loop-self.result.now) c.clear.ensures.items ∙ ap all_left c.deref-in-loop-self.ensures.value) in
     let t : to_do rs ≡ all_left qs = c.in_ok-deal.ensures.tasks ∙ (c.deref-in-loop-self-2.ensures.value ∙ left) in
     let len = c.in_ok-shares-2.shares.ok.0 in
     let same = take_front c.in_ok-shares-2.shares.len rs (drop (length rs) qs) (begun_length M s qs rs b ∙ sym len) in
@@ -58,7 +59,8 @@ loop-self-preserved g c =
     let rs = c.deal.new.shares in
     let z = c.in_ok-shares-2.ensures.worked in
     let b : Pairs IsBegun qs rs = subst (λ (xs : List _). Pairs IsBegun xs rs) c.deref_mut.ensures.value c.in_ok-deal.ensures.dealt in
-    let left : c.gather.new.tasks.items ≡ all_left qs = c.in_ok-gather.ensures ∙ (ap (λ (ts : List Task). ts ++ all_left c.deref-in-loop-self.result.now) c.clear.ensures.items ∙ ap all_left c.deref-in-loop-self.ensures.value) in
+    let left : c.gather.new.tasks.items ≡ all_left qs =
+    c.in_ok-gather.ensures ∙ (ap (λ (ts : List Task). ts ++ all_left c.deref-in-loop-self.result.now) c.clear.ensures.items ∙ ap all_left c.deref-in-loop-self.ensures.value) in
     let t : to_do rs ≡ all_left qs = c.in_ok-deal.ensures.tasks ∙ (c.deref-in-loop-self-2.ensures.value ∙ left) in
     let len = c.in_ok-shares-2.shares.ok.0 in
     let same = take_front c.in_ok-shares-2.shares.len rs (drop (length rs) qs) (begun_length M s qs rs b ∙ sym len) in
@@ -69,7 +71,9 @@ loop-self-preserved g c =
     let longer = zip_length M s ps qs z in
     let old = c.loop-self.shares.ok.0 in
     record {
-      gone = subst (λ (xs : List _). Progress M s (fit_tasks M s c.args.jobs.items) c.args.first.now.lists c.args.jobs.items xs) (sym same) (goes_further M s c.args.jobs.items c.args.first.now.lists ps qs rs was.gone z b t);
+      gone =
+          subst (λ (xs : List _). Progress M s (fit_tasks M s c.args.jobs.items) c.args.first.now.lists c.args.jobs.items xs) (sym same)
+          (goes_further M s c.args.jobs.items c.args.first.now.lists ps qs rs was.gone z b t);
       count = omega arith;
       crew = workers ∙ crew;
     }
@@ -94,7 +98,8 @@ pub returns-clause-same_fit : goal.returns-clause-same_fit
 returns-clause-same_fit g c =
     let M = g.J.Job.meaning in
     let s = arc_value c.args.shared.now in
-    subst (λ (ks : List _). ShareFit M s (fit_tasks M s c.args.jobs.items) ks) (sym c.in_ok-jobs.ensures) (share_fit M s c.args.jobs.items c.args.first.now.lists c.loop-self.shares.items c.loop-self.invariant.gone)
+    subst (λ (ks : List _). ShareFit M s (fit_tasks M s c.args.jobs.items) ks) (sym c.in_ok-jobs.ensures)
+    (share_fit M s c.args.jobs.items c.args.first.now.lists c.loop-self.shares.items c.loop-self.invariant.gone)
 
 pub returns-clause-turns : goal.returns-clause-turns
 returns-clause-turns g c =

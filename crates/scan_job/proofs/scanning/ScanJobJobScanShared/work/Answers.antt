@@ -41,10 +41,14 @@ loop-slot-preserved c =
     elim c.match-slot_at.branch [
       | in-Some w ↦
           rw (w.self-is, w.out-is)
-          (scan-meets s t i (record { job = c.args.self.now; out = c.args.out.now }) (record { job = c.loop-slot.self; out = c.loop-slot.out }) c.loop-slot.invariant c.slot_at.result within c.slot_at.ensures.leads c.slot_at.ensures.in_a_cell w.in-Some.cell w.meet_and_put.result (record { job = w.meet_and_put.new.self; out = w.meet_and_put.new.out }) w.in-Some.is w.meet_and_put.ensures.meets w.meet_and_put.ensures.within_wins w.meet_and_put.ensures.ready w.meet_and_put.ensures.puts w.meet_and_put.ensures.outbox)
+          (scan-meets s t i (record { job = c.args.self.now; out = c.args.out.now }) (record { job = c.loop-slot.self; out = c.loop-slot.out })
+          c.loop-slot.invariant c.slot_at.result within c.slot_at.ensures.leads c.slot_at.ensures.in_a_cell w.in-Some.cell w.meet_and_put.result
+          (record { job = w.meet_and_put.new.self; out = w.meet_and_put.new.out }) w.in-Some.is w.meet_and_put.ensures.meets
+          w.meet_and_put.ensures.within_wins w.meet_and_put.ensures.ready w.meet_and_put.ensures.puts w.meet_and_put.ensures.outbox)
       | in_default w ↦
           rw (w.self-is, w.out-is)
-          (scan-passes s t i (record { job = c.args.self.now; out = c.args.out.now }) (record { job = c.loop-slot.self; out = c.loop-slot.out }) c.loop-slot.invariant c.slot_at.result within c.slot_at.ensures.leads c.slot_at.ensures.in_a_cell w.in_default.is)
+          (scan-passes s t i (record { job = c.args.self.now; out = c.args.out.now }) (record { job = c.loop-slot.self; out = c.loop-slot.out })
+          c.loop-slot.invariant c.slot_at.result within c.slot_at.ensures.leads c.slot_at.ensures.in_a_cell w.in_default.is)
     ]
 
 pub returns-clause-puts : goal.returns-clause-puts
@@ -54,7 +58,8 @@ returns-clause-puts c =
     let j = c.args.self.now in
     let k = c.loop-slot.self in
     let g = shared_graph s in
-    let done : c.loop-slot.slot ≡ length (slots_in s.table.now t.cell) = (let e = c.slots_at-slot-end.ensures.count in let e2 = c.loop-slot-test.false in let e3 = c.loop-slot.auto.slot-end in omega arith) in
+    let done : c.loop-slot.slot ≡ length (slots_in s.table.now t.cell) =
+    (let e = c.slots_at-slot-end.ensures.count in let e2 = c.loop-slot-test.false in let e3 = c.loop-slot.auto.slot-end in omega arith) in
     let p = subst (λ (n : ℕ). HasScanned s t n (record { job = j; out = c.args.out.now }) (record { job = k; out = c.loop-slot.out })) done c.loop-slot.invariant in
     let put = put_tasks g j.mode (all_slots s t _ _ p) in
     let works = scan-works s t _ _ p in
@@ -70,5 +75,8 @@ pub returns-clause-turns : goal.returns-clause-turns
 returns-clause-turns c =
     let s = c.args.shared.now in
     let t = c.args.task in
-    let done : c.loop-slot.slot ≡ length (slots_in s.table.now t.cell) = (let e = c.slots_at-slot-end.ensures.count in let e2 = c.loop-slot-test.false in let e3 = c.loop-slot.auto.slot-end in omega arith) in
-    scan-turns s t (record { job = c.args.self.now; out = c.args.out.now }) (record { job = c.loop-slot.self; out = c.loop-slot.out }) (subst (λ (n : ℕ). HasScanned s t n (record { job = c.args.self.now; out = c.args.out.now }) (record { job = c.loop-slot.self; out = c.loop-slot.out })) done c.loop-slot.invariant)
+    let done : c.loop-slot.slot ≡ length (slots_in s.table.now t.cell) =
+    (let e = c.slots_at-slot-end.ensures.count in let e2 = c.loop-slot-test.false in let e3 = c.loop-slot.auto.slot-end in omega arith) in
+    scan-turns s t (record { job = c.args.self.now; out = c.args.out.now }) (record { job = c.loop-slot.self; out = c.loop-slot.out })
+    (subst (λ (n : ℕ). HasScanned s t n (record { job = c.args.self.now; out = c.args.out.now }) (record { job = c.loop-slot.self; out = c.loop-slot.out }))
+    done c.loop-slot.invariant)
