@@ -18,34 +18,30 @@ use Rattle.graph_meaning.proofs.HeapLemmas.{has_id-ids}
 
 -- ---- the first number that passes a test
 
+-- the first of a range is found where it passes
+found_first : (p : ℕ → Bool) (a m n : ℕ) → p a ≡ true → find p (range_with_len a (suc m)) ≡ Some n → a ≡ n
+found_first p a m n here found = let found_a : Some a ≡ Some n = rw here at found in cc
+
+-- and else one of the rest
+found_later : (p : ℕ → Bool) (a m n : ℕ) → p a ≡ false → find p (range_with_len a (suc m)) ≡ Some n → find p (range_with_len (a + 1) m) ≡ Some n
+found_later p a m n fails found = rw fails at found
+
 pub find-range_passes : (p : ℕ → Bool) (a m n : ℕ) → find p (range_with_len a m) ≡ Some n → p n ≡ true
 find-range_passes p a zero n found = absurd (cc)
 find-range_passes p a (suc m) n found =
     ⊎_elim
-    (λ here. let e : a ≡ n = first here found in subst (λ k. p k ≡ true) e here)
-    (λ fails. find-range_passes p (a + 1) m n (later fails found))
+    (λ here. let e : a ≡ n = found_first p a m n here found in subst (λ k. p k ≡ true) e here)
+    (λ fails. find-range_passes p (a + 1) m n (found_later p a m n fails found))
     (cases_Bool (p a))
-  where
-    first : p a ≡ true → cond (p a) (Some a) (find p (range_with_len (a + 1) m)) ≡ Some n → a ≡ n
-    first here found = let found_a : Some a ≡ Some n = rw here at found in cc
-
-    later : p a ≡ false → cond (p a) (Some a) (find p (range_with_len (a + 1) m)) ≡ Some n → find p (range_with_len (a + 1) m) ≡ Some n
-    later fails found = rw fails at found
 
 pub find-range_first : (p : ℕ → Bool) (a m n : ℕ) → find p (range_with_len a m) ≡ Some n → (k : ℕ) → a ≤ k → p k ≡ true → n ≤ k
 find-range_first p a zero n found k from passes = absurd (cc)
 find-range_first p a (suc m) n found k from passes =
     ⊎_elim
-    (λ here. let e : a ≡ n = first here found in omega arith)
-    (λ fails. find-range_first p (a + 1) m n (later fails found) k (after fails) passes)
+    (λ here. let e : a ≡ n = found_first p a m n here found in omega arith)
+    (λ fails. find-range_first p (a + 1) m n (found_later p a m n fails found) k (after fails) passes)
     (cases_Bool (p a))
   where
-    first : p a ≡ true → cond (p a) (Some a) (find p (range_with_len (a + 1) m)) ≡ Some n → a ≡ n
-    first here found = let found_a : Some a ≡ Some n = rw here at found in cc
-
-    later : p a ≡ false → cond (p a) (Some a) (find p (range_with_len (a + 1) m)) ≡ Some n → find p (range_with_len (a + 1) m) ≡ Some n
-    later fails found = rw fails at found
-
     after : p a ≡ false → a + 1 ≤ k
     after fails = ⊎_elim (λ less. omega arith) (λ few. let e : a ≡ k = omega arith in absurd (false≢true (sym fails ∙ ap p e ∙ passes))) (cases_lt a k)
 

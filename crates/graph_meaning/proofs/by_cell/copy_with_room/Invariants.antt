@@ -1,4 +1,4 @@
-use Rattle.std.proofs.Common.{◌≡◌, ◌≤◌, take, vec_len, vec_capacity}
+use Rattle.std.proofs.Common.{◌≡◌, ◌≤◌, take, vec_capacity}
 use Rattle.graph_meaning.proofs.by_cell.copy_with_room.Given as goal
 
 abbrev pub invariant-loop-value : goal.invariant-loop-value

@@ -1,5 +1,4 @@
-use Rattle.std.proofs.Common.{◌≡◌, ℕ, ◌-◌, ◌<◌, ◌∷◌, [], ◌++◌, length, replicate, sym, ap, refl, ◌∙◌, subst, arith, append-nil}
-use Rattle.graph_meaning.specs.Owners.{padded}
+use Rattle.std.proofs.Common.{◌≡◌, ℕ, ◌-◌, ◌∷◌, [], ◌++◌, length, replicate, sym, ap, refl, ◌∙◌, arith}
 use Rattle.graph_meaning.proofs.Padding.{padded-more, padded-none}
 use Rattle.graph_meaning.proofs.by_cell.pad.Goals as goal
 

@@ -1,4 +1,4 @@
-use Rattle.std.proofs.Common.{◌≡◌, ℕ, ◌+◌, ◌<◌, ◌≤◌, List, length, set, sym, ap, ◌∙◌, arith}
+use Rattle.std.proofs.Common.{◌<◌, length, set, ap, ◌∙◌, arith}
 use Rattle.graph_meaning.specs.Owners.{padded}
 use Rattle.graph_meaning.proofs.Padding.{length-padded, set-padded}
 use Rattle.graph_meaning.proofs.by_cell.ByCell.set.Goals as goal

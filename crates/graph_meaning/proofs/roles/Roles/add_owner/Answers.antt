@@ -1,4 +1,4 @@
-use Rattle.std.proofs.Common.{◌≡◌, ◌<◌, [], ◌∷◌, ◌++◌, ◌∙◌, length, arith, ap, subst, sym, set, true, Bool, List, ℕ}
+use Rattle.std.proofs.Common.{◌≡◌, ◌<◌, [], ◌∷◌, ◌++◌, ◌∙◌, length, arith, ap, subst, sym, true, Bool, List, ℕ}
 use Rattle.std.proofs.lemmas.List.{length-set}
 use Rattle.graph_meaning.specs.Reach.{has_id}
 use Rattle.graph_meaning.specs.Roles.{cells_of}
