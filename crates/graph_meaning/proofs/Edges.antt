@@ -1,9 +1,9 @@
 -- Edges after a collection: what stays has the edges that it had, and by force nothing leads to what was cut off.
-use Rattle.std.proofs.Common.{◌≡◌, ℕ, ◌+◌, Bool, true, false, not, ◌&&◌, cond, List, [], ◌∷◌, filter, map, get_or, sym, ap, refl, subst, ◌∙◌, IsTrue, All, eq-eqb, eqb-true, ◌==◌, Option, None, Some}
+use Rattle.std.proofs.Common.{◌≡◌, ℕ, ◌+◌, Bool, true, false, not, ◌&&◌, cond, List, [], ◌∷◌, filter, map, get_or, sym, ap, refl, subst, ◌∙◌, IsTrue, All, eqb-true, ◌==◌, Option, None, Some}
 use Rattle.std.specs.List.{filter_map, cons_option, enumerate_from}
 use Rattle.std.specs.Option.{option_map, option_map_or, IfSome}
-use Rattle.std.proofs.lemmas.Bool.{false≢true, false_from_ne_true, or_left, or_right, or_from}
-use Rattle.std.proofs.lemmas.List.Elements.{All-nil, All-cons, All-head, All-tail, All-weaker}
+use Rattle.std.proofs.lemmas.Bool.{false≢true, false_from_ne_true, or_from}
+use Rattle.std.proofs.lemmas.List.Elements.{All-head, All-tail}
 use Rattle.graph_meaning.specs.Reach.{has_id}
 use Rattle.graph_meaning.specs.Heap.{Slot, Object, Table, object_at, is_live, edge_of, numbered_edge, edges_of, targets}
 use Rattle.graph_meaning.specs.Assertions.{root_ids, traced_ids, references, scanned_ids}
@@ -12,6 +12,7 @@ use Rattle.graph_meaning.specs.Laws.{HoldsLive, KeepsEdges, ForceCutsOff, PlainL
 use Rattle.graph_meaning.proofs.Membership.{has_id-filter, map-filter, is_some_list-nil}
 use Rattle.std.proofs.lemmas.List.Folds.{list_any_none, map_fixed}
 use Rattle.graph_meaning.proofs.Distances.{find_All}
+use Rattle.graph_meaning.proofs.EdgesOfSlots.{edges_lead}
 use Rattle.graph_meaning.proofs.HeapLemmas.{has_id-ids, object_at-with_only, object_at-cut_off}
 use Rattle.graph_meaning.proofs.Tracing.{traced_along, held_by, is_some-references}
 use Rattle.graph_meaning.proofs.Keeping.{has_id-traced_ids}
@@ -87,28 +88,6 @@ same_edges gone n (s ∷ slots) past =
     let rest = same_edges gone (n + 1) slots (All-tail (λ s. IfSome (edge_of s) (λ y. gone y ≡ false)) s slots past) in
     ap (λ o. cons_option (option_map (λ y. (n, y)) o) (filter_map numbered_edge (enumerate_from (n + 1) (map (slot_without gone) slots)))) here
     ∙ ap (λ es. cons_option (option_map (λ y. (n, y)) (edge_of s)) es) rest
-
--- what the edge by a slot leads to is among the targets
-abbrev LeadsInto : List (ℕ × ℕ) → Slot → Type 0
-LeadsInto es s = IfSome (edge_of s) (λ y. IsTrue (has_id (map (λ e. e.1) es) y))
-
-edges_lead : (n : ℕ) (slots : List Slot) → All (LeadsInto (filter_map numbered_edge (enumerate_from n slots))) slots
-edges_lead n [] = All-nil _
-edges_lead n (s ∷ slots) =
-    let all = filter_map numbered_edge (enumerate_from n (s ∷ slots)) in
-    All-cons (LeadsInto all) s slots (here (edge_of s)) (All-weaker (LeadsInto rest) (LeadsInto all) (λ u. later (edge_of s) (edge_of u)) slots (edges_lead (n + 1) slots))
-  where
-    rest : List (ℕ × ℕ)
-    rest = filter_map numbered_edge (enumerate_from (n + 1) slots)
-
-    here : (o : Option ℕ) → IfSome o (λ y. IsTrue (has_id (map (λ e. e.1) (cons_option (option_map (λ y. (n, y)) o) rest)) y))
-    here None = tt
-    here (Some y) = or_left _ _ (eq-eqb y y refl)
-
-    later : (o u : Option ℕ) → IfSome u (λ y. IsTrue (has_id (map (λ e. e.1) rest) y)) → IfSome u (λ y. IsTrue (has_id (map (λ e. e.1) (cons_option (option_map (λ y. (n, y)) o) rest)) y))
-    later o None held = tt
-    later None (Some y) held = held
-    later (Some z) (Some y) held = or_right _ _ held
 
 -- ---- the laws
 

@@ -10,6 +10,7 @@ use Rattle.std.proofs.lemmas.Option.{slice_get-get_or}
 use Rattle.std.proofs.Math.ListN.{get_or-append}
 use Rattle.graph_meaning.specs.Heap.{Slot, Object, edge_of, numbered_edge, object_at, targets}
 use Rattle.graph_meaning.specs.Reach.{has_id}
+use Rattle.graph_meaning.proofs.EdgesOfSlots.{LeadsInto, edges_lead}
 use Rattle.object_table.specs.Chains.{cells_after, resident_in}
 use Rattle.object_table.specs.Parts.{Parts, HoldsTaken, IsLaidOut, object_of, placed_of, slot_of}
 use Rattle.object_table.specs.Placed.{LeadsToKept, kept_ids}
@@ -45,28 +46,6 @@ strong-cleared marked slots strong =
     (All-weaker (λ s. s.weak ≡ false) (λ s. (slot_cleared marked s).weak ≡ false) (λ s is. weak-cleared marked s ∙ is) slots strong)
 
 -- ---- all objects
-
--- what the edge by a slot leads to is among the targets
-abbrev LeadsInto : List (ℕ × ℕ) → Slot → Type 0
-LeadsInto es s = IfSome (edge_of s) (λ y. IsTrue (has_id (map (λ e. e.1) es) y))
-
-edges_lead : (n : ℕ) (slots : List Slot) → All (LeadsInto (filter_map numbered_edge (enumerate_from n slots))) slots
-edges_lead n [] = All-nil _
-edges_lead n (s ∷ slots) =
-    let all = filter_map numbered_edge (enumerate_from n (s ∷ slots)) in
-    All-cons (LeadsInto all) s slots (here (edge_of s)) (All-weaker (LeadsInto rest) (LeadsInto all) (λ u. later (edge_of s) (edge_of u)) slots (edges_lead (n + 1) slots))
-  where
-    rest : List (ℕ × ℕ)
-    rest = filter_map numbered_edge (enumerate_from (n + 1) slots)
-
-    here : (o : Option ℕ) → IfSome o (λ y. IsTrue (has_id (map (λ e. e.1) (cons_option (option_map (λ y. (n, y)) o) rest)) y))
-    here None = tt
-    here (Some y) = or_left _ _ (eq-eqb y y refl)
-
-    later : (o u : Option ℕ) → IfSome u (λ y. IsTrue (has_id (map (λ e. e.1) rest) y)) → IfSome u (λ y. IsTrue (has_id (map (λ e. e.1) (cons_option (option_map (λ y. (n, y)) o) rest)) y))
-    later o None held = tt
-    later None (Some y) held = held
-    later (Some z) (Some y) held = or_right _ _ held
 
 module _ (p : Parts) (laid : IsLaidOut p) (kept : List Bool) (leads : LeadsToKept (placed_of p).table (kept_ids (placed_of p).cells kept))
     (cell : ℕ) (o : Resident) (held : held_at p.cells cell ≡ Some o) (flagged : is_flagged kept cell ≡ true) where
