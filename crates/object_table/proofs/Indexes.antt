@@ -9,10 +9,19 @@ use Rattle.std.specs.String.{string_bytes}
 use Rattle.std.specs.Cmp.Lexicographic.{slice_cmp}
 use Rattle.std.specs.Str.{bytes_eq}
 use Rattle.std.proofs.lemmas.List.{length_push}
+use Rattle.std.proofs.lemmas.Map.Keys.{IsDistinct-push}
 use Rattle.std.proofs.lemmas.Slice.Eq.{bytes_eq-Decides}
 use Rattle.heap_base.specs.declared.limits.TheConstants.{MOST_KINDS}
 use Rattle.object_table.specs.Indexed.{IsIndexed}
-use Rattle.object_table.proofs.Positions.{position_push, position_push_new}
+use Rattle.object_table.proofs.Positions.{any-position, bytes_eq-equivalence, distinct_none, position_push, position_push_new}
+
+-- no name, and an empty map
+pub IsIndexed-none : {Y : Type 0} (numbers : BTreeMap (String Y) ℕ) → numbers.entries ≡ [] → IsIndexed [] numbers
+IsIndexed-none numbers empty = record {
+  few = omega arith;
+  distinct = distinct_none;
+  finds = λ bytes. rw empty refl;
+}
 
 -- a map with one more text, at the place of the name that is put last
 pub IsIndexed-add : {Y : Type 0} (names : List (List ℕ)) (numbers later : BTreeMap (String Y) ℕ) (name key : List ℕ) (place : ℕ) →
@@ -21,6 +30,7 @@ pub IsIndexed-add : {Y : Type 0} (names : List (List ℕ)) (numbers later : BTre
     IsIndexed (names ++ name ∷ []) later
 IsIndexed-add names numbers later name key place is new room same last updates = record {
   few = grind (arith, length_push names name);
+  distinct = IsDistinct-push bytes_eq-equivalence names name is.distinct (grind (arith, any-position (bytes_eq name) names));
   finds = λ bytes. grind (arith, updates bytes, is.finds bytes, position_push (bytes_eq bytes) names name, bytes_eq-Decides name bytes, bytes_eq-Decides bytes name);
 }
 
@@ -44,5 +54,6 @@ pub IsIndexed-clone : {Y : Type 0} (names : List (List ℕ)) (numbers copy : BTr
     IsClone (λ s t. string_bytes t ≡ string_bytes s) (λ x y. y ≡ x) numbers copy → IsIndexed names copy
 IsIndexed-clone names numbers copy is same = record {
   few = is.few;
+  distinct = is.distinct;
   finds = λ bytes. lookup_zip _ _ numbers.entries copy.entries (λ e f z. (ap (λ b. is_eq (slice_cmp nat_cmp bytes b)) z.0, z.1)) same ∙ is.finds bytes;
 }

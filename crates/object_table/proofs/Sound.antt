@@ -7,7 +7,6 @@ use Rattle.std.specs.Map.{keys_of}
 use Rattle.std.specs.declared.cmp.Ordering.TheVariants.{Less}
 use Rattle.std.specs.Option.{IfSome}
 use Rattle.std.specs.Str.{bytes_eq}
-use Rattle.std.specs.Cmp.{IsEquivalence}
 use Rattle.std.proofs.lemmas.Bool.{or_left, or_right}
 use Rattle.std.proofs.lemmas.List.{length-map}
 use Rattle.std.proofs.lemmas.List.Elements.{All-nil, All-map, All-filter, All-push, All-weaker, All-replicate}
@@ -15,7 +14,6 @@ use Rattle.std.proofs.lemmas.List.Folds.{list_any-append}
 use Rattle.std.proofs.lemmas.List.Kept.{AllPairs-filter}
 use Rattle.std.proofs.lemmas.List.Sums.{sum_by-cons}
 use Rattle.std.proofs.lemmas.Map.Keys.{IsDistinct-push}
-use Rattle.std.proofs.lemmas.Slice.Eq.{bytes_eq-Decides}
 use Rattle.heap_base.specs.declared.limits.TheConstants.{MOST_THREADS}
 use Rattle.graph_meaning.specs.declared.event.Event.{Event}
 use Rattle.graph_meaning.specs.declared.event.Event.TheVariants.{Alloc, Store, SetWeak, Root, AssertInstances}
@@ -33,6 +31,7 @@ use Rattle.graph_meaning.proofs.Keeping.{heaps_refer_to_live}
 use Rattle.graph_meaning.proofs.Orders.{limits_are_kept}
 use Rattle.graph_meaning.proofs.Rising.{ids_always_rise, ids-with_only, ids-cut_off}
 use Rattle.object_table.specs.Placed.{IsSound, LeadsToKept}
+use Rattle.object_table.proofs.Positions.{bytes_eq-refl, bytes_eq-equivalence, distinct_none}
 
 -- the heap with this table, where nothing is asserted
 abbrev heap_with : Table → Heap
@@ -60,17 +59,6 @@ allowed P (Some r) h none holds = absurd cc
 
 -- ---- type names
 
-bytes_eq-refl : (x : List ℕ) → bytes_eq x x ≡ true
-bytes_eq-refl x = (bytes_eq-Decides x x).1 refl
-
--- texts are equal where they are the same
-bytes_eq-equivalence : IsEquivalence bytes_eq
-bytes_eq-equivalence = record {
-  refl = bytes_eq-refl;
-  symm = λ x y. grind (arith, bytes_eq-Decides x y, bytes_eq-Decides y x);
-  congr = λ x y z same. ap (λ (w : List ℕ). bytes_eq w z) ((bytes_eq-Decides x y).0 same);
-}
-
 pub distinct_with_kind : (kinds : List (List ℕ)) (kind : List ℕ) → IsDistinct bytes_eq kinds → IsDistinct bytes_eq (with_kind kinds kind)
 distinct_with_kind kinds kind distinct = go (is_seen kinds kind) refl
   where
@@ -95,10 +83,6 @@ seen_itself kinds kind = go (is_seen kinds kind) refl
     go false new = list_any-append (bytes_eq kind) kinds (kind ∷ []) ∙ or_right _ _ (or_left _ _ (bytes_eq-refl kind))
 
 -- ---- each operation
-
-distinct_none : IsDistinct bytes_eq []
-unfolding IsDistinct
-distinct_none = tt
 
 pub sound_nothing : IsSound empty_table
 sound_nothing = record {

@@ -4,6 +4,7 @@ ghost use Rattle.graph_meaning.specs.Heap.{is_seen};
 ghost use Rattle.graph_meaning.specs.Step.{with_kind};
 ghost use Rattle.heap_base.specs.declared.limits.TheConstants.{MOST_KINDS};
 
+use crate::guesses::Guesses;
 use heap_base::{Name, OutOfMemory};
 use std::alloc::Global;
 use std::collections::BTreeMap;
@@ -16,6 +17,7 @@ pub struct Kinds {
     names: Vec<Name>,
     // the place of each name, by its text
     numbers: BTreeMap<String, u32>,
+    guesses: Guesses,
     alloc: Global,
 }
 
@@ -39,6 +41,7 @@ impl Kinds {
         Kinds {
             names: Vec::new(alloc),
             numbers: BTreeMap::new(alloc),
+            guesses: Guesses::make(alloc),
             alloc,
         }
     }
@@ -54,6 +57,7 @@ impl Kinds {
         Ok(Kinds {
             names,
             numbers: self.numbers.clone()?,
+            guesses: self.guesses.copy()?,
             alloc: self.alloc,
         })
     }
@@ -62,6 +66,13 @@ impl Kinds {
     pub fn find(&self, name: &Name) -> Option<u32>
         ensures { result ≡ position (bytes_eq name.now) self.now }
     {
+        if let Some(guess) = self.guesses.guess(name) {
+            if let Some(guessed) = self.names.get(guess as usize) {
+                if guessed.as_str() == name.as_str() {
+                    return Some(guess);
+                }
+            }
+        }
         self.numbers.get(name.as_str()).copied()
     }
 
@@ -114,12 +125,14 @@ impl Kinds {
         ensures err { OnErr result (self.new ≡ self.old) }
     {
         let number = self.names.len() as u32;
+        self.guesses.reserve()?;
         let key = String::from_str(self.alloc, name.as_str())?;
         self.names.push(name.copy()?)?;
         let Ok(_) = self.numbers.insert(key, number) else {
             self.names.pop();
             return Err(OutOfMemory);
         };
+        self.guesses.note(name, number);
         Ok(number)
     }
 }

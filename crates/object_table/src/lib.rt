@@ -6,6 +6,7 @@ mod blocks;
 mod cell;
 mod cells;
 mod directory;
+mod guesses;
 mod ids;
 mod kinds;
 mod object;

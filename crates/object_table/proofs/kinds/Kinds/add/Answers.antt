@@ -7,8 +7,8 @@ use Rattle.object_table.proofs.Positions.{any-position}
 use Rattle.object_table.proofs.kinds.Kinds.add.Goals as goal
 
 -- the name is put last, and the map gives its place
-pub invariant_of-self-in-Ok : goal.invariant_of-self-in-Ok
-invariant_of-self-in-Ok c =
+pub invariant_of-self-2 : goal.invariant_of-self-2
+invariant_of-self-2 c =
     rw (c.in_ok-push.ensures.items, c.in_ok-copy.ensures)
     (IsIndexed-add _ c.self.inside.numbers c.insert.new.self c.args.name.now (string_bytes c.in_ok-key.key) c.len-number.result c.self.invariant (rw c.self.view_is c.requires.new) (rw c.self.view_is c.requires.room)
     (c.in_ok-key.ensures.ok ∙ c.as_str.ensures.text) (omega arith)
