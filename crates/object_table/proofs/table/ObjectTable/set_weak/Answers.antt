@@ -1,5 +1,6 @@
 use Rattle.std.proofs.Common.{sym}
-use Rattle.object_table.proofs.Tables.{parts_in, slot_of_cell, made_weak}
+use Rattle.graph_meaning.specs.Step.{slot_made_weak}
+use Rattle.object_table.proofs.Tables.{IsChanged, parts_in, slot_of_cell, made_weak}
 use Rattle.object_table.proofs.table.ObjectTable.set_weak.Goals as goal
 
 pub slot-held-requires : goal.slot-held-requires
@@ -13,22 +14,19 @@ set_slot-requires-clause-a_slot c =
     (slot_of_cell (parts_in c.self.inside) c.self.invariant c.args.at c.args.slot c.in_ok-cell.cell c.at.result.now
     (rw (← c.self.view_is) at c.in_ok-cell.ensures.cell) c.at.ensures (rw (← c.self.view_is) at (sym c.in_ok-cell.ensures.refused)))
 
+module _ (c : goal.After-set_slot) where
+  -- what the change leaves
+  changed : IsChanged (parts_in c.self.inside) c.self.invariant c.args.at c.args.slot (slot_made_weak c.args.weak) c.set_slot.new.self.cells
+  changed =
+      made_weak (parts_in c.self.inside) c.self.invariant c.args.at c.args.slot c.in_ok-cell.cell c.args.weak c.at.result.now c.slot-held.result
+      c.set_slot.new.self.cells (rw (← c.self.view_is) at c.in_ok-cell.ensures.cell) c.at.ensures c.slot-held.ensures.found
+      (rw (← c.self.view_is) at (sym c.in_ok-cell.ensures.refused)) (rw c.at.ensures at c.set_slot.ensures)
+
 pub invariant_of-self : goal.invariant_of-self
-invariant_of-self c =
-    (made_weak (parts_in c.self.inside) c.self.invariant c.args.at c.args.slot c.in_ok-cell.cell c.args.weak c.at.result.now c.slot-held.result
-    c.set_slot.new.self.cells (rw (← c.self.view_is) at c.in_ok-cell.ensures.cell) c.at.ensures c.slot-held.ensures.found
-    (rw (← c.self.view_is) at (sym c.in_ok-cell.ensures.refused)) (rw c.at.ensures at c.set_slot.ensures)).table
+invariant_of-self c = (changed c).table
 
 pub returns-clause-changed : goal.returns-clause-changed
-returns-clause-changed c =
-    rw (← c.self.view_is)
-    (made_weak (parts_in c.self.inside) c.self.invariant c.args.at c.args.slot c.in_ok-cell.cell c.args.weak c.at.result.now c.slot-held.result
-    c.set_slot.new.self.cells (rw (← c.self.view_is) at c.in_ok-cell.ensures.cell) c.at.ensures c.slot-held.ensures.found
-    (rw (← c.self.view_is) at (sym c.in_ok-cell.ensures.refused)) (rw c.at.ensures at c.set_slot.ensures)).same
+returns-clause-changed c = rw (← c.self.view_is) (changed c).same
 
 pub returns-clause-cells : goal.returns-clause-cells
-returns-clause-cells c =
-    rw (← c.self.view_is)
-    (made_weak (parts_in c.self.inside) c.self.invariant c.args.at c.args.slot c.in_ok-cell.cell c.args.weak c.at.result.now c.slot-held.result
-    c.set_slot.new.self.cells (rw (← c.self.view_is) at c.in_ok-cell.ensures.cell) c.at.ensures c.slot-held.ensures.found
-    (rw (← c.self.view_is) at (sym c.in_ok-cell.ensures.refused)) (rw c.at.ensures at c.set_slot.ensures)).cells
+returns-clause-cells c = rw (← c.self.view_is) (changed c).cells
