@@ -1,5 +1,6 @@
 -- The edges of an object, slot by slot.
-use Rattle.std.proofs.Common.{◌≡◌, ℕ, ◌+◌, ◌<◌, ◌≤◌, List, [], ◌∷◌, ◌++◌, length, take, take_all, get_or, map, ap, refl, ◌∙◌, arith, append-nil, length-take, eq-eqb, All, IsTrue, IfSome, Option, None, Some}
+use Rattle.std.proofs.Common.{◌≡◌, ℕ, ◌+◌, ◌<◌, ◌≤◌, List, [], ◌∷◌, ◌++◌, length, take, take_all, get_or, map, ap, refl, ◌∙◌, arith, append-nil}
+use Rattle.std.proofs.Common.{length-take, eq-eqb, All, IsTrue, IfSome, Option, None, Some}
 use Rattle.std.specs.List.{filter_map, enumerate_from, cons_option}
 use Rattle.std.specs.Option.{option_map}
 use Rattle.std.proofs.lemmas.Bool.{or_left, or_right}

@@ -9,5 +9,6 @@ pub returns-then-eq : goal.returns-then-eq
 returns-then-eq c =
     let same : c.in-Some-get.guessed.now ≡ c.args.name.now =
     sym c.as_str.ensures.text ∙ (bytes_eq-Decides c.as_str.result.now c.as_str-in-Some-get.result.now).0 (sym c.if-eq.ensures) ∙ c.as_str-in-Some-get.ensures.text in
-    let at : slice_get c.args.self.now c.in-Some.guess ≡ Some c.in-Some-get.guessed.now = grind (arith, slice_get-get_or c.deref.result.now c.in-Some.guess c.in-Some-get.guessed.now, c.in-Some-get.ensures.lookup, c.deref.ensures.value, c.self.view_is) in
+    let at : slice_get c.args.self.now c.in-Some.guess ≡ Some c.in-Some-get.guessed.now =
+    grind (arith, slice_get-get_or c.deref.result.now c.in-Some.guess c.in-Some-get.guessed.now, c.in-Some-get.ensures.lookup, c.deref.ensures.value, c.self.view_is) in
     sym (position_named c.args.self.now c.in-Some.guess c.args.name.now (rw (← c.self.view_is) c.self.invariant.distinct) (at ∙ ap Some same))
