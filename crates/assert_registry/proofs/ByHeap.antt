@@ -19,7 +19,7 @@ use Rattle.graph_meaning.specs.Reach.{has_id}
 use Rattle.graph_meaning.specs.Roles.{RoleTable, owner_in}
 use Rattle.graph_meaning.proofs.Membership.{list_any_agree}
 use Rattle.object_table.specs.Placed.{Placed, IsPlaced, id_in}
-use Rattle.object_table.proofs.Positions.{position_distinct}
+use Rattle.object_table.proofs.Positions.{position_named}
 use Rattle.assert_registry.specs.Assertions.{Assertions, limit_of, owner_of}
 use Rattle.assert_registry.specs.ByCell.{AreRolesBy, IsRoleBy, holds_one_of, owner_at, live_owners}
 use Rattle.assert_registry.specs.Laws.{StandFor, RolesStandForHeap, RolesSayOfHeap}
@@ -89,12 +89,6 @@ roles_say_of_heap h p r placed stand =
       ownees = is_ownee-cell a p r placed by;
       owns = owns-cell a p r placed by;
     }
-
--- a type that is seen has the place of its name
-position_named : (names : List (List ℕ)) (k : ℕ) (name : List ℕ) → IsDistinct bytes_eq names → slice_get names k ≡ Some name → position (bytes_eq name) names ≡ Some k
-position_named names k name distinct at =
-    let same : get_or names k [] ≡ name = get_or_from_slice_get names k name [] at in
-    subst (λ n. position (bytes_eq n) names ≡ Some k) same (position_distinct names k distinct (slice_get_within names k name at))
 
 pub roles_stand_for_heap : RolesStandForHeap
 roles_stand_for_heap h a p r refers ordered has table distinct by = record {

@@ -79,7 +79,7 @@ module _ (t u : Table) (more : (id : ℕ) → IsTrue (is_live t id) → IsTrue (
       All-weaker (λ o. All (HoldsLive t) o.slots) (λ o. All (HoldsLive u) o.slots) (λ o. All-weaker (HoldsLive t) (HoldsLive u) HoldsLive-more o.slots) objects live
 
 -- the open regions of a thread
-regions_of-live : (t : Table) (rs : List (List (List ℕ))) (thread : ℕ) → All (All (AllLive t)) rs → All (AllLive t) (regions_of rs thread)
+pub regions_of-live : (t : Table) (rs : List (List (List ℕ))) (thread : ℕ) → All (All (AllLive t)) rs → All (AllLive t) (regions_of rs thread)
 regions_of-live t rs thread live =
     ⊎_elim
     (λ within. live thread [] within)

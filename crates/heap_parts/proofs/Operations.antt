@@ -24,6 +24,7 @@ use Rattle.graph_meaning.specs.Laws.{AllLive}
 use Rattle.graph_meaning.specs.Step.{first_refusal, refusal_where, not_live, kind_refusal, alloc_refusal, with_object, store_refusal, slot_refusal}
 use Rattle.graph_meaning.specs.Step.{with_changed_slot, slot_holding, slot_made_weak, root_refusal, with_root, with_kind, with_member, heap_unless}
 use Rattle.graph_meaning.specs.Step.{step}
+use Rattle.graph_meaning.proofs.Keeping.{regions_of-live}
 use Rattle.graph_meaning.proofs.Rising.{alloc_refusal-None}
 use Rattle.object_table.specs.Placed.{Placed}
 use Rattle.assert_registry.specs.Assertions.{Assertions, AreOfSeenTypes, with_room}
@@ -328,19 +329,11 @@ refused_self t owner ownee result live other_live refused =
 
 -- ---- a new object and the regions
 
--- the objects in the regions of a thread are live
-regions-live : (t : Table) (regions : List (List (List ℕ))) (thread : ℕ) → All (All (AllLive t)) regions → All (AllLive t) (regions_of regions thread)
-regions-live t regions thread live =
-    ⊎_elim
-    (λ within. live thread [] within)
-    (λ past. subst (All (AllLive t)) (sym (get_or_past regions thread [] past)) (All-nil (AllLive t)))
-    (cases_lt thread (length regions))
-
--- the id of a new object is above all in them
+-- the id of a new object is above all in the regions
 pub new_id-above : (s : Parts) → AreParts s → (id : ℕ) (kind : List ℕ) (slots thread : ℕ) → alloc_refusal s.placed.table id kind slots ≡ None → IsAbove id (regions_of s.regions.regions thread)
 new_id-above s are id kind slots thread none =
     IsAbove-live s.placed.table (regions_of s.regions.regions thread) id are.heap.rising (alloc_refusal-None s.placed.table id kind slots none)
-    (regions-live s.placed.table s.regions.regions thread are.heap.refers.regions)
+    (regions_of-live s.placed.table s.regions.regions thread are.heap.refers.regions)
 
 -- the parts with a new object
 pub parts-alloc : (s : Parts) → AreParts s → (after : Placed) (regions : RegionTable) (id : ℕ) (kind : List ℕ) (slots thread : ℕ) →
