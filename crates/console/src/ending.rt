@@ -2,47 +2,62 @@ use heap_base::Status;
 use std::io;
 use std::process::ExitCode;
 
-/// The exit status where the words of the command line can't be had, for another cause than that memory is out. No run
-/// ends with it.
-pub const NO_WORDS: u8 = 7;
-
 /// The exit status of a run.
 pub fn exit_code(status: Status) -> ExitCode {
     ExitCode::from(status as u8)
 }
 
-/// Tells a person on standard error what the output doesn't say: that a read or a write failed, and why, or that memory is out. Refused words
-/// are for the program to tell. Where standard error can't be written, the status still tells.
-pub fn tell(
-    rt: &HostRuntime,
-    program: &str,
-    status: Status,
-    read: Option<io::Error>,
-    write: Option<io::Error>,
-) {
-    let _ = match status {
-        Status::Clean | Status::Violated | Status::TraceFault | Status::Usage => Ok(()),
-        Status::ReadFault => match read {
-            Some(why) => eprintln!(rt;
-                "{program}: standard input could not be read: {why}; the report ends where the reading ended"
-            ),
-            None => eprintln!(rt;
-                "{program}: standard input could not be read; the report ends where the reading ended"
-            ),
-        },
-        Status::WriteFault => match write {
-            Some(why) => eprintln!(rt;
-                "{program}: standard output could not be written: {why}; the report is cut short"
-            ),
-            None => eprintln!(rt;
-                "{program}: standard output could not be written; the report is cut short"
-            ),
-        },
-        Status::NoMemory => eprintln!(rt; "{program}: out of memory; the report is cut short"),
-    };
+/// What a program says to a person of a run that could not go to its end.
+#[derive(Clone, Copy)]
+pub struct Messages {
+    pub program: &'static str,
+    /// What becomes of the output where a read failed.
+    pub unread: &'static str,
+    /// What becomes of it where a write failed or memory is out.
+    pub cut_short: &'static str,
 }
 
-/// Tells a person on standard error that a word of the command line can't be had.
-pub fn tell_no_words(rt: &HostRuntime, program: &str) {
-    let _ = eprintln!(rt; "{program}: a word of the command line is not UTF-8");
+impl Messages {
+    /// Those of a program that writes a report as it goes.
+    pub fn of_report(program: &'static str) -> Messages {
+        Messages {
+            program,
+            unread: "the report ends where the reading ended",
+            cut_short: "the report is cut short",
+        }
+    }
+
+    /// Tells a person on standard error what the output doesn't say: that a read or a write failed, and why, or that memory is out. Refused
+    /// words are for the program to tell. Where standard error can't be written, the status still tells.
+    pub fn tell(
+        &self,
+        rt: &HostRuntime,
+        status: Status,
+        read: Option<io::Error>,
+        write: Option<io::Error>,
+    ) {
+        match status {
+            Status::Clean | Status::Violated | Status::TraceFault | Status::Usage => (),
+            Status::ReadFault => {
+                self.tell_failed(rt, "standard input could not be read", read, self.unread)
+            }
+            Status::WriteFault => {
+                self.tell_failed(
+                    rt,
+                    "standard output could not be written",
+                    write,
+                    self.cut_short,
+                )
+            }
+            Status::NoMemory => self.tell_failed(rt, "out of memory", None, self.cut_short),
+        }
+    }
+
+    fn tell_failed(&self, rt: &HostRuntime, what: &str, why: Option<io::Error>, then: &str) {
+        let program = self.program;
+        let _ = match why {
+            Some(why) => eprintln!(rt; "{program}: {what}: {why}; {then}"),
+            None => eprintln!(rt; "{program}: {what}; {then}"),
+        };
+    }
 }

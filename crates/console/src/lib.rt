@@ -7,7 +7,7 @@ mod options;
 mod stream;
 mod words;
 
-pub use ending::{NO_WORDS, exit_code, tell, tell_no_words};
+pub use ending::{Messages, exit_code};
 pub use options::{Fault, OptionRule, Takes, first_fault};
 pub use stream::Remembering;
-pub use words::{NoWords, borrowed_words, owned_words};
+pub use words::{borrowed_words, program_words};

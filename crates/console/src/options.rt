@@ -29,6 +29,14 @@ pub enum Fault<'a> {
     BadValue(OptionRule, &'a str),
 }
 
+// The name of an option as it is written behind its dashes, and its value where that stands behind it.
+fn name_and_value(written: &str) -> (&str, Option<&str>) {
+    match written.split_once('=') {
+        Some((name, value)) => (name, Some(value)),
+        None => (written, None),
+    }
+}
+
 /// What is wrong with the first word, the program's name left out, that these options don't take as they stand.
 pub fn first_fault<'a>(
     alloc: Global,
@@ -47,10 +55,7 @@ pub fn first_fault<'a>(
         let Some(written) = word.strip_prefix("--") else {
             return Some(Fault::NotTaken(word));
         };
-        let (name, value) = match written.split_once('=') {
-            Some((name, value)) => (name, Some(value)),
-            None => (written, None),
-        };
+        let (name, value) = name_and_value(written);
         let Some(rule) = rules.iter().find(|rule| rule.name == name) else {
             return Some(Fault::Unknown(word, nearest(alloc, rules, name)));
         };

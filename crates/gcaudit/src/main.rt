@@ -5,24 +5,16 @@ mod options;
 
 use crate::options::OPTIONS;
 use audit_run::audit;
-use console::{
-    NO_WORDS, NoWords, Remembering, borrowed_words, exit_code, first_fault, owned_words, tell,
-    tell_no_words,
-};
+use console::{Messages, Remembering, borrowed_words, exit_code, first_fault, program_words};
 use heap_base::{OpenGate, Status, StdSink, StdSource};
 use std::process::ExitCode;
 
 const PROGRAM: &str = "gcaudit";
 
 fn main(rt: HostRuntime) -> ExitCode {
-    let owned = match owned_words(&rt) {
+    let owned = match program_words(&rt, PROGRAM) {
         Ok(owned) => owned,
-        // Where there is no memory for the words nothing is written, on either stream.
-        Err(NoWords::OutOfMemory) => return exit_code(Status::NoMemory),
-        Err(NoWords::NotText) => {
-            tell_no_words(&rt, PROGRAM);
-            return ExitCode::from(NO_WORDS);
-        }
+        Err(ending) => return ending,
     };
     let Ok(words) = borrowed_words(rt.alloc(), &owned) else {
         return exit_code(Status::NoMemory);
@@ -34,7 +26,7 @@ fn main(rt: HostRuntime) -> ExitCode {
     let status = audit(&rt, rt.alloc(), &words, &mut source, &mut sink, &OpenGate);
     match status {
         Status::Usage => tell_fault(&rt, &words),
-        _ => tell(&rt, PROGRAM, status, stdin.why(), stdout.why()),
+        _ => Messages::of_report(PROGRAM).tell(&rt, status, stdin.why(), stdout.why()),
     }
     exit_code(status)
 }

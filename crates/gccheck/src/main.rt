@@ -6,22 +6,15 @@ mod telling;
 
 use crate::file::NamedFile;
 use crate::telling::{PROGRAM, tell_memory, tell_read, tell_words, tell_write};
-use console::{
-    NO_WORDS, NoWords, Remembering, borrowed_words, exit_code, owned_words, tell_no_words,
-};
+use console::{Remembering, borrowed_words, exit_code, program_words};
 use heap_base::{Status, StdSink, StdSource};
 use report_check::check_run;
 use std::process::ExitCode;
 
 fn main(rt: HostRuntime) -> ExitCode {
-    let owned = match owned_words(&rt) {
+    let owned = match program_words(&rt, PROGRAM) {
         Ok(owned) => owned,
-        // Where there is no memory for the words nothing is written, on either stream.
-        Err(NoWords::OutOfMemory) => return exit_code(Status::NoMemory),
-        Err(NoWords::NotText) => {
-            tell_no_words(&rt, PROGRAM);
-            return ExitCode::from(NO_WORDS);
-        }
+        Err(ending) => return ending,
     };
     let Ok(words) = borrowed_words(rt.alloc(), &owned) else {
         return exit_code(Status::NoMemory);

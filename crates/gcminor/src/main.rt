@@ -1,9 +1,7 @@
 //! Makes minor and full collections over a trace on standard input, and writes a line for each to standard output.
 #![tactic(auto)]
 
-use console::{
-    NO_WORDS, NoWords, Remembering, borrowed_words, exit_code, owned_words, tell, tell_no_words,
-};
+use console::{Messages, Remembering, borrowed_words, exit_code, program_words};
 use heap_base::{Status, StdSink, StdSource};
 use minor_gc::minor_run;
 use std::process::ExitCode;
@@ -11,14 +9,9 @@ use std::process::ExitCode;
 const PROGRAM: &str = "gcminor";
 
 fn main(rt: HostRuntime) -> ExitCode {
-    let owned = match owned_words(&rt) {
+    let owned = match program_words(&rt, PROGRAM) {
         Ok(owned) => owned,
-        // Where there is no memory for the words nothing is written, on either stream.
-        Err(NoWords::OutOfMemory) => return exit_code(Status::NoMemory),
-        Err(NoWords::NotText) => {
-            tell_no_words(&rt, PROGRAM);
-            return ExitCode::from(NO_WORDS);
-        }
+        Err(ending) => return ending,
     };
     let Ok(words) = borrowed_words(rt.alloc(), &owned) else {
         return exit_code(Status::NoMemory);
@@ -30,7 +23,7 @@ fn main(rt: HostRuntime) -> ExitCode {
     let status = minor_run(rt.alloc(), &words, &mut source, &mut sink);
     match status {
         Status::Usage => tell_usage(&rt, &words),
-        _ => tell(&rt, PROGRAM, status, stdin.why(), stdout.why()),
+        _ => Messages::of_report(PROGRAM).tell(&rt, status, stdin.why(), stdout.why()),
     }
     exit_code(status)
 }

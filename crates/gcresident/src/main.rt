@@ -2,8 +2,7 @@
 #![tactic(auto)]
 
 use console::{
-    NO_WORDS, NoWords, OptionRule, Remembering, Takes, borrowed_words, exit_code, first_fault,
-    owned_words, tell, tell_no_words,
+    Messages, OptionRule, Remembering, Takes, borrowed_words, exit_code, first_fault, program_words,
 };
 use heap_base::{MOST_WORKERS, OpenGate, Status, StdSink, StdSource};
 use resident_crew::audit_resident;
@@ -20,14 +19,9 @@ const OPTIONS: [OptionRule; 1] = [OptionRule {
 }];
 
 fn main(rt: HostRuntime) -> ExitCode {
-    let owned = match owned_words(&rt) {
+    let owned = match program_words(&rt, PROGRAM) {
         Ok(owned) => owned,
-        // Where there is no memory for the words nothing is written, on either stream.
-        Err(NoWords::OutOfMemory) => return exit_code(Status::NoMemory),
-        Err(NoWords::NotText) => {
-            tell_no_words(&rt, PROGRAM);
-            return ExitCode::from(NO_WORDS);
-        }
+        Err(ending) => return ending,
     };
     let Ok(words) = borrowed_words(rt.alloc(), &owned) else {
         return exit_code(Status::NoMemory);
@@ -42,7 +36,7 @@ fn main(rt: HostRuntime) -> ExitCode {
     };
     match status {
         Status::Usage => tell_fault(&rt, &words),
-        _ => tell(&rt, PROGRAM, status, stdin.why(), stdout.why()),
+        _ => Messages::of_report(PROGRAM).tell(&rt, status, stdin.why(), stdout.why()),
     }
     exit_code(status)
 }
