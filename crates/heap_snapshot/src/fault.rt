@@ -2,7 +2,7 @@ ghost use Rattle.std.specs.Prelude.{◌≡◌, ◌++◌, codes, decimal, IfOk, O
 ghost use Rattle.heap_snapshot.specs.ToTrace.{fault_text, why_text};
 
 use heap_base::OutOfMemory;
-use itoa::Buffer;
+use report::{put, put_number};
 use snapshot_text::SnapWhy;
 use std::alloc::Global;
 
@@ -36,18 +36,4 @@ fn put_dangling(text: &mut Vec<u8>, id: u32) -> Result<(), OutOfMemory>
 {
     put(text, b"Dangling ")?;
     put_number(text, id as u64)
-}
-
-fn put(text: &mut Vec<u8>, bytes: &[u8]) -> Result<(), OutOfMemory>
-    ensures { OnOk result (text.new.items ≡ text.old.items ++ bytes.now) }
-{
-    text.extend_from_slice(bytes)?;
-    Ok(())
-}
-
-fn put_number(text: &mut Vec<u8>, number: u64) -> Result<(), OutOfMemory>
-    ensures { OnOk result (text.new.items ≡ text.old.items ++ decimal number) }
-{
-    let mut buffer = Buffer::new();
-    put(text, buffer.format(number).as_bytes())
 }

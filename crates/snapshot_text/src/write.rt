@@ -8,7 +8,7 @@ ghost use Rattle.snapshot_text.specs.Text.{object_lines, root_line, slot_line, s
 
 use graph_meaning::{HeapView, ObjectList, ObjectView, RootList, SlotList};
 use heap_base::{Name, OutOfMemory};
-use itoa::Buffer;
+use report::{put, put_number};
 use std::alloc::Global;
 
 /// The text of a view. Of a lawful view it is the one that stands for it.
@@ -51,9 +51,9 @@ fn put_object_line(text: &mut Vec<u8>, object: &ObjectView) -> Result<(), OutOfM
     ensures { OnOk result (text.new.items ≡ text.old.items ++ line_bytes (Object object.now.id (length object.now.slots) object.now.kind)) }
 {
     put(text, b"object ")?;
-    put_number(text, object.id)?;
+    put_number(text, object.id as u64)?;
     put(text, b" ")?;
-    put_number(text, object.slots.len())?;
+    put_number(text, object.slots.len() as u64)?;
     put(text, b" ")?;
     put_name_and_newline(text, &object.kind)
 }
@@ -80,9 +80,9 @@ fn put_slot_line(text: &mut Vec<u8>, slot: u32, to: u32) -> Result<(), OutOfMemo
     ensures { OnOk result (text.new.items ≡ text.old.items ++ line_bytes (Slot slot to)) }
 {
     put(text, b"slot ")?;
-    put_number(text, slot)?;
+    put_number(text, slot as u64)?;
     put(text, b" ")?;
-    put_number(text, to)?;
+    put_number(text, to as u64)?;
     put(text, b"\n")
 }
 
@@ -100,23 +100,9 @@ fn put_root_line(text: &mut Vec<u8>, name: &Name, to: u32) -> Result<(), OutOfMe
     ensures { OnOk result (text.new.items ≡ text.old.items ++ line_bytes (Root to name.now)) }
 {
     put(text, b"root ")?;
-    put_number(text, to)?;
+    put_number(text, to as u64)?;
     put(text, b" ")?;
     put_name_and_newline(text, name)
-}
-
-fn put(text: &mut Vec<u8>, bytes: &[u8]) -> Result<(), OutOfMemory>
-    ensures { OnOk result (text.new.items ≡ text.old.items ++ bytes.now) }
-{
-    text.extend_from_slice(bytes)?;
-    Ok(())
-}
-
-fn put_number(text: &mut Vec<u8>, number: u32) -> Result<(), OutOfMemory>
-    ensures { OnOk result (text.new.items ≡ text.old.items ++ decimal number) }
-{
-    let mut buffer = Buffer::new();
-    put(text, buffer.format(number).as_bytes())
 }
 
 // A name, which ends its line.
