@@ -8,16 +8,13 @@ use graph_meaning::{
 use std::alloc::Global;
 use std::test::Fail;
 
-fn pair(
-    alloc: Global,
-    id: u32,
-    kind: &str,
-    first: Option<u32>,
-    second: Option<u32>,
-) -> Result<ObjectView, Fail> {
+// What two slots hold.
+type Held = (Option<u32>, Option<u32>);
+
+fn pair(alloc: Global, id: u32, kind: &str, held: Held) -> Result<ObjectView, Fail> {
     let mut slots = SlotList::empty(alloc);
-    slots.push(first)?;
-    slots.push(second)?;
+    slots.push(held.0)?;
+    slots.push(held.1)?;
     let kind = name(alloc, kind)?;
     Ok(ObjectView { id, kind, slots })
 }
@@ -25,10 +22,10 @@ fn pair(
 // Object 1 leads to 3 and 2, both of which lead to 4.
 fn diamond(alloc: Global) -> Result<HeapView, Fail> {
     let mut objects = ObjectList::empty(alloc);
-    objects.push(pair(alloc, 1, "Top", Some(3), Some(2))?)?;
-    objects.push(pair(alloc, 2, "Mid", None, Some(4))?)?;
-    objects.push(pair(alloc, 3, "Mid", Some(4), None)?)?;
-    objects.push(pair(alloc, 4, "End", None, None)?)?;
+    objects.push(pair(alloc, 1, "Top", (Some(3), Some(2)))?)?;
+    objects.push(pair(alloc, 2, "Mid", (None, Some(4)))?)?;
+    objects.push(pair(alloc, 3, "Mid", (Some(4), None))?)?;
+    objects.push(pair(alloc, 4, "End", (None, None))?)?;
     let mut roots = RootList::empty(alloc);
     roots.push((name(alloc, "r")?, 1))?;
     Ok(HeapView { objects, roots })

@@ -10,32 +10,31 @@ use heap_base::{MemSink, MemSource, OutOfMemory, Status};
 use object_table::ObjectTable;
 use resident_crew::{ResidentJob, ResidentScan, audit_resident, trace_resident};
 use resident_rounds::Residents;
-use std::alloc::Global;
 use std::sync::{Arc, Wait};
 use std::test::Fail;
-use test_support::{SampleHeap, roles_in};
+use test_support::{Host, SampleHeap, roles_in};
 
 // A run in which each of two workers has a first task. The first cell leads to 1,000 others, which lead nowhere; the second is done once more.
 fn runs_well<R: Wait>(
-    rt: &R,
-    alloc: Global,
+    host: &Host<'_, R>,
     crew: &mut Residents<Cells, Counter, Meeting>,
 ) -> Result<bool, OutOfMemory> {
     let fan = Cells {
         count: 1_001,
         shape: Shape::Fan,
     };
-    let cells = Arc::new(alloc, fan)?;
-    let jobs = run_cells(rt, alloc, crew, &cells, &[(0, 0), (1, 1)])?;
+    let cells = Arc::new(host.alloc, fan)?;
+    let jobs = run_cells(host, crew, &cells, &[(0, 0), (1, 1)])?;
     Ok(times_seen(&jobs, 0) == 1 && times_seen(&jobs, 1) == 2 && times_seen(&jobs, 1_000) == 1)
 }
 
 #[test]
 fn both_workers_begin_in_each_run(rt: HostRuntime) -> Result<(), Fail> {
+    let host = Host::of(&rt, rt.alloc());
     let gate = Arc::new(rt.alloc(), Meeting::new())?;
     let mut crew = Residents::start(&rt, rt.alloc(), 2, gate.clone()?)?;
-    let first = runs_well(&rt, rt.alloc(), &mut crew)?;
-    let second = runs_well(&rt, rt.alloc(), &mut crew)?;
+    let first = runs_well(&host, &mut crew)?;
+    let second = runs_well(&host, &mut crew)?;
     crew.end(&rt);
     assert!(rt; first && second);
     assert!(rt; gate.met_in(2));
@@ -44,24 +43,24 @@ fn both_workers_begin_in_each_run(rt: HostRuntime) -> Result<(), Fail> {
 
 // How many objects are traced in the table, of which nothing is asserted.
 fn count_traced<R: Wait>(
-    rt: &R,
-    alloc: Global,
+    host: &Host<'_, R>,
     crew: &mut Residents<ResidentScan, ResidentJob, Meeting>,
     table: &ObjectTable,
 ) -> Result<u32, Fail> {
-    let roles = roles_in(alloc, table, SampleHeap::EMPTY)?;
-    let traced = trace_resident(rt, alloc, crew, table, &roles)?;
+    let roles = roles_in(host.alloc, table, SampleHeap::EMPTY)?;
+    let traced = trace_resident(host.rt, host.alloc, crew, table, &roles)?;
     Ok(traced.traced())
 }
 
 #[test]
 fn both_workers_begin_in_each_trace(rt: HostRuntime) -> Result<(), Fail> {
+    let host = Host::of(&rt, rt.alloc());
     let table = family_table(rt.alloc())?;
     let gate = Arc::new(rt.alloc(), Meeting::new())?;
     let mut crew = Residents::start(&rt, rt.alloc(), 2, gate.clone()?)?;
-    let first = count_traced(&rt, rt.alloc(), &mut crew, &table)?;
+    let first = count_traced(&host, &mut crew, &table)?;
     let met_once = gate.met_in(1);
-    let second = count_traced(&rt, rt.alloc(), &mut crew, &table)?;
+    let second = count_traced(&host, &mut crew, &table)?;
     crew.end(&rt);
     assert_eq!(rt; (first, second), (1_002, 1_002));
     assert!(rt; met_once && gate.met_in(2));

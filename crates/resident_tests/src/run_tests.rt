@@ -5,42 +5,50 @@ use crate::runs::run_cells;
 use crew_support::{Cells, Counter, Shape, are_seen};
 use heap_base::{OpenGate, OutOfMemory};
 use resident_rounds::Residents;
-use std::alloc::Global;
 use std::sync::{Arc, Wait};
 use std::test::Fail;
 use std::thread::Threads;
+use test_support::Host;
 
 type Crew = Residents<Cells, Counter, OpenGate>;
 
 fn new_crew<R: Threads + Wait + Clone + Drop + Send + Sync + 'static>(
-    rt: &R,
-    alloc: Global,
+    host: &Host<'_, R>,
     workers: u32,
 ) -> Result<Crew, OutOfMemory>
     requires some { 0 < workers }
     requires few { workers ≤ 16 }
 {
-    let gate = Arc::new(alloc, OpenGate)?;
-    Residents::start(rt, alloc, workers, gate)
+    let gate = Arc::new(host.alloc, OpenGate)?;
+    Residents::start(host.rt, host.alloc, workers, gate)
 }
 
-// Whether a run from these cells on does each cell so many times.
-fn does_each<R: Wait>(
-    rt: &R,
-    alloc: Global,
+// Whether a run that begins with the first cell does each cell once.
+fn does_each_once<R: Wait>(
+    host: &Host<'_, R>,
     crew: &mut Crew,
     cells: Cells,
-    firsts: &[(u32, u32)],
-    times: u64,
 ) -> Result<bool, OutOfMemory> {
     let count = cells.count;
-    let cells = Arc::new(alloc, cells)?;
-    let jobs = run_cells(rt, alloc, crew, &cells, firsts)?;
-    Ok(are_seen(&jobs, count, times))
+    let cells = Arc::new(host.alloc, cells)?;
+    let jobs = run_cells(host, crew, &cells, &[(0, 0)])?;
+    Ok(are_seen(&jobs, count, 1))
+}
+
+// Whether a run without a first task does none of them.
+fn does_none<R: Wait>(
+    host: &Host<'_, R>,
+    crew: &mut Crew,
+    cells: Cells,
+) -> Result<bool, OutOfMemory> {
+    let count = cells.count;
+    let cells = Arc::new(host.alloc, cells)?;
+    let jobs = run_cells(host, crew, &cells, &[])?;
+    Ok(are_seen(&jobs, count, 0))
 }
 
 // The cells 0 to 3 in a row; none of them, without a first task; and so many that each worker with a task has a thread.
-fn does_all<R: Wait>(rt: &R, alloc: Global, crew: &mut Crew) -> Result<bool, OutOfMemory> {
+fn does_all<R: Wait>(host: &Host<'_, R>, crew: &mut Crew) -> Result<bool, OutOfMemory> {
     let chain = Cells {
         count: 4,
         shape: Shape::Chain,
@@ -54,17 +62,18 @@ fn does_all<R: Wait>(rt: &R, alloc: Global, crew: &mut Crew) -> Result<bool, Out
         shape: Shape::Tree,
     };
     Ok(
-        does_each(rt, alloc, crew, chain, &[(0, 0)], 1)?
-            && does_each(rt, alloc, crew, none, &[], 0)?
-            && does_each(rt, alloc, crew, tree, &[(0, 0)], 1)?,
+        does_each_once(host, crew, chain)?
+            && does_none(host, crew, none)?
+            && does_each_once(host, crew, tree)?,
     )
 }
 
 #[test]
 fn each_cell_is_done_once(rt: HostRuntime) -> Result<(), Fail> {
+    let host = Host::of(&rt, rt.alloc());
     for workers in [1, 2, 16] {
-        let mut crew = new_crew(&rt, rt.alloc(), workers)?;
-        let is_done = does_all(&rt, rt.alloc(), &mut crew)?;
+        let mut crew = new_crew(&host, workers)?;
+        let is_done = does_all(&host, &mut crew)?;
         crew.end(&rt);
         assert!(rt; is_done, "{workers}");
     }
@@ -72,19 +81,14 @@ fn each_cell_is_done_once(rt: HostRuntime) -> Result<(), Fail> {
 }
 
 // How many of so many runs of one crew do each cell of a tree once.
-fn good_runs<R: Wait>(
-    rt: &R,
-    alloc: Global,
-    crew: &mut Crew,
-    runs: u32,
-) -> Result<u32, OutOfMemory> {
+fn good_runs<R: Wait>(host: &Host<'_, R>, crew: &mut Crew, runs: u32) -> Result<u32, OutOfMemory> {
     let mut good = 0u32;
     for _ in 0..runs {
         let tree = Cells {
             count: 1_500,
             shape: Shape::Tree,
         };
-        if does_each(rt, alloc, crew, tree, &[(0, 0)], 1)? {
+        if does_each_once(host, crew, tree)? {
             good = good.saturating_add(1);
         }
     }
@@ -93,8 +97,9 @@ fn good_runs<R: Wait>(
 
 #[test]
 fn a_crew_runs_a_thousand_times(rt: HostRuntime) -> Result<(), Fail> {
-    let mut crew = new_crew(&rt, rt.alloc(), 2)?;
-    let good = good_runs(&rt, rt.alloc(), &mut crew, 1_000)?;
+    let host = Host::of(&rt, rt.alloc());
+    let mut crew = new_crew(&host, 2)?;
+    let good = good_runs(&host, &mut crew, 1_000)?;
     crew.end(&rt);
     assert_eq!(rt; good, 1_000);
     Ok(())

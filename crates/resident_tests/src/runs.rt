@@ -5,21 +5,21 @@ ghost use Rattle.resident_rounds.specs.Crews.{workers_of};
 use crew_support::{Cells, Counter, first_tasks, new_counters};
 use heap_base::{Gate, OutOfMemory};
 use resident_rounds::Residents;
-use std::alloc::Global;
 use std::sync::{Arc, Wait};
+use test_support::Host;
 
 /// A run of new jobs. It answers the jobs after it.
 pub fn run_cells<R: Wait, G: Gate + Send + Drop + 'static>(
-    rt: &R,
-    alloc: Global,
+    host: &Host<'_, R>,
     crew: &mut Residents<Cells, Counter, G>,
     cells: &Arc<Cells>,
     firsts: &[(u32, u32)],
 ) -> Result<Vec<Counter>, OutOfMemory>
     ensures { workers_of crew.new ≡ workers_of crew.old }
 {
+    let alloc = host.alloc;
     let workers = crew.workers();
     let jobs = new_counters(alloc, workers, cells.count)?;
     let first = first_tasks(alloc, workers, cells.count, firsts)?;
-    crew.run(rt, alloc, cells, jobs, &first)
+    crew.run(host.rt, alloc, cells, jobs, &first)
 }

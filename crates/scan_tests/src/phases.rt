@@ -16,7 +16,7 @@ use std::alloc::Global;
 use std::test::Fail;
 use std::thread::Threads;
 use steal_pool::{Crew, FirstTasks};
-use test_support::{SampleHeap, cell, roles_in, table_of};
+use test_support::{Host, SampleHeap, cell, roles_in, table_of};
 
 // ---- a run
 
@@ -45,32 +45,38 @@ enum Phases {
     Roots,
 }
 
-fn run<R: Threads + Sync>(
-    rt: &R,
-    alloc: Global,
-    shared: &ScanShared<'_>,
-    jobs: &mut Vec<ScanJob>,
+// Which phases run, and by how many workers.
+#[derive(Clone, Copy)]
+struct Plan {
     workers: u32,
     phases: Phases,
+}
+
+fn run<R: Threads + Sync>(
+    host: &Host<'_, R>,
+    shared: &ScanShared<'_>,
+    jobs: &mut Vec<ScanJob>,
+    plan: Plan,
 ) -> Result<(), OutOfMemory>
-    requires workers { (0 < workers) × (workers ≤ MOST_WORKERS) }
+    requires workers { (0 < plan.workers) × (plan.workers ≤ MOST_WORKERS) }
     requires roles { AreRolesOf shared.now.table.now.cells (length shared.now.table.now.table.kinds) shared.now.roles.now }
-    requires jobs { AreAllJobs workers shared.now.table.now shared.now.headers.now jobs.old.items }
+    requires jobs { AreAllJobs plan.workers shared.now.table.now shared.now.headers.now jobs.old.items }
     ensures passes { OnOk result (ArePassesOf shared.now.headers.now (passes_of jobs.new.items)) }
     ensures kinds { OnOk result (CountKinds shared.now.table.now jobs.new.items) }
 {
+    let alloc = host.alloc;
     let cells = shared.table.cells();
-    let mut crew: Crew<ScanJob> = Crew::make(alloc, workers, 2 * cells as u64 + 1)?;
-    let mut first = FirstTasks::make(alloc, workers, cells)?;
-    if let Phases::Roots = phases {
-        root_phase(rt, &mut crew, shared, jobs, &mut first, &OpenGate);
+    let mut crew: Crew<ScanJob> = Crew::make(alloc, plan.workers, 2 * cells as u64 + 1)?;
+    let mut first = FirstTasks::make(alloc, plan.workers, cells)?;
+    if let Phases::Roots = plan.phases {
+        root_phase(host.rt, &mut crew, shared, jobs, &mut first, &OpenGate);
         return Ok(());
     }
-    owner_phase(rt, &mut crew, shared, jobs, &mut first, &OpenGate);
-    if let Phases::Owners = phases {
+    owner_phase(host.rt, &mut crew, shared, jobs, &mut first, &OpenGate);
+    if let Phases::Owners = plan.phases {
         return Ok(());
     }
-    take_up(rt, &mut crew, shared, jobs, &mut first, &OpenGate);
+    take_up(host.rt, &mut crew, shared, jobs, &mut first, &OpenGate);
     Ok(())
 }
 
@@ -150,26 +156,24 @@ struct Outcome {
 }
 
 fn outcome_of_table<R: Threads + Sync>(
-    rt: &R,
-    alloc: Global,
+    host: &Host<'_, R>,
     table: &ObjectTable,
     roles: &Roles,
-    workers: u32,
-    phases: Phases,
+    plan: Plan,
 ) -> Result<Outcome, OutOfMemory>
-    requires workers { (0 < workers) × (workers ≤ MOST_WORKERS) }
+    requires workers { (0 < plan.workers) × (plan.workers ≤ MOST_WORKERS) }
     requires roles { AreRolesOf table.now.cells (length table.now.table.kinds) roles.now }
 {
-    let (headers, mut jobs) = start(alloc, table, workers)?;
+    let (headers, mut jobs) = start(host.alloc, table, plan.workers)?;
     let shared = ScanShared {
         headers: &headers,
         table,
         roles,
     };
-    run(rt, alloc, &shared, &mut jobs, workers, phases)?;
+    run(host, &shared, &mut jobs, plan)?;
     let held = all_held(jobs.as_slice());
     let won = all_won(table, jobs.as_slice());
-    let words = close(alloc, headers, jobs)?;
+    let words = close(host.alloc, headers, jobs)?;
     Ok(Outcome {
         held,
         won,
@@ -199,17 +203,12 @@ const HEAP: SampleHeap<'static> = SampleHeap {
     ..SampleHeap::EMPTY
 };
 
-fn outcome_of_heap<R: Threads + Sync>(
-    rt: &R,
-    alloc: Global,
-    workers: u32,
-    phases: Phases,
-) -> Result<Outcome, Fail>
-    requires { (0 < workers) × (workers ≤ MOST_WORKERS) }
+fn outcome_of_heap<R: Threads + Sync>(host: &Host<'_, R>, plan: Plan) -> Result<Outcome, Fail>
+    requires { (0 < plan.workers) × (plan.workers ≤ MOST_WORKERS) }
 {
-    let table = table_of(alloc, HEAP)?;
-    let roles = roles_in(alloc, &table, HEAP)?;
-    Ok(outcome_of_table(rt, alloc, &table, &roles, workers, phases)?)
+    let table = table_of(host.alloc, HEAP)?;
+    let roles = roles_in(host.alloc, &table, HEAP)?;
+    Ok(outcome_of_table(host, &table, &roles, plan)?)
 }
 
 // An object that was not met, and one that was met once or twice and has no mark.
@@ -258,9 +257,10 @@ const CASES: [(Phases, Outcome); 3] = [
 
 #[test]
 fn each_phase_leaves_the_same_by_each_number_of_workers(rt: HostRuntime) -> Result<(), Fail> {
+    let host = Host::of(&rt, rt.alloc());
     for (phases, outcome) in CASES {
         for workers in 1..4 {
-            let found = outcome_of_heap(&rt, rt.alloc(), workers, phases)?;
+            let found = outcome_of_heap(&host, Plan { workers, phases })?;
             assert_eq!(rt; found, outcome, "{phases:?} by {workers} workers");
         }
     }

@@ -69,8 +69,8 @@ fn check_by_hand<R: Abort>(rt: &R, alloc: Global, table: &ObjectTable) -> Result
         return Err("a table of two objects and types was asked for".into());
     }
     let traced = traced_by_hand(alloc, table)?;
-    assert!(rt; are_as_wanted(table, &traced, 1, 1, KEPT_ONCE));
-    assert!(rt; are_as_wanted(table, &traced, 9, 9, (3, true, Some(false), false)));
+    assert!(rt; are_as_wanted(table, &traced, (1, 1, KEPT_ONCE)));
+    assert!(rt; are_as_wanted(table, &traced, (9, 9, (3, true, Some(false), false))));
     assert!(rt; counts_kinds(table, &traced, &[1, 1]));
     Ok(())
 }

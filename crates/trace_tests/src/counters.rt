@@ -4,33 +4,39 @@ ghost use Rattle.steal_pool.specs.Runs.{workers_of, room_of};
 
 use crew_support::{Cells, Counter, Shape, are_seen, first_tasks, new_counters};
 use heap_base::{Gate, OpenGate, OutOfMemory};
-use std::alloc::Global;
 use std::thread::Threads;
 use steal_pool::Crew;
+use test_support::Host;
+
+/// What a crew does in a run: cells, and of its first tasks the worker and the cell.
+#[derive(Clone, Copy)]
+pub struct Work<'a> {
+    pub cells: &'a Cells,
+    pub firsts: &'a [(u32, u32)],
+}
 
 /// A run of new jobs. It answers the jobs after it.
 pub fn run_cells<R: Threads + Sync, G: Gate>(
-    rt: &R,
-    alloc: Global,
+    host: &Host<'_, R>,
     crew: &mut Crew<Counter>,
-    cells: &Cells,
-    firsts: &[(u32, u32)],
+    work: Work<'_>,
     gate: &G,
 ) -> Result<Vec<Counter>, OutOfMemory>
-    requires { cells.now.count + 5 ≤ room_of crew.old }
+    requires { work.cells.now.count + 5 ≤ room_of crew.old }
     ensures workers { workers_of crew.new ≡ workers_of crew.old }
     ensures room { room_of crew.new ≡ room_of crew.old }
 {
-    let mut jobs = new_counters(alloc, crew.workers(), cells.count)?;
-    let first = first_tasks(alloc, crew.workers(), cells.count, firsts)?;
-    crew.run(rt, cells, &mut jobs, &first, gate);
+    let alloc = host.alloc;
+    let count = work.cells.count;
+    let mut jobs = new_counters(alloc, crew.workers(), count)?;
+    let first = first_tasks(alloc, crew.workers(), count, work.firsts)?;
+    crew.run(host.rt, work.cells, &mut jobs, &first, gate);
     Ok(jobs)
 }
 
 /// Whether each of so many cells is done once, from the first cell on, by so many workers.
 pub fn is_done_once<R: Threads + Sync>(
-    rt: &R,
-    alloc: Global,
+    host: &Host<'_, R>,
     shape: Shape,
     count: u32,
     workers: u32,
@@ -40,7 +46,11 @@ pub fn is_done_once<R: Threads + Sync>(
     requires cells { count ≤ 1_000_000 }
 {
     let cells = Cells { count, shape };
-    let mut crew = Crew::make(alloc, workers, count as u64 + 5)?;
-    let jobs = run_cells(rt, alloc, &mut crew, &cells, &[(0, 0)], &OpenGate)?;
+    let work = Work {
+        cells: &cells,
+        firsts: &[(0, 0)],
+    };
+    let mut crew = Crew::make(host.alloc, workers, count as u64 + 5)?;
+    let jobs = run_cells(host, &mut crew, work, &OpenGate)?;
     Ok(are_seen(jobs.as_slice(), count, 1))
 }

@@ -3,19 +3,20 @@
 ghost use Rattle.std.specs.Prelude.{◌≡◌, ◌<◌, ◌≤◌};
 ghost use Rattle.steal_pool.specs.Runs.{room_of};
 
-use crate::counters::{is_done_once, run_cells};
+use crate::counters::{Work, is_done_once, run_cells};
 use crew_support::{Cells, Counter, Shape, are_seen, times_seen};
 use heap_base::{Gate, OpenGate, OutOfMemory, Task};
-use std::alloc::Global;
 use std::process::Abort;
 use std::sync::atomic::{AtomicU64, Ordering};
 use std::test::Fail;
 use std::thread::Threads;
 use steal_pool::{Crew, FirstTasks, Outbox};
+use test_support::Host;
 
 /// Few cells, and so many that each worker has a thread of its own or some share one.
 #[test]
 fn each_cell_is_done_once(rt: HostRuntime) -> Result<(), Fail> {
+    let host = Host::of(&rt, rt.alloc());
     for (shape, count) in [
         (Shape::Chain, 4),
         (Shape::Tree, 4),
@@ -26,7 +27,7 @@ fn each_cell_is_done_once(rt: HostRuntime) -> Result<(), Fail> {
         (Shape::Opening(10_000), 300_000),
     ] {
         for workers in [1, 2, 16] {
-            let once = is_done_once(&rt, rt.alloc(), shape, count, workers)?;
+            let once = is_done_once(&host, shape, count, workers)?;
             assert!(rt; once, "{count} cells by {workers} workers");
         }
     }
@@ -40,35 +41,39 @@ const TREE: Cells = Cells {
 
 // How often one more run of the crew does the first cell.
 fn times_done<R: Threads + Sync>(
-    rt: &R,
-    alloc: Global,
+    host: &Host<'_, R>,
     crew: &mut Crew<Counter>,
     firsts: &[(u32, u32)],
 ) -> Result<u64, OutOfMemory>
     requires { 105 ≤ room_of crew.old }
     ensures { room_of crew.new ≡ room_of crew.old }
 {
-    let jobs = run_cells(rt, alloc, crew, &TREE, firsts, &OpenGate)?;
+    let work = Work {
+        cells: &TREE,
+        firsts,
+    };
+    let jobs = run_cells(host, crew, work, &OpenGate)?;
     Ok(times_seen(jobs.as_slice(), 0))
 }
 
 fn check_runs<R: Threads + Sync + Abort>(
-    rt: &R,
-    alloc: Global,
+    host: &Host<'_, R>,
     crew: &mut Crew<Counter>,
 ) -> Result<(), Fail>
     requires { 105 ≤ room_of crew.old }
 {
-    assert_eq!(rt; times_done(rt, alloc, crew, &[(1, 0)])?, 1);
-    assert_eq!(rt; times_done(rt, alloc, crew, &[])?, 0);
-    assert_eq!(rt; times_done(rt, alloc, crew, &[(0, 0), (1, 0)])?, 2);
+    let rt = host.rt;
+    assert_eq!(rt; times_done(host, crew, &[(1, 0)])?, 1);
+    assert_eq!(rt; times_done(host, crew, &[])?, 0);
+    assert_eq!(rt; times_done(host, crew, &[(0, 0), (1, 0)])?, 2);
     Ok(())
 }
 
 #[test]
 fn a_crew_runs_again(rt: HostRuntime) -> Result<(), Fail> {
+    let host = Host::of(&rt, rt.alloc());
     let mut crew = Crew::make(rt.alloc(), 3, 105)?;
-    check_runs(&rt, rt.alloc(), &mut crew)
+    check_runs(&host, &mut crew)
 }
 
 #[test]
@@ -130,28 +135,31 @@ impl Counting {
 // How many tasks and idle turns a run has that does each of the cells so often, from the task of the first cell for one worker on,
 // or from no task.
 fn turns_of_run<R: Threads + Sync>(
-    rt: &R,
-    alloc: Global,
+    host: &Host<'_, R>,
     workers: u32,
-    cells: &Cells,
-    firsts: &[(u32, u32)],
+    work: Work<'_>,
     times: u64,
 ) -> Result<Option<(u64, u64)>, OutOfMemory>
     requires some { 0 < workers }
     requires few { workers ≤ 16 }
-    requires cells { cells.now.count ≤ 1_000 }
+    requires cells { work.cells.now.count ≤ 1_000 }
 {
     let gate = Counting::make();
-    let mut crew = Crew::make(alloc, workers, cells.count as u64 + 5)?;
-    let jobs = run_cells(rt, alloc, &mut crew, cells, firsts, &gate)?;
-    Ok(are_seen(jobs.as_slice(), cells.count, times).then_some(gate.seen()))
+    let mut crew = Crew::make(host.alloc, workers, work.cells.count as u64 + 5)?;
+    let jobs = run_cells(host, &mut crew, work, &gate)?;
+    Ok(are_seen(jobs.as_slice(), work.cells.count, times).then_some(gate.seen()))
 }
 
 /// Nobody else is waited for: each worker stops at its first turn without a task.
 #[test]
 fn a_short_run_has_one_thread(rt: HostRuntime) -> Result<(), Fail> {
+    let host = Host::of(&rt, rt.alloc());
     for first in [3, 0, 15] {
-        let turns = turns_of_run(&rt, rt.alloc(), 16, &TREE, &[(first, 0)], 1)?;
+        let work = Work {
+            cells: &TREE,
+            firsts: &[(first, 0)],
+        };
+        let turns = turns_of_run(&host, 16, work, 1)?;
         assert_eq!(rt; turns, Some((100, 16)));
     }
     Ok(())
@@ -160,11 +168,16 @@ fn a_short_run_has_one_thread(rt: HostRuntime) -> Result<(), Fail> {
 /// Each of two workers, on two threads, stops at its eighth turn.
 #[test]
 fn nobody_waits_where_nobody_has_a_task(rt: HostRuntime) -> Result<(), Fail> {
+    let host = Host::of(&rt, rt.alloc());
     let cells = Cells {
         count: 1_000,
         shape: Shape::Tree,
     };
-    let turns = turns_of_run(&rt, rt.alloc(), 2, &cells, &[], 0)?;
+    let work = Work {
+        cells: &cells,
+        firsts: &[],
+    };
+    let turns = turns_of_run(&host, 2, work, 0)?;
     assert_eq!(rt; turns, Some((0, 16)));
     Ok(())
 }

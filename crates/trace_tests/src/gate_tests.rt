@@ -5,8 +5,8 @@
 
 ghost use Rattle.std.specs.Prelude.{◌≤◌};
 
-use crate::counters::run_cells;
-use crate::traces::trace_table;
+use crate::counters::{Work, run_cells};
+use crate::traces::{OwnedHeap, trace_table};
 use crew_support::{Cells, Counter, Shape, are_seen};
 use heap_base::{Gate, Name, OutOfMemory};
 use object_table::ObjectTable;
@@ -15,7 +15,7 @@ use std::test::Fail;
 use std::thread::Threads;
 use steal_pool::Crew;
 use test_support::{
-    Holding, SampleHeap, UNTIL_BOTH_BEGIN, UntilOneIsStolen, Watch, id, name, table_of,
+    Holding, Host, SampleHeap, UNTIL_BOTH_BEGIN, UntilOneIsStolen, Watch, id, name, table_of,
     until_many_are_begun,
 };
 
@@ -25,18 +25,28 @@ const FAN: Cells = Cells {
     shape: Shape::Fan,
 };
 
+/// Each of two workers has a first task.
+const FROM_BOTH: Work<'static> = Work {
+    cells: &FAN,
+    firsts: &[(0, 0), (1, 1)],
+};
+
+/// Worker 0 alone has one.
+const FROM_ONE: Work<'static> = Work {
+    cells: &FAN,
+    firsts: &[(0, 0)],
+};
+
 // A run of two workers.
 fn run_two<R: Threads + Sync, G: Gate>(
-    rt: &R,
-    alloc: Global,
-    cells: &Cells,
-    firsts: &[(u32, u32)],
+    host: &Host<'_, R>,
+    work: Work<'_>,
     gate: &G,
 ) -> Result<Vec<Counter>, OutOfMemory>
-    requires { cells.now.count ≤ 1_001 }
+    requires { work.cells.now.count ≤ 1_001 }
 {
-    let mut crew = Crew::make(alloc, 2, 1_006)?;
-    run_cells(rt, alloc, &mut crew, cells, firsts, gate)
+    let mut crew = Crew::make(host.alloc, 2, 1_006)?;
+    run_cells(host, &mut crew, work, gate)
 }
 
 // How many tasks each of two workers began, where nobody gave up waiting.
@@ -54,11 +64,12 @@ fn have_both_begun(watch: &Watch) -> bool {
 
 #[test]
 fn both_workers_begin(rt: HostRuntime) -> Result<(), Fail> {
+    let host = Host::of(&rt, rt.alloc());
     let gate = Holding {
         holds: &UNTIL_BOTH_BEGIN,
         watch: Watch::new(),
     };
-    run_two(&rt, rt.alloc(), &FAN, &[(0, 0), (1, 1)], &gate)?;
+    run_two(&host, FROM_BOTH, &gate)?;
     assert!(rt; have_both_begun(&gate.watch));
     Ok(())
 }
@@ -77,10 +88,11 @@ fn stolen(jobs: &[Counter]) -> Option<u64> {
 /// task when worker 1 got the first of them.
 #[test]
 fn a_worker_without_a_task_steals(rt: HostRuntime) -> Result<(), Fail> {
+    let host = Host::of(&rt, rt.alloc());
     let gate = UntilOneIsStolen {
         watch: Watch::new(),
     };
-    let jobs = run_two(&rt, rt.alloc(), &FAN, &[(0, 0)], &gate)?;
+    let jobs = run_two(&host, FROM_ONE, &gate)?;
     assert!(rt; have_both_begun(&gate.watch));
     assert_eq!(rt; stolen(jobs.as_slice()), Some(gate.watch.begun(1)));
     Ok(())
@@ -89,6 +101,7 @@ fn a_worker_without_a_task_steals(rt: HostRuntime) -> Result<(), Fail> {
 /// The last cell of the chain leads nowhere. So worker 0 has three tasks, and worker 1 has one.
 #[test]
 fn a_worker_goes_on_while_another_is_held(rt: HostRuntime) -> Result<(), Fail> {
+    let host = Host::of(&rt, rt.alloc());
     let cells = Cells {
         count: 3,
         shape: Shape::Chain,
@@ -98,7 +111,11 @@ fn a_worker_goes_on_while_another_is_held(rt: HostRuntime) -> Result<(), Fail> {
         holds: &holds,
         watch: Watch::new(),
     };
-    run_two(&rt, rt.alloc(), &cells, &[(0, 0), (1, 2)], &gate)?;
+    let work = Work {
+        cells: &cells,
+        firsts: &[(0, 0), (1, 2)],
+    };
+    run_two(&host, work, &gate)?;
     assert_eq!(rt; begun(&gate.watch), Some((3, 1)));
     Ok(())
 }
@@ -110,12 +127,13 @@ fn did_all(job: Option<&Counter>) -> bool {
 /// While worker 1 is held, worker 0 does all that it put: none of it was dealt to worker 1.
 #[test]
 fn a_worker_that_asks_for_nothing_gets_nothing(rt: HostRuntime) -> Result<(), Fail> {
+    let host = Host::of(&rt, rt.alloc());
     let holds = until_many_are_begun(1_001);
     let gate = Holding {
         holds: &holds,
         watch: Watch::new(),
     };
-    let jobs = run_two(&rt, rt.alloc(), &FAN, &[(0, 0), (1, 1)], &gate)?;
+    let jobs = run_two(&host, FROM_BOTH, &gate)?;
     assert!(rt; did_all(jobs.first()));
     assert_eq!(rt; begun(&gate.watch), Some((1_001, 1)));
     Ok(())
@@ -144,23 +162,24 @@ fn wide_table(alloc: Global) -> Result<ObjectTable, Fail> {
 
 // How many objects a trace by two workers has traced.
 fn count_traced<R: Threads + Sync, G: Gate>(
-    rt: &R,
-    alloc: Global,
+    host: &Host<'_, R>,
     table: &ObjectTable,
     gate: &G,
 ) -> Result<u32, Fail> {
-    let traced = trace_table(rt, alloc, table, &[], 2, gate)?;
+    let heap = OwnedHeap { table, owned: &[] };
+    let traced = trace_table(host, heap, 2, gate)?;
     Ok(traced.traced())
 }
 
 #[test]
 fn both_workers_of_a_trace_begin(rt: HostRuntime) -> Result<(), Fail> {
+    let host = Host::of(&rt, rt.alloc());
     let gate = Holding {
         holds: &UNTIL_BOTH_BEGIN,
         watch: Watch::new(),
     };
     let table = wide_table(rt.alloc())?;
-    let traced = count_traced(&rt, rt.alloc(), &table, &gate)?;
+    let traced = count_traced(&host, &table, &gate)?;
     assert_eq!(rt; traced, 1_002);
     assert!(rt; have_both_begun(&gate.watch));
     Ok(())

@@ -5,7 +5,7 @@ use crate::traces::{
     check_heap,
 };
 use std::test::Fail;
-use test_support::SampleHeap;
+use test_support::{Host, SampleHeap};
 
 const EMPTY: SampleHeap<'static> = SampleHeap::EMPTY;
 
@@ -281,8 +281,9 @@ const CASES: [(SampleHeap<'static>, Wanted<'static>); 17] = [
 
 #[test]
 fn each_heap_is_traced_as_it_is_by_few_and_many(rt: HostRuntime) -> Result<(), Fail> {
+    let host = Host::of(&rt, rt.alloc());
     for (heap, wanted) in CASES {
-        check_heap(&rt, rt.alloc(), heap, wanted)?;
+        check_heap(&host, heap, wanted)?;
     }
     Ok(())
 }

@@ -5,11 +5,10 @@ ghost use Rattle.heap_base.specs.declared.limits.TheConstants.{MOST_WORKERS};
 use heap_base::{Gate, OpenGate};
 use heap_trace::{Kit, Traced, trace};
 use object_table::ObjectTable;
-use std::alloc::Global;
 use std::process::Abort;
 use std::test::Fail;
 use std::thread::Threads;
-use test_support::{SampleHeap, cell, roles_in, table_of};
+use test_support::{Host, SampleHeap, cell, roles_in, table_of};
 
 /// What a trace says of an object: how many references there are to it, whether it is kept, whether it is marked found, and
 /// whether as met by roots.
@@ -35,26 +34,32 @@ pub const MET_ONCE: Want = (1, true, Some(false), true);
 
 pub const MET_TWICE: Want = (2, true, Some(false), true);
 
+/// A table, and which of its objects own which, the owner first.
+#[derive(Clone, Copy)]
+pub struct OwnedHeap<'a> {
+    pub table: &'a ObjectTable,
+    pub owned: &'a [(u32, u32)],
+}
+
 /// The heap of the table, traced by so many workers.
 pub fn trace_table<R: Threads + Sync, G: Gate>(
-    rt: &R,
-    alloc: Global,
-    table: &ObjectTable,
-    owned: &[(u32, u32)],
+    host: &Host<'_, R>,
+    heap: OwnedHeap<'_>,
     workers: u32,
     gate: &G,
 ) -> Result<Traced, Fail>
     requires { (0 < workers) × (workers ≤ MOST_WORKERS) }
-    ensures cells { IfOk result (λ t. t.words.cells ≡ length table.now.cells) }
-    ensures kinds { IfOk result (λ t. length t.instances ≡ length table.now.table.kinds) }
+    ensures cells { IfOk result (λ t. t.words.cells ≡ length heap.entry.table.now.cells) }
+    ensures kinds { IfOk result (λ t. length t.instances ≡ length heap.entry.table.now.table.kinds) }
 {
-    let heap = SampleHeap {
-        owned,
+    let table = heap.table;
+    let asserted = SampleHeap {
+        owned: heap.owned,
         ..SampleHeap::EMPTY
     };
-    let roles = roles_in(alloc, table, heap)?;
-    let kit = Kit::prepare(alloc, table.cells(), table.kinds(), workers)?;
-    Ok(trace(rt, kit, table, &roles, gate))
+    let roles = roles_in(host.alloc, table, asserted)?;
+    let kit = Kit::prepare(host.alloc, table.cells(), table.kinds(), workers)?;
+    Ok(trace(host.rt, kit, table, &roles, gate))
 }
 
 fn seen(table: &ObjectTable, traced: &Traced, object: u32) -> Option<Seen>
@@ -80,16 +85,14 @@ fn is_as_wanted(seen: Option<Seen>, want: Want) -> bool {
     }
 }
 
-/// Whether the trace says of each object from the first to the last, both included, what is wanted.
-pub fn are_as_wanted(
-    table: &ObjectTable,
-    traced: &Traced,
-    first: u32,
-    last: u32,
-    want: Want,
-) -> bool
+/// Objects from a first to a last, both included, and what is wanted of each.
+pub type Objects = (u32, u32, Want);
+
+/// Whether the trace says of each of these objects what is wanted.
+pub fn are_as_wanted(table: &ObjectTable, traced: &Traced, objects: Objects) -> bool
     requires { traced.now.words.cells ≡ length table.now.cells }
 {
+    let (first, last, want) = objects;
     for object in first..=last {
         if !is_as_wanted(seen(table, traced, object), want) {
             return false;
@@ -115,20 +118,16 @@ pub fn counts_kinds(table: &ObjectTable, traced: &Traced, instances: &[u64]) -> 
 /// What is wanted of a trace: of each object from a first to a last, and how many of each type are traced.
 #[derive(Clone, Copy)]
 pub struct Wanted<'a> {
-    pub objects: &'a [(u32, u32, Want)],
+    pub objects: &'a [Objects],
     pub instances: &'a [u64],
 }
 
 // The first range of objects of which the trace says something else.
-fn first_amiss(
-    table: &ObjectTable,
-    traced: &Traced,
-    objects: &[(u32, u32, Want)],
-) -> Option<(u32, u32)>
+fn first_amiss(table: &ObjectTable, traced: &Traced, objects: &[Objects]) -> Option<(u32, u32)>
     requires { traced.now.words.cells ≡ length table.now.cells }
 {
     for (first, last, want) in objects {
-        if !are_as_wanted(table, traced, *first, *last, *want) {
+        if !are_as_wanted(table, traced, (*first, *last, *want)) {
             return Some((*first, *last));
         }
     }
@@ -137,33 +136,35 @@ fn first_amiss(
 
 // Traces the table by so many workers, and compares.
 fn check_table<R: Threads + Sync + Abort>(
-    rt: &R,
-    alloc: Global,
-    table: &ObjectTable,
-    owned: &[(u32, u32)],
+    host: &Host<'_, R>,
+    heap: OwnedHeap<'_>,
     wanted: Wanted<'_>,
     workers: u32,
 ) -> Result<(), Fail>
     requires { (0 < workers) × (workers ≤ MOST_WORKERS) }
 {
-    let traced = trace_table(rt, alloc, table, owned, workers, &OpenGate)?;
-    let amiss = first_amiss(table, &traced, wanted.objects);
+    let rt = host.rt;
+    let traced = trace_table(host, heap, workers, &OpenGate)?;
+    let amiss = first_amiss(heap.table, &traced, wanted.objects);
     assert_eq!(rt; amiss, None, "by {workers} workers");
-    let counts = counts_kinds(table, &traced, wanted.instances);
+    let counts = counts_kinds(heap.table, &traced, wanted.instances);
     assert!(rt; counts, "the types by {workers} workers");
     Ok(())
 }
 
 /// Traces a sample heap by 1, 2, 3 and 16 workers, and compares.
 pub fn check_heap<R: Threads + Sync + Abort>(
-    rt: &R,
-    alloc: Global,
+    host: &Host<'_, R>,
     heap: SampleHeap<'_>,
     wanted: Wanted<'_>,
 ) -> Result<(), Fail> {
-    let table = table_of(alloc, heap)?;
+    let table = table_of(host.alloc, heap)?;
+    let heap = OwnedHeap {
+        table: &table,
+        owned: heap.owned,
+    };
     for workers in [1, 2, 3, 16] {
-        check_table(rt, alloc, &table, heap.owned, wanted, workers)?;
+        check_table(host, heap, wanted, workers)?;
     }
     Ok(())
 }

@@ -18,27 +18,34 @@ const NONE: Marks = Marks {
     met_by_roots: false,
 };
 
+// A meet of a cell, and the marks that it sets.
+#[derive(Clone, Copy)]
+struct Meet {
+    cell: u32,
+    marks: Marks,
+}
+
 // Meets a cell, where a meet is left.
-fn meet_once(headers: &Headers, cells: u32, pass: &mut Pass, cell: u32, given: Marks) -> bool
+fn meet_once(headers: &Headers, cells: u32, pass: &mut Pass, meet: Meet) -> bool
     requires cells { headers.now.cells ≡ cells }
     requires pass { IsPassOf headers.now pass.old }
     ensures { IsSamePass headers.now pass.old pass.new }
 {
-    if cell < cells && pass.left() > 0 {
-        headers.meet(pass, cell, given)
+    if meet.cell < cells && pass.left() > 0 {
+        headers.meet(pass, meet.cell, meet.marks)
     } else {
         false
     }
 }
 
 // Meets cell 1 of two with the pass of this number.
-fn meet_with(headers: &Headers, passes: &mut Vec<Pass>, number: usize, given: Marks) -> bool
+fn meet_with(headers: &Headers, passes: &mut Vec<Pass>, number: usize, marks: Marks) -> bool
     requires cells { headers.now.cells ≡ 2 }
     requires passes { ArePassesOf headers.now passes.old.items }
     ensures { ArePassesOf headers.now passes.new.items }
 {
     match passes.get_mut(number) {
-        Some(pass) => meet_once(headers, 2, pass, 1, given),
+        Some(pass) => meet_once(headers, 2, pass, Meet { cell: 1, marks }),
         None => false,
     }
 }
@@ -130,9 +137,13 @@ fn meet_in_order(headers: &Headers, cells: u32, pass: &mut Pass, won: &[AtomicU6
         2 => (500, 7),
         _ => (250, 333),
     };
-    for meet in 0..1_000u64 {
-        let cell = (first + meet * step) % cells.max(1) as u64;
-        if meet_once(headers, cells, pass, cell as u32, NONE) {
+    for nth in 0..1_000u64 {
+        let cell = (first + nth * step) % cells.max(1) as u64;
+        let meet = Meet {
+            cell: cell as u32,
+            marks: NONE,
+        };
+        if meet_once(headers, cells, pass, meet) {
             if let Some(wins) = won.get(cell as usize) {
                 wins.fetch_add(1, SeqCst);
             }
@@ -184,16 +195,23 @@ fn counters(alloc: Global, count: u32) -> Result<Vec<AtomicU64>, Fail> {
     Ok(counters)
 }
 
-// Whether each of the cells was won once and met so often, after 1,000 meets by each worker.
-fn is_fair<R: Threads + Sync>(
-    rt: &R,
-    alloc: Global,
+// So many workers that meet so many cells, and how often each cell is met then.
+#[derive(Clone, Copy)]
+struct Race {
     cells: u32,
     workers: u32,
     count: u64,
-) -> Result<bool, Fail>
-    requires { (0 < workers) × (workers ≤ MOST_WORKERS) }
+}
+
+// Whether each of the cells was won once and met so often, after 1,000 meets by each worker.
+fn is_fair<R: Threads + Sync>(rt: &R, alloc: Global, race: Race) -> Result<bool, Fail>
+    requires { (0 < race.workers) × (race.workers ≤ MOST_WORKERS) }
 {
+    let Race {
+        cells,
+        workers,
+        count,
+    } = race;
     let won = counters(alloc, cells)?;
     let (headers, mut passes) = Headers::make(alloc, cells, workers)?;
     meet_in_threads(rt, &headers, cells, passes.as_mut_slice(), won.as_slice());
@@ -204,8 +222,18 @@ fn is_fair<R: Threads + Sync>(
 
 #[test]
 fn a_cell_is_won_once_by_whichever_thread(rt: HostRuntime) -> Result<(), Fail> {
-    assert!(rt; is_fair(&rt, rt.alloc(), 1, 2, 2_000)?);
-    assert!(rt; is_fair(&rt, rt.alloc(), 1_000, 4, 4)?);
+    let one_cell = Race {
+        cells: 1,
+        workers: 2,
+        count: 2_000,
+    };
+    let many_cells = Race {
+        cells: 1_000,
+        workers: 4,
+        count: 4,
+    };
+    assert!(rt; is_fair(&rt, rt.alloc(), one_cell)?);
+    assert!(rt; is_fair(&rt, rt.alloc(), many_cells)?);
     Ok(())
 }
 

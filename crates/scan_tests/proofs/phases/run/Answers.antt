@@ -22,7 +22,7 @@ owner_phase-requires-after_bounds g c κs within =
 pub take_up-requires-clause-scan : goal.take_up-requires-clause-scan
 take_up-requires-clause-scan g c κs within =
     let s = c.args.shared.now in
-    let n = c.args.workers in
+    let n = c.args.plan.workers in
     let js = c.args.jobs.now.items in
     let ks = c.owner_phase.new.jobs.items in
     let crew = c.owner_phase.new.crew in
