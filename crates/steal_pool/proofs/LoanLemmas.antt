@@ -41,10 +41,6 @@ module _ {X : Type 0} where
   headed {head = head} {rest = rest} P split d z rest' p =
       subst (λ xs. P xs (set head 0 z ++ rest')) (sym (front_is split d)) (subst (P (get_or head 0 d ∷ rest)) (sym (one_set head rest' z split.one)) p)
 
-  pub none_is : (xs : List X) → length xs ≡ 0 → xs ≡ []
-  none_is [] e = refl
-  none_is (x ∷ xs) e = absurd (omega arith)
-
   pub tail_length : (old rest : List X) (x : X) → old ≡ x ∷ rest → length old - 1 ≡ length rest
   tail_length old rest x e = let l = ap length e in omega arith
 
@@ -79,43 +75,29 @@ module _ {J : Type 0} where
   pub gets_none : (p : Place J) → ReceivesHands [] p p
   gets_none p = record { rest = refl; came = sym (append-nil (keys_of p)); fresh = λ h. h; space = refl; count = omega arith }
 
-  abbrev EachGets : Places J → List HandKey → Places J → Type 0
-  EachGets ps ms qs = Each (λ p m q. ReceivesHands (m ∷ []) (padded_value p) (padded_value q)) ps ms qs
+  -- each place became one so related to it
+  abbrev pub EachBecomes : (Place J → Place J → Type 0) → Places J → Places J → Type 0
+  EachBecomes R ps qs = Each (λ p _ q. R (padded_value p) (padded_value q)) ps ps qs
 
-  abbrev EachGives : Places J → Places J → Type 0
-  EachGives ps qs = Each (λ p _ q. OnlyLends 1 (padded_value p) (padded_value q)) ps ps qs
+  -- a hand of this key came to each place, or left it
+  abbrev pub EachMoves : (List HandKey → Place J → Place J → Type 0) → HandKey → Places J → Places J → Type 0
+  EachMoves R m ps qs = Each (λ p n q. R (n ∷ []) (padded_value p) (padded_value q)) ps (map (λ _. m) ps) qs
 
-  abbrev EachDealt : ℕ → Places J → Places J → Type 0
-  EachDealt k ps qs = Each (λ p _ q. ExchangesHands k (padded_value p) (padded_value q)) ps ps qs
-
-  abbrev AllGive : ℕ → Places J → Type 0
-  AllGive k ps = AllByRecursion (λ p. CanLend k (padded_value p)) ps
-
-  abbrev AllGet : ℕ → Places J → Type 0
-  AllGet k ps = AllByRecursion (λ p. CanReceive k (padded_value p)) ps
-
-  pub got_length : (m : HandKey) (ps qs : Places J) → EachGets ps (map (λ _. m) ps) qs → length qs ≡ length ps
-  got_length m [] qs e = ap length e.1
-  got_length m (p ∷ ps) [] e = absurd e
-  got_length m (p ∷ ps) (q ∷ qs) e = let r = got_length m ps qs e.1 in omega arith
-
-  pub gave_length : (ps qs : Places J) → EachGives ps qs → length qs ≡ length ps
-  gave_length [] qs e = ap length e.1
-  gave_length (p ∷ ps) [] e = absurd e
-  gave_length (p ∷ ps) (q ∷ qs) e = let r = gave_length ps qs e.1 in omega arith
+  abbrev pub AllPlaces : (Place J → Type 0) → Places J → Type 0
+  AllPlaces P ps = AllByRecursion (λ p. P (padded_value p)) ps
 
   give_after : (p q : Place J) (ms : List HandKey) (k : ℕ) → 1 ≤ k → ReceivesHands ms p q → CanLend k p → CanLend 1 q
   give_after p q ms k l g c = subst (CanLend 1) (sym g.rest) (record { rights = (let r = c.rights in omega arith); stock = (let r = c.stock in omega arith); kin = c.kin })
 
   -- who could give k hands, and got one, can give one
-  pub can_give_one : (m : HandKey) (k : ℕ) (ps qs : Places J) → length ps ≤ k → EachGets ps (map (λ _. m) ps) qs → AllGive k ps
-      → AllGive 1 qs
+  pub can_give_one : (m : HandKey) (k : ℕ) (ps qs : Places J) → length ps ≤ k → EachMoves ReceivesHands m ps qs → AllPlaces (CanLend k) ps
+      → AllPlaces (CanLend 1) qs
   can_give_one m k [] [] l e a = tt
   can_give_one m k [] (q ∷ qs) l e a = absurd (let f = ap length e.1 in omega arith)
   can_give_one m k (p ∷ ps) [] l e a = absurd e
   can_give_one m k (p ∷ ps) (q ∷ qs) l e a = (give_after (padded_value p) (padded_value q) (m ∷ []) k (omega arith) e.0 a.0, can_give_one m k ps qs (omega arith) e.1 a.1)
 
-  pub get_one : (k : ℕ) (ps : Places J) → length ps ≤ k → AllGet k ps → AllGet 1 ps
+  pub get_one : (k : ℕ) (ps : Places J) → length ps ≤ k → AllPlaces (CanReceive k) ps → AllPlaces (CanReceive 1) ps
   get_one k [] l a = tt
   get_one k (p ∷ ps) l a = (let x = a.0 in omega arith, get_one k ps (omega arith) a.1)
 
@@ -134,8 +116,8 @@ module _ {J : Type 0} where
   get_less p q r m k j l g h c = subst (CanReceive j) (sym h.0) (let x = g.count in let y = g.space in omega arith)
 
   -- who could give and get k hands, and gave and got one, can give and get one less
-  pub can_go_on : (m : HandKey) (k j : ℕ) (ps qs rs : Places J) → (0 < length ps → 1 + j ≡ k) → EachGets ps (map (λ _. m) ps) qs
-      → EachGives qs rs → AllGive k ps → AllGet k ps → AllGive j rs × AllGet j rs
+  pub can_go_on : (m : HandKey) (k j : ℕ) (ps qs rs : Places J) → (0 < length ps → 1 + j ≡ k) → EachMoves ReceivesHands m ps qs
+      → EachBecomes (OnlyLends 1) qs rs → AllPlaces (CanLend k) ps → AllPlaces (CanReceive k) ps → AllPlaces (CanLend j) rs × AllPlaces (CanReceive j) rs
   can_go_on m k j [] [] [] l e f a b = (tt, tt)
   can_go_on m k j [] [] (r ∷ rs) l e f a b = absurd (let n = ap length f.1 in omega arith)
   can_go_on m k j [] (q ∷ qs) rs l e f a b = absurd (let n = ap length e.1 in omega arith)
@@ -185,8 +167,8 @@ module _ {J : Type 0} where
         space = c.space ∙ (ap (λ (u : Place J). vec_capacity u.others) b.0 ∙ a.space);
       }
 
-  pub exchanged_rest : (m : HandKey) (k j : ℕ) (ps qs rs ss : Places J) → (0 < length ps → 1 + j ≡ k) → EachGets ps (map (λ _. m) ps) qs
-      → EachGives qs rs → EachDealt j rs ss → EachDealt k ps ss
+  pub exchanged_rest : (m : HandKey) (k j : ℕ) (ps qs rs ss : Places J) → (0 < length ps → 1 + j ≡ k) → EachMoves ReceivesHands m ps qs
+      → EachBecomes (OnlyLends 1) qs rs → EachBecomes (ExchangesHands j) rs ss → EachBecomes (ExchangesHands k) ps ss
   exchanged_rest m k j [] [] [] ss l e f d = (refl, d.1)
   exchanged_rest m k j [] [] (r ∷ rs) ss l e f d = absurd (let n = ap length f.1 in omega arith)
   exchanged_rest m k j [] (q ∷ qs) rs ss l e f d = absurd (let n = ap length e.1 in omega arith)
@@ -197,20 +179,8 @@ module _ {J : Type 0} where
       let n = l (omega arith) in
       (exchanged_later k j m (padded_value p) (padded_value q) (padded_value r) (padded_value s) n e.0 f.0 d.0, exchanged_rest m k j ps qs rs ss (λ _. n) e.1 f.1 d.1)
 
-  pub marks_given : (qs rs : Places J) → EachGives qs rs → map key_in rs ≡ map key_in qs
-  marks_given [] [] e = refl
-  marks_given [] (r ∷ rs) e = absurd (let n = ap length e.1 in omega arith)
-  marks_given (q ∷ qs) [] e = absurd e
-  marks_given (q ∷ qs) (r ∷ rs) e = λ i. key_lent 1 (padded_value q) (padded_value r) e.0.1 i ∷ marks_given qs rs e.1 i
-
-  pub marks_dealt : (j : ℕ) (rs ss : Places J) → EachDealt j rs ss → map key_in ss ≡ map key_in rs
-  marks_dealt j [] [] e = refl
-  marks_dealt j [] (s ∷ ss) e = absurd (let n = ap length e.1 in omega arith)
-  marks_dealt j (r ∷ rs) [] e = absurd e
-  marks_dealt j (r ∷ rs) (s ∷ ss) e = λ i. key_lent j (padded_value r) (padded_value s) e.0.lent i ∷ marks_dealt j rs ss e.1 i
-
   -- each place has one key more
-  pub rows_got : (m : HandKey) (b : List HandKey) (ps qs rs : Places J) → EachGets ps (map (λ _. m) ps) qs → EachGives qs rs
+  pub rows_got : (m : HandKey) (b : List HandKey) (ps qs rs : Places J) → EachMoves ReceivesHands m ps qs → EachBecomes (OnlyLends 1) qs rs
       → AllByRecursion (λ p. keys_in p ≡ b) ps → AllByRecursion (λ p. keys_in p ≡ b ++ m ∷ []) rs
   rows_got m b [] [] [] e f a = tt
   rows_got m b [] [] (r ∷ rs) e f a = absurd (let n = ap length f.1 in omega arith)

@@ -14,12 +14,11 @@ use Rattle.heap_base.specs.Counting.{total}
 use Rattle.steal_pool.specs.Steps.{joined_hand}
 use Rattle.steal_pool.specs.Victims.{total_took}
 use Rattle.steal_pool.specs.Lanes.{own_hand}
-use Rattle.steal_pool.specs.Lists.{Each}
 use Rattle.steal_pool.specs.Loans.{HandKey, CanTakeBack, TakesBackHands, OnlyTakesBack, ReturnsHands, RestoresHands, IsThiefOf}
 use Rattle.steal_pool.specs.Loans.{keys_of_others, hand_key, victim_key, keys_of, keys_in, key_in, own_took, others_took, all_took}
 use Rattle.heap_base.proofs.Counting.{total-append, total-snoc}
 use Rattle.steal_pool.proofs.Elements.{all-snoc}
-use Rattle.steal_pool.proofs.LoanLemmas.{Places, kept_by, same_rest, key_joined}
+use Rattle.steal_pool.proofs.LoanLemmas.{Places, AllPlaces, EachBecomes, EachMoves, kept_by, same_rest}
 
 -- the last hand is the one with this key
 pub last_seen : (xs : List Victim) (r : Victim) (front : List HandKey) (m : HandKey) → map victim_key (xs ++ r ∷ []) ≡ front ++ m ∷ []
@@ -52,34 +51,7 @@ module _ {J : Type 0} where
   pub joins_on : (j k : ℕ) (p q r : Place J) → OnlyTakesBack j p q → OnlyTakesBack k q r → OnlyTakesBack (j + k) p r
   joins_on j k p q r a b = (b.0 ∙ (λ i. record (a.0 i) { lane = r.lane; spare = r.spare }), joined_on j k p q r a.1 b.1)
 
-  abbrev EachReturns : Places J → List HandKey → Places J → Type 0
-  EachReturns ps ms qs = Each (λ p m q. ReturnsHands (m ∷ []) (padded_value p) (padded_value q)) ps ms qs
-
-  abbrev EachJoins : Places J → Places J → Type 0
-  EachJoins ps qs = Each (λ p _ q. OnlyTakesBack 1 (padded_value p) (padded_value q)) ps ps qs
-
-  abbrev EachGathered : ℕ → Places J → Places J → Type 0
-  EachGathered k ps qs = Each (λ p _ q. RestoresHands k (padded_value p) (padded_value q)) ps ps qs
-
-  abbrev AllJoin : ℕ → Places J → Type 0
-  AllJoin k ps = AllByRecursion (λ p. CanTakeBack k (padded_value p)) ps
-
-  pub joins_length : (ps qs : Places J) → EachJoins ps qs → length qs ≡ length ps
-  joins_length [] qs e = ap length e.1
-  joins_length (p ∷ ps) [] e = absurd e
-  joins_length (p ∷ ps) (q ∷ qs) e = let r = joins_length ps qs e.1 in omega arith
-
-  pub returns_length : (m : HandKey) (ps qs : Places J) → EachReturns ps (map (λ _. m) ps) qs → length qs ≡ length ps
-  returns_length m [] qs e = ap length e.1
-  returns_length m (p ∷ ps) [] e = absurd e
-  returns_length m (p ∷ ps) (q ∷ qs) e = let r = returns_length m ps qs e.1 in omega arith
-
-  pub restored_length : (k : ℕ) (ps qs : Places J) → EachGathered k ps qs → length qs ≡ length ps
-  restored_length k [] qs e = ap length e.1
-  restored_length k (p ∷ ps) [] e = absurd e
-  restored_length k (p ∷ ps) (q ∷ qs) e = let r = restored_length k ps qs e.1 in omega arith
-
-  pub join_less : (k j : ℕ) (ps : Places J) → (0 < length ps → j ≤ k) → AllJoin k ps → AllJoin j ps
+  pub join_less : (k j : ℕ) (ps : Places J) → (0 < length ps → j ≤ k) → AllPlaces (CanTakeBack k) ps → AllPlaces (CanTakeBack j) ps
   join_less k j [] l a = tt
   join_less k j (p ∷ ps) l a = let n = l (omega arith) in (record { space = (let x = a.0.space in omega arith); kin = a.0.kin }, join_less k j ps (λ _. n) a.1)
 
@@ -94,8 +66,8 @@ module _ {J : Type 0} where
         kin = subst (λ (u : Place J). AllByRecursion (IsThiefOf (worker_deque u.lane.owner)) u.spare.items) (sym h.rest) g.joined.kin;
       }
 
-  pub can_join_one : (k j : ℕ) (m : HandKey) (ps qs rs : Places J) → (0 < length ps → j + 1 ≤ k) → AllJoin k ps → EachGathered j ps qs
-      → EachReturns qs (map (λ _. m) qs) rs → AllJoin 1 rs
+  pub can_join_one : (k j : ℕ) (m : HandKey) (ps qs rs : Places J) → (0 < length ps → j + 1 ≤ k) → AllPlaces (CanTakeBack k) ps → EachBecomes (RestoresHands j) ps qs
+      → EachMoves ReturnsHands m qs rs → AllPlaces (CanTakeBack 1) rs
   can_join_one k j m [] [] [] l a g h = tt
   can_join_one k j m [] [] (r ∷ rs) l a g h = absurd (let n = ap length h.1 in omega arith)
   can_join_one k j m [] (q ∷ qs) rs l a g h = absurd (let n = ap length g.1 in omega arith)
@@ -123,18 +95,6 @@ module _ {J : Type 0} where
       tail : List (List HandKey) → List (List HandKey)
       tail [] = []
       tail (x ∷ xs) = xs
-
-  pub keys_restored : (j : ℕ) (ps qs : Places J) → EachGathered j ps qs → map key_in qs ≡ map key_in ps
-  keys_restored j [] [] e = refl
-  keys_restored j [] (q ∷ qs) e = absurd (let n = ap length e.1 in omega arith)
-  keys_restored j (p ∷ ps) [] e = absurd e
-  keys_restored j (p ∷ ps) (q ∷ qs) e = λ i. key_joined j (padded_value p) (padded_value q) e.0.joined i ∷ keys_restored j ps qs e.1 i
-
-  pub keys_returned : (m : HandKey) (ps qs : Places J) → EachReturns ps (map (λ _. m) ps) qs → map key_in qs ≡ map key_in ps
-  keys_returned m [] [] e = refl
-  keys_returned m [] (q ∷ qs) e = absurd (let n = ap length e.1 in omega arith)
-  keys_returned m (p ∷ ps) [] e = absurd e
-  keys_returned m (p ∷ ps) (q ∷ qs) e = λ i. ap (λ (u : Place J). hand_key u.lane) e.0.rest i ∷ keys_returned m ps qs e.1 i
 
   -- the same of a place that only gave hands back since
   joined_still : (k : ℕ) (p q r : Place J) → r ≡ record q { others = r.others } → TakesBackHands k p q → TakesBackHands k p r
@@ -168,8 +128,8 @@ module _ {J : Type 0} where
         space = ap (λ (u : Place J). vec_capacity u.others) c.0 ∙ (b.space ∙ a.space);
       }
 
-  pub restored_rest : (k j : ℕ) (m : HandKey) (ps qs rs ss : Places J) → (0 < length ps → j + 1 ≡ k) → EachGathered j ps qs
-      → EachReturns qs (map (λ _. m) qs) rs → EachJoins rs ss → EachGathered k ps ss
+  pub restored_rest : (k j : ℕ) (m : HandKey) (ps qs rs ss : Places J) → (0 < length ps → j + 1 ≡ k) → EachBecomes (RestoresHands j) ps qs
+      → EachMoves ReturnsHands m qs rs → EachBecomes (OnlyTakesBack 1) rs ss → EachBecomes (RestoresHands k) ps ss
   restored_rest k j m [] [] [] ss l a b c = (refl, c.1)
   restored_rest k j m [] [] (r ∷ rs) ss l a b c = absurd (let n = ap length b.1 in omega arith)
   restored_rest k j m [] (q ∷ qs) rs ss l a b c = absurd (let n = ap length a.1 in omega arith)
@@ -182,7 +142,7 @@ module _ {J : Type 0} where
 
   -- each place has one key less
   pub rows_returned : (b : List HandKey) (m : HandKey) (qs rs ss : Places J) → AllByRecursion (λ q. keys_in q ≡ b ++ m ∷ []) qs
-      → EachReturns qs (map (λ _. m) qs) rs → EachJoins rs ss → AllByRecursion (λ q. keys_in q ≡ b) ss
+      → EachMoves ReturnsHands m qs rs → EachBecomes (OnlyTakesBack 1) rs ss → AllByRecursion (λ q. keys_in q ≡ b) ss
   rows_returned b m [] [] [] a e f = tt
   rows_returned b m [] [] (s ∷ ss) a e f = absurd (let n = ap length f.1 in omega arith)
   rows_returned b m [] (r ∷ rs) ss a e f = absurd (let n = ap length e.1 in omega arith)
@@ -191,7 +151,7 @@ module _ {J : Type 0} where
   rows_returned b m (q ∷ qs) (r ∷ rs) (s ∷ ss) a e f = (ap keys_of f.0.0 ∙ append_cancel_right (keys_in r) b (m ∷ []) (sym e.0.left ∙ a.0), rows_returned b m qs rs ss a.1 e.1 f.1)
 
   -- what the hands took is counted at the owners, as they go back
-  pub took_returned : (h : Task → ℕ) (m : HandKey) (qs rs ss : Places J) → EachReturns qs (map (λ _. m) qs) rs → EachJoins rs ss
+  pub took_returned : (h : Task → ℕ) (m : HandKey) (qs rs ss : Places J) → EachMoves ReturnsHands m qs rs → EachBecomes (OnlyTakesBack 1) rs ss
       → (total (own_took h) rs ≡ total (own_took h) qs) × (total (others_took h) ss ≡ total (others_took h) rs)
   took_returned h m [] [] [] e f = (refl, refl)
   took_returned h m [] [] (s ∷ ss) e f = absurd (let n = ap length f.1 in omega arith)

@@ -78,25 +78,19 @@ puts port v t some_right own stands room items views b at =
       theirs = λ z. absurd (let f : bit true ≡ bit false = ap bit (sym own ∙ z) in omega arith);
       same_fit = old.same_fit;
       same_bound = old.same_bound;
-    } in (
-      w,
-      (
-        fit,
-        bound,
-        record {
-          rights = total-set_same (λ u. u.rights) views port v w at refl ∙ k.rights;
-          owners = total-set_same (λ u. bit u.owner) views port v w at refl ∙ k.owners;
-          fits = fits_set views port k.fits w-fits;
-          even = λ h. (
-              let put = total-set (λ u. total h u.put) views port v w at in
-              let took = total-set_same (λ u. total h u.took) views port v w at refl in
-              omega (arith, put, took, total-append h v.put (t ∷ []), total-append h items (t ∷ []), k.even h));
-          few = (let a = total-set (λ u. total one u.put) views port v w at in let p = total-append one v.put (t ∷ []) in omega arith);
-          are_fit = all-snoc (Contains fit) items t k.are_fit (subst (λ xs. Contains xs t) (old.same_fit some_right) stands);
-        },
-      ),
-      refl,
-    )
+    } in
+    let balanced : IsBalancedBy (items ++ t ∷ []) (set views port w) fit bound = record {
+      rights = total-set_same (λ u. u.rights) views port v w at refl ∙ k.rights;
+      owners = total-set_same (λ u. bit u.owner) views port v w at refl ∙ k.owners;
+      fits = fits_set views port k.fits w-fits;
+      even = λ h. (
+          let put = total-set (λ u. total h u.put) views port v w at in
+          let took = total-set_same (λ u. total h u.took) views port v w at refl in
+          omega (arith, put, took, total-append h v.put (t ∷ []), total-append h items (t ∷ []), k.even h));
+      few = (let a = total-set (λ u. total one u.put) views port v w at in let p = total-append one v.put (t ∷ []) in omega arith);
+      are_fit = all-snoc (Contains fit) items t k.are_fit (subst (λ xs. Contains xs t) (old.same_fit some_right) stands);
+    } in
+    (w, (fit, bound, balanced), refl)
 
 pub takes : (port : ℕ) (v : Hand) → 0 < v.rights → Tasks.Takes IsBalanced port v 1 (Takes v)
 takes port v some_right xs items views _ _ b at =

@@ -4,7 +4,7 @@ use Rattle.std.specs.List.{Contains, AllByRecursion}
 use Rattle.heap_base.specs.declared.task.Task.{Task}
 use Rattle.heap_base.specs.Counting.{total}
 use Rattle.heap_base.proofs.Counting.{total-append, total-ones}
-use Rattle.crossbeam_deque.specs.Handles.{view}
+use Rattle.crossbeam_deque.specs.Handles.{view, worker_deque}
 use Rattle.steal_pool.specs.declared.hand.Hand.{Hand}
 use Rattle.steal_pool.specs.declared.victim.Victim.{Victim}
 use Rattle.steal_pool.specs.Hands.{one}
@@ -71,9 +71,17 @@ offers_bound a b o l =
     let e : (own_hand b.lane).bound ≡ (own_hand a.lane).bound = ap (λ (v : Hand). v.bound) o.hand in
     omega arith
 
+-- Tasks went among a worker's sources, and its job did nothing meanwhile.
+record Moves (a b : Sources) : Type 0 where
+  sum : (h : Task → ℕ) → total h b.queue.tasks + total h (own_hand b.lane).put + total_taken h a ≡ total h a.queue.tasks + total h (own_hand a.lane).put + total_taken h b
+  room : b.queue.room ≡ a.queue.room
+  hand : own_hand b.lane ≡ record (own_hand a.lane) { put = (own_hand b.lane).put; took = (own_hand b.lane).took }
+  deque : worker_deque b.lane.owner ≡ worker_deque a.lane.owner
+  others : AreSameButTook a.others b.others
+
 module _ {J S : Type 0} (M : Meaning J S) (s : S) where
-  pub went_none : (j : J) (a : Sources) → Advances M s (j, a) (j, a)
-  went_none j a =
+  idle_went : (j : J) (a b : Sources) → Moves a b → Advances M s (j, a) (j, b)
+  idle_went j a b m =
       record {
         done = [];
         put = [];
@@ -82,12 +90,16 @@ module _ {J S : Type 0} (M : Meaning J S) (s : S) where
         same_fit = refl;
         falls = omega arith;
         turns = omega arith;
-        sum = λ h. omega arith;
-        room = refl;
-        hand = refl;
-        deque = refl;
-        others = all_same_from a.others a.others (all_untouched a.others);
+        sum = λ h. (let e = m.sum h in omega arith);
+        room = m.room;
+        hand = m.hand;
+        deque = m.deque;
+        others = m.others;
       }
+
+  pub went_none : (j : J) (a : Sources) → Advances M s (j, a) (j, a)
+  went_none j a =
+      idle_went j a a (record { sum = λ h. refl; room = refl; hand = refl; deque = refl; others = all_same_from a.others a.others (all_untouched a.others) })
 
   pub went_on : (x y z : J × Sources) → Advances M s x y → Advances M s y z → Advances M s x z
   went_on x y z a b =
@@ -133,14 +145,7 @@ module _ {J S : Type 0} (M : Meaning J S) (s : S) where
 
   pub none_went : (j : J) (a b : Sources) → FindsNone a b → Advances M s (j, a) (j, b)
   none_went j a b f =
-      record {
-        done = [];
-        put = [];
-        does = (refl, refl);
-        are_fit = tt;
-        same_fit = refl;
-        falls = omega arith;
-        turns = omega arith;
+      idle_went j a b (record {
         sum = λ h. (
             let p = ap (λ (v : Hand). total h v.put) f.hand in
             let t = ap (λ (v : Hand). total h v.took) f.hand in
@@ -151,7 +156,7 @@ module _ {J S : Type 0} (M : Meaning J S) (s : S) where
         hand = f.hand ∙ (λ i. record (own_hand a.lane) { put = (sym f.hand i).put; took = (sym f.hand i).took });
         deque = f.deque;
         others = all_same_from a.others b.others f.others;
-      }
+      })
 
   pub none_few : (a b : Sources) → FindsNone a b → HasTakenFew a.lane → HasTakenFew b.lane
   none_few a b f l =
@@ -280,20 +285,13 @@ module _ {J S : Type 0} (M : Meaning J S) (s : S) where
 
   pub offered_went : (k : J) (a b : Sources) → Offers a b → Advances M s (k, a) (k, b)
   offered_went k a b o =
-      record {
-        done = [];
-        put = [];
-        does = (refl, refl);
-        are_fit = tt;
-        same_fit = refl;
-        falls = omega arith;
-        turns = omega arith;
+      idle_went k a b (record {
         sum = λ h. (let u = offers_sum a b o h in let t = ap (λ (v : Hand). total h v.took) o.hand in let e = ap (total_took h) o.others in omega arith);
         room = ap (λ (w : Waiting). w.room) o.queue;
         hand = o.hand ∙ (λ i. record (own_hand a.lane) { put = (sym (ap (λ (v : Hand). v.put) o.hand) i); took = (sym (ap (λ (v : Hand). v.took) o.hand) i) });
         deque = o.deque;
         others = subst (AreSameButTook a.others) (sym o.others) (all_same_from a.others a.others (all_untouched a.others));
-      }
+      })
 
   pub offered_few : (a b : Sources) → Offers a b → HasTakenFew a.lane → HasTakenFew b.lane
   offered_few a b o l =

@@ -30,7 +30,7 @@ use Rattle.steal_pool.specs.Seats.{TakesJob, GivesJob, HasSomeJob, CanBegin, Beg
 use Rattle.steal_pool.specs.Steps.{renewed_hand, lent_hand}
 use Rattle.steal_pool.specs.Victims.{total_took, total_bound, AreSameButTook, AreOnTerms}
 use Rattle.steal_pool.specs.Workers.{CanStart, EndsWork}
-use Rattle.steal_pool.proofs.ListLemmas.{does_append}
+use Rattle.steal_pool.proofs.ListLemmas.{does_append, each_length}
 use Rattle.steal_pool.proofs.LoanLemmas.{Places}
 use Rattle.steal_pool.proofs.PlaceTurns.{same_job}
 use Rattle.steal_pool.proofs.TurnLemmas.{few_all, all_append}
@@ -57,13 +57,6 @@ each_from R [] [] e h = (refl, refl)
 each_from R [] (y ∷ ys) e h = absurd (omega arith)
 each_from R (x ∷ xs) [] e h = absurd (omega arith)
 each_from R (x ∷ xs) (y ∷ ys) e h = (h 0 x (omega arith), each_from R xs ys (omega arith) (λ i d l. h (suc i) d (omega arith)))
-
-pub each_length : {X W Y : Type 0} (R : X → W → Y → Type 0) (xs : List X) (ws : List W) (ys : List Y) → Each R xs ws ys
-    → length ys ≡ length xs
-each_length R [] ws ys e = ap length e.1
-each_length R (x ∷ xs) [] ys e = absurd e
-each_length R (x ∷ xs) (w ∷ ws) [] e = absurd e
-each_length R (x ∷ xs) (w ∷ ws) (y ∷ ys) e = let r = each_length R xs ws ys e.1 in omega arith
 
 same_length : {X : Type 0} (R : X → X → Type 0) (xs ys : List X) → Each (λ x (_ : X) y. R x y) xs xs ys → length ys ≡ length xs
 same_length R xs ys e = each_length (λ x (_ : _) y. R x y) xs xs ys e
@@ -666,7 +659,7 @@ module _ {J S : Type 0} (setting : Setting J S) where
 
 -- ---- the same from what the run needs, call by call
 
-module _ {J S : Type 0} {M : Meaning J S} {s : S} {ps : Places J} {room : ℕ} {js : List J} {fs : List (List Task)} (k : CanRun M s (ps, room) (js, fs)) where
+module _ {J S : Type 0} {M : Meaning J S} {s : S} {ps : Places J} {room : ℕ} {js : List J} {fs : List (List Task)} (k : CanRun M s (record { places = ps; room = room; jobs = js; first = fs })) where
   abbrev the_run : Setting J S
   the_run = record { meaning = M; shared = s; fit = fit_tasks M s js; workers = length ps; bound = most_tasks M js fs; room = room }
 
@@ -798,7 +791,7 @@ module _ {J S : Type 0} {M : Meaning J S} {s : S} {ps : Places J} {room : ℕ} {
 
   -- each job is given back, and none has taken a task that was not put
   pub has_run : {ds es gs rs : Places J} {ks : List J} {zs : Places J} → AreDone ds es gs rs → GiveJobs the_run rs ks zs
-      → ((h : Task → ℕ) → total (all_took h) gs ≡ total (all_took h) es) → HasRun M s (ps, room) (js, fs) (ks, zs)
+      → ((h : Task → ℕ) → total (all_took h) gs ≡ total (all_took h) es) → HasRun M s (record { places = ps; room = room; jobs = js; first = fs }) (ks, zs)
   has_run {ds = ds} {es = es} {gs = gs} {rs = rs} {ks = ks} {zs = zs} r given sum =
       let g = r.whole in
       let e = g.stopped in

@@ -9,24 +9,30 @@ use Rattle.steal_pool.specs.Jobs.{Meaning, AllFit}
 use Rattle.steal_pool.specs.Rests.{IsAtRest}
 use Rattle.steal_pool.specs.Runs.{fit_tasks, most_tasks, AreReady, ShareFit, HaveRoom, HaveTurns, TurnsLast, Run}
 
--- the places and their room, and a job and a list of first tasks for each
-pub record CanRun {J S : Type 0} (M : Meaning J S) (s : S) (crew : List (CachePadded (Place J)) × ℕ) (work : List J × List (List Task)) : Type 0 where
-  pub some : 0 < length crew.0
-  pub few : length crew.0 ≤ 16
-  pub rest : All (λ p. IsAtRest (length crew.0) crew.1 (padded_value p)) crew.0
-  pub jobs : length work.0 ≡ length crew.0
-  pub lists : length work.1 ≡ length crew.0
-  pub ready : AreReady M s work.0
-  pub same_fit : ShareFit M s (fit_tasks M s work.0) work.0
-  pub fit : All (AllFit (fit_tasks M s work.0)) work.1
-  pub room : HaveRoom M crew.1 work.0 work.1
-  pub turns : HaveTurns M (most_tasks M work.0 work.1) work.0
+-- What a run starts with: the places, how many tasks each has room for, and a job and a list of first tasks for each.
+pub record Start (J : Type 0) : Type 0 where
+  pub places : List (CachePadded (Place J))
+  pub room : ℕ
+  pub jobs : List J
+  pub first : List (List Task)
 
--- the jobs after a run over such a crew with such work, and its places, as many as before and with nothing left at them
-pub record HasRun {J S : Type 0} (M : Meaning J S) (s : S) (crew : List (CachePadded (Place J)) × ℕ) (work : List J × List (List Task)) (left : List J × List (CachePadded (Place J))) : Type 0 where
-  pub ran : Run M s work.1 work.0 left.0
+pub record CanRun {J S : Type 0} (M : Meaning J S) (s : S) (start : Start J) : Type 0 where
+  pub some : 0 < length start.places
+  pub few : length start.places ≤ 16
+  pub rest : All (λ p. IsAtRest (length start.places) start.room (padded_value p)) start.places
+  pub jobs : length start.jobs ≡ length start.places
+  pub lists : length start.first ≡ length start.places
+  pub ready : AreReady M s start.jobs
+  pub same_fit : ShareFit M s (fit_tasks M s start.jobs) start.jobs
+  pub fit : All (AllFit (fit_tasks M s start.jobs)) start.first
+  pub room : HaveRoom M start.room start.jobs start.first
+  pub turns : HaveTurns M (most_tasks M start.jobs start.first) start.jobs
+
+-- the jobs after a run that started so, and the places, as many as before and with nothing left at them
+pub record HasRun {J S : Type 0} (M : Meaning J S) (s : S) (start : Start J) (left : List J × List (CachePadded (Place J))) : Type 0 where
+  pub ran : Run M s start.first start.jobs left.0
   pub ready : AreReady M s left.0
-  pub same_fit : ShareFit M s (fit_tasks M s work.0) left.0
-  pub turns : TurnsLast M (most_tasks M work.0 work.1) work.0 left.0
-  pub count : length left.1 ≡ length crew.0
-  pub rest : All (λ p. IsAtRest (length crew.0) crew.1 (padded_value p)) left.1
+  pub same_fit : ShareFit M s (fit_tasks M s start.jobs) left.0
+  pub turns : TurnsLast M (most_tasks M start.jobs start.first) start.jobs left.0
+  pub count : length left.1 ≡ length start.places
+  pub rest : All (λ p. IsAtRest (length start.places) start.room (padded_value p)) left.1

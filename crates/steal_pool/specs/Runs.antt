@@ -19,34 +19,36 @@ room_of c = c.room
 abbrev pub HasNoTasks : {J : Type 0} → Crew J → Type 0
 HasNoTasks c = All (λ p. IsEmpty (padded_value p)) c.places.items
 
--- the fit tasks of the first job, which are those of every job of a run
-abbrev pub fit_tasks : {J S : Type 0} → Meaning J S → S → List J → List Task
-fit_tasks M s [] = []
-fit_tasks M s (j ∷ js) = M.fit j s
+-- Of jobs that mean M.
+module _ {J S : Type 0} (M : Meaning J S) where
+  -- the fit tasks of the first job, which are those of every job of a run
+  abbrev pub fit_tasks : S → List J → List Task
+  fit_tasks s [] = []
+  fit_tasks s (j ∷ js) = M.fit j s
 
--- every job is ready
-abbrev pub AreReady : {J S : Type 0} → Meaning J S → S → List J → Type 0
-AreReady M s js = All (λ j. M.ready j s) js
+  -- every job is ready
+  abbrev pub AreReady : S → List J → Type 0
+  AreReady s js = All (λ j. M.ready j s) js
 
--- these are the fit tasks of every job
-abbrev pub ShareFit : {J S : Type 0} → Meaning J S → S → List Task → List J → Type 0
-ShareFit M s fit js = All (λ j. M.fit j s ≡ fit) js
+  -- these are the fit tasks of every job
+  abbrev pub ShareFit : S → List Task → List J → Type 0
+  ShareFit s fit js = All (λ j. M.fit j s ≡ fit) js
 
--- each worker's list of first tasks and its job's room add up to less than n
-abbrev pub HaveRoom : {J S : Type 0} → Meaning J S → ℕ → List J → List (List Task) → Type 0
-HaveRoom M n js fs = Pairs (λ j f. length f + M.room j < n) js fs
+  -- each worker's list of first tasks and its job's room add up to less than n
+  abbrev pub HaveRoom : ℕ → List J → List (List Task) → Type 0
+  HaveRoom n js fs = Pairs (λ j f. length f + M.room j < n) js fs
 
--- the lengths of all lists of first tasks and the rooms of all jobs, added up
-abbrev pub most_tasks : {J S : Type 0} → Meaning J S → List J → List (List Task) → ℕ
-most_tasks M js fs = total length fs + total M.room js
+  -- the lengths of all lists of first tasks and the rooms of all jobs, added up
+  abbrev pub most_tasks : List J → List (List Task) → ℕ
+  most_tasks js fs = total length fs + total M.room js
 
--- every job has turns for so many tasks
-abbrev pub HaveTurns : {J S : Type 0} → Meaning J S → ℕ → List J → Type 0
-HaveTurns M n js = All (λ j. n ≤ M.turns j) js
+  -- every job has turns for so many tasks
+  abbrev pub HaveTurns : ℕ → List J → Type 0
+  HaveTurns n js = All (λ j. n ≤ M.turns j) js
 
--- no job's turns fell by more than n
-abbrev pub TurnsLast : {J S : Type 0} → Meaning J S → ℕ → List J → List J → Type 0
-TurnsLast M n js ks = Pairs (λ j k. M.turns j ≤ M.turns k + n) js ks
+  -- no job's turns fell by more than n
+  abbrev pub TurnsLast : ℕ → List J → List J → Type 0
+  TurnsLast n js ks = Pairs (λ j k. M.turns j ≤ M.turns k + n) js ks
 
 -- what a job did in a run, and what it put meanwhile, both in order
 pub record Work : Type 0 where

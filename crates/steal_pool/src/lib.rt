@@ -2,6 +2,7 @@
 //! in a deque, from which a worker without a task steals.
 #![tactic(auto)]
 
+mod context;
 mod crew;
 mod deque;
 mod finding;

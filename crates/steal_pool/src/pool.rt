@@ -8,6 +8,7 @@ ghost use Rattle.steal_pool.specs.Needs.{CanRun, HasRun};
 ghost use Rattle.steal_pool.specs.Rests.{IsAtRest};
 ghost use Rattle.steal_pool.specs.Runs.{workers_of, room_of, fit_tasks, most_tasks, AreReady, ShareFit, HaveRoom, HaveTurns, TurnsLast, Run, HasNoTasks};
 
+use crate::context::Context;
 use crate::crew::Crew;
 use crate::deque;
 use crate::first_tasks::FirstTasks;
@@ -125,30 +126,32 @@ impl<J: Send + Drop> Crew<J> {
         ensures workers { workers_of self.new ≡ workers_of self.old }
         ensures empty { HasNoTasks self.new }
     {
-        let places = self.places.as_mut_slice();
-        run_on(rt, shared, places, self.room, jobs, first, gate);
+        let context = Context {
+            rt,
+            shared,
+            gate,
+            room: self.room,
+        };
+        run_on(&context, self.places.as_mut_slice(), jobs, first);
     }
 }
 
-// The run over the places, each with room for so many tasks.
+// The run over the places.
 fn run_on<R: Threads + Sync, S: Sync, J: Job<S> + Send + Drop, G: Gate>(
-    rt: &R,
-    shared: &S,
+    context: &Context<'_, R, S, G>,
     places: &mut [CachePadded<Place<J>>],
-    room: u64,
     jobs: &mut Vec<J>,
     first: &FirstTasks,
-    gate: &G,
 )
-    requires { CanRun J.meaning shared.now (places.old, room) (jobs.old.items, first.now.lists) }
-    ensures { HasRun J.meaning shared.now (places.old, room) (jobs.old.items, first.now.lists) (jobs.new.items, places.new) }
+    requires { CanRun J.meaning context.now.shared.now (record { places = places.old; room = context.now.room; jobs = jobs.old.items; first = first.now.lists }) }
+    ensures { HasRun J.meaning context.now.shared.now (record { places = places.old; room = context.now.room; jobs = jobs.old.items; first = first.now.lists }) (jobs.new.items, places.new) }
 {
-    let threads = threads_for(places.len(), room);
+    let threads = threads_for(places.len(), context.room);
     seat_jobs(jobs, places);
-    begin_all(places, shared, first, 0);
+    begin_all(places, context.shared, first, 0);
     lend_all(places);
-    run_all(rt, shared, places, threads, first.busy(), gate);
+    run_all(context, places, threads, first.busy());
     take_back_all(places);
-    finish_all(places, shared, gate);
+    finish_all(places, context.shared, context.gate);
     unseat_jobs(jobs, places);
 }

@@ -8,9 +8,10 @@ ghost use Rattle.steal_pool.specs.Lists.{Each};
 ghost use Rattle.steal_pool.specs.Places.{MayStart, MayFinish, FinishesWork};
 ghost use Rattle.steal_pool.specs.Workers.{EndsWork};
 
+use crate::context::Context;
 use crate::job::Job;
 use crate::place::Place;
-use crate::working::PATIENCE;
+use crate::working::{IdleLimit, PATIENCE};
 use crossbeam_utils::CachePadded;
 use heap_base::Gate;
 use std::sync::atomic::AtomicUsize;
@@ -40,16 +41,15 @@ pub fn threads_for(workers: usize, room: u64) -> usize
 fn run_place<S: Sync, J: Job<S>, G: Gate>(
     place: &mut CachePadded<Place<J>>,
     shared: &S,
-    patience: u32,
-    busy: &AtomicUsize,
+    limit: IdleLimit<'_>,
     gate: &G,
 )
     requires may { MayStart J.meaning shared.now (padded_value place.old) }
-    requires patience { patience ≤ PATIENCE }
+    requires patience { limit.patience ≤ PATIENCE }
     ensures { EndsWork J.meaning shared.now (padded_value place.old) (padded_value place.new) }
 {
     let place: &mut Place<J> = place;
-    place.work_until_idle(shared, patience, busy, gate);
+    place.work_until_idle(shared, limit, gate);
 }
 
 // How many idle turns in a row the worker with this number makes at most, where so many workers share so many threads, as many on each and
@@ -70,29 +70,30 @@ fn patience_of(worker: usize, workers: usize, threads: usize) -> u32
 
 /// Each worker does tasks until it was idle long enough, in so many threads. So many workers have a task at first.
 pub fn run_all<R: Threads + Sync, S: Sync, J: Job<S> + Send, G: Gate>(
-    rt: &R,
-    shared: &S,
+    context: &Context<'_, R, S, G>,
     places: &mut [CachePadded<Place<J>>],
     threads: usize,
     busy: usize,
-    gate: &G,
 )
     requires threads { 0 < threads }
-    requires able { All (λ p. MayStart J.meaning shared.now (padded_value p)) places.old }
-    ensures { (i : ℕ) (d : _) → i < length places.old → EndsWork J.meaning shared.now (padded_value (slice_index_or places.old i d)) (padded_value (slice_index_or places.new i d)) }
+    requires able { All (λ p. MayStart J.meaning context.now.shared.now (padded_value p)) places.old }
+    ensures { (i : ℕ) (d : _) → i < length places.old → EndsWork J.meaning context.now.shared.now (padded_value (slice_index_or places.old i d)) (padded_value (slice_index_or places.new i d)) }
 {
     let workers = places.len();
     let busy = AtomicUsize::new(busy);
     thread::for_each_mut(
-        rt,
+        context.rt,
         places,
         threads,
         &|worker, place: &mut CachePadded<Place<J>>|
-            requires { MayStart J.meaning shared.now (padded_value place.old) × (0 < threads) }
-            ensures { EndsWork J.meaning shared.entry.now (padded_value place.old) (padded_value place.new) }
+            requires { MayStart J.meaning context.now.shared.now (padded_value place.old) × (0 < threads) }
+            ensures { EndsWork J.meaning context.entry.now.shared.now (padded_value place.old) (padded_value place.new) }
         {
-            let patience = patience_of(worker, workers, threads);
-            run_place(place, shared, patience, &busy, gate)
+            let limit = IdleLimit {
+                patience: patience_of(worker, workers, threads),
+                busy: &busy,
+            };
+            run_place(place, context.shared, limit, context.gate)
         },
     );
 }

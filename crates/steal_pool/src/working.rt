@@ -19,6 +19,15 @@ pub const PATIENCE: u32 = 4096;
 /// task isn't counted yet.
 const QUIET_TURNS: u32 = 8;
 
+/// When a worker without a task stops.
+#[derive(Clone, Copy)]
+pub struct IdleLimit<'a> {
+    /// How many idle turns in a row it makes, at most.
+    pub patience: u32,
+    /// How many workers have tasks: where none has, it makes only a few.
+    pub busy: &'a AtomicUsize,
+}
+
 // Tells a gate what one worker does, and counts the worker among the busy ones while it has tasks. A worker that sees that nobody is busy
 // need not wait. Nothing else rests on the count: the caller does what a worker leaves.
 #[derive(Drop)]
@@ -81,29 +90,22 @@ impl<J> Place<J> {
         true
     }
 
-    /// Does tasks until it was idle for so many turns in a row, or for a few while no worker was busy. The count of these has this worker
-    /// where tasks wait for it.
-    pub fn work_until_idle<S: Sync, G: Gate>(
-        &mut self,
-        shared: &S,
-        patience: u32,
-        busy: &AtomicUsize,
-        gate: &G,
-    )
+    /// Does tasks until it was idle for so long. The count of busy workers has this one where tasks wait for it.
+    pub fn work_until_idle<S: Sync, G: Gate>(&mut self, shared: &S, limit: IdleLimit<'_>, gate: &G)
     where
         J: Job<S>,
         requires can { CanStart J.meaning shared.now self.old }
         requires few { HasTakenFew self.old.lane }
-        requires patience { patience ≤ PATIENCE }
+        requires patience { limit.patience ≤ PATIENCE }
         ensures { EndsWork J.meaning shared.now self.old self.new }
     {
         let busy = Busy {
-            count: busy,
+            count: limit.busy,
             is_counted: AtomicBool::new(self.queue.len() > 0),
             gate,
         };
         let mut idle = 0;
-        while idle < patience {
+        while idle < limit.patience {
             if self.turn(shared, &busy) {
                 idle = 0;
             } else {

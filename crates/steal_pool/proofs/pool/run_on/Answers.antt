@@ -74,5 +74,5 @@ returns g c =
     let fs = c.args.first.now.lists in
     let last = c.unseat_jobs.ensures.0 in
     let left-is : c.unseat_jobs.new.jobs.items ≡ last = c.unseat_jobs.ensures.1 ∙ ap (λ xs. xs ++ last) (none_left _ (none_unseated g at.After-seat_jobs)) in
-    subst (λ (xs : List _). HasRun g.J.Job.meaning c.args.shared.now (c.args.places.now, c.args.room) (js, fs) (xs, c.unseat_jobs.new.places)) (sym left-is)
+    subst (λ (xs : List _). HasRun g.J.Job.meaning c.args.context.now.shared.now (record { places = c.args.places.now; room = c.args.context.now.room; jobs = js; first = fs }) (xs, c.unseat_jobs.new.places)) (sym left-is)
     (has_run c.requires done c.unseat_jobs.ensures.2 c.take_back_all.ensures.sum)

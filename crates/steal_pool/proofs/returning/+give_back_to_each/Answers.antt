@@ -1,50 +1,51 @@
 use Rattle.std.proofs.Common.{rules, arith, ◌≡◌, ◌+◌, ◌++◌, List, [], ◌∷◌, map, length, slice_index_or, subst, sym, ◌∙◌, ap, append_assoc}
 use Rattle.std.proofs.lemmas.List.{append_cancel_right}
-use Rattle.std.specs.List.{AllByRecursion}
-use Rattle.crossbeam_utils.specs.Padded.{padded_value, padded_with_value}
+use Rattle.crossbeam_utils.specs.Padded.{padded_with_value}
 use Rattle.heap_base.specs.Counting.{total}
 use Rattle.steal_pool.specs.Lanes.{own_hand}
 use Rattle.steal_pool.specs.Victims.{total_took}
 use Rattle.steal_pool.specs.Loans.{HandKey, hand_key, key_in, keys_of, CanTakeBack, own_took}
-use Rattle.steal_pool.proofs.LoanLemmas.{IsSplit, front_is, headed}
+use Rattle.steal_pool.proofs.LoanLemmas.{IsSplit, AllPlaces, front_is, headed}
 use Rattle.steal_pool.proofs.returning.+give_back_to_each.Goals as goal
+use Rattle.steal_pool.proofs.returning.+give_back_to_each.Goals.{After-deref_mut-first}
+
+-- the places are the first and the rest
+split : (g : _) (t : _) (c : After-deref_mut-first g t) → IsSplit c.args.owners.now c.split_at_mut-head.result.0.now c.split_at_mut-head.result.1.now
+split g t c = record { whole = c.split_at_mut-head.ensures.value; one = c.split_at_mut-head.ensures.front_len }
+
+-- the keys of the giver, where the first owner's stands before those of the rest
+keys_are : (g : _) (t : _) (c : After-deref_mut-first g t)
+    → keys_of c.args.giver.now ≡ (c.requires.last.0 ++ key_in (slice_index_or c.split_at_mut-head.result.0.now 0 c.index-head-0.result) ∷ []) ++ map key_in c.split_at_mut-head.result.1.now
+keys_are g t c =
+    let front = c.requires.last.0 in
+    c.requires.last.1 ∙ (ap (λ xs. front ++ map key_in xs) (front_is (split g t c) c.index-head-0.result) ∙ sym (append_assoc front _ (map key_in c.split_at_mut-head.result.1.now)))
 
 pub give_back_to_each-requires : goal.give_back_to_each-requires
 give_back_to_each-requires g t c κs within =
-    let s = c.split_at_mut-head in
-    let split : IsSplit c.args.owners.now s.result.0.now s.result.1.now = record { whole = s.ensures.value; one = s.ensures.front_len } in
-    let rest = s.result.1.now in
-    let x = slice_index_or s.result.0.now 0 c.index-head-0.result in
-    let e = front_is split c.index-head-0.result in
+    let at = (goal.at.give_back_to_each-requires g t c).After-deref_mut-first in
+    let e = front_is (split g t at) c.index-head-0.result in
     let o = ap length e in
-    let a = subst (λ xs. AllByRecursion (λ p. CanTakeBack 1 (padded_value p)) xs) e c.requires.join in
-    let front = c.requires.last.0 in
-    let last = c.requires.last.1 ∙ (ap (λ xs. front ++ map key_in xs) e ∙ sym (append_assoc front (key_in x ∷ []) (map key_in rest))) in
-    (search (rules, o), (search rules, (a.1, (front ++ key_in x ∷ [], last))))
+    let a = subst (AllPlaces (CanTakeBack 1)) e c.requires.join in
+    (search (rules, o), (search rules, (a.1, (_, keys_are g t at))))
 
 pub take_back-requires-clause-last : goal.take_back-requires-clause-last
 take_back-requires-clause-last g t c =
-    let s = c.split_at_mut-head in
-    let split : IsSplit c.args.owners.now s.result.0.now s.result.1.now = record { whole = s.ensures.value; one = s.ensures.front_len } in
-    let rest = s.result.1.now in
-    let x = slice_index_or s.result.0.now 0 c.index-head-0.result in
-    let e = front_is split c.index-head-0.result in
+    let x = slice_index_or c.split_at_mut-head.result.0.now 0 c.index-head-0.result in
+    let was = keys_are g t (goal.at.take_back-requires-clause-last g t c).After-deref_mut-first in
     let front = c.requires.last.0 in
-    let was = c.requires.last.1 ∙ (ap (λ xs. front ++ map key_in xs) e ∙ sym (append_assoc front (key_in x ∷ []) (map key_in rest))) in
     let left = c.give_back_to_each.ensures.returned.left in
     subst (λ u. (front : List HandKey) × (keys_of c.give_back_to_each.new.giver ≡ front ++ hand_key u.lane ∷ []))
     (sym c.deref_mut-first.ensures.value)
-    (front, append_cancel_right (keys_of c.give_back_to_each.new.giver) (front ++ key_in x ∷ []) (map key_in rest) (sym left ∙ was))
+    (front, append_cancel_right (keys_of c.give_back_to_each.new.giver) (front ++ key_in x ∷ []) (map key_in c.split_at_mut-head.result.1.now) (sym left ∙ was))
 
 pub returns-then-not-is_empty-clause-sum : goal.returns-then-not-is_empty-clause-sum
 returns-then-not-is_empty-clause-sum g t c = λ h. (
-    let s = c.split_at_mut-head in
-    let split : IsSplit c.args.owners.now s.result.0.now s.result.1.now = record { whole = s.ensures.value; one = s.ensures.front_len } in
-    let x = slice_index_or s.result.0.now 0 c.index-head-0.result in
+    let cut = split g t (goal.at.returns-then-not-is_empty-clause-sum g t c).After-deref_mut-first in
+    let x = slice_index_or c.split_at_mut-head.result.0.now 0 c.index-head-0.result in
     let took = ap (λ u. total h (own_hand u.lane).took) c.deref_mut-first.ensures.value in
     let a = c.take_back.ensures.sum h in
     let b = c.give_back_to_each.ensures.sum h in
     headed
     (λ xs ys. total (own_took h) ys + total_took h c.take_back.new.giver.others.items ≡ total (own_took h) xs + total_took h c.args.giver.now.others.items)
-    split c.index-head-0.result (padded_with_value x c.take_back.new.owner) c.give_back_to_each.new.owners
+    cut c.index-head-0.result (padded_with_value x c.take_back.new.owner) c.give_back_to_each.new.owners
     (omega arith))

@@ -5,6 +5,11 @@ use Rattle.steal_pool.specs.Lists.{Each}
 use Rattle.steal_pool.specs.Seats.{CanBegin, Begins}
 use Rattle.steal_pool.proofs.LoanLemmas.{IsSplit, headed, front_is, drop_at}
 use Rattle.steal_pool.proofs.seating.+begin_all.Goals as goal
+use Rattle.steal_pool.proofs.seating.+begin_all.Goals.{After-deref_mut-place}
+
+-- the places are the first and the rest
+split : (g : _) (t : _) (c : After-deref_mut-place g t) → IsSplit c.args.places.now c.split_at_mut-head.result.0.now c.split_at_mut-head.result.1.now
+split g t c = record { whole = c.split_at_mut-head.ensures.value; one = c.split_at_mut-head.ensures.front_len }
 
 module _ {X : Type 0} {old head rest : List X} (split : IsSplit old head rest) (d : X) (number : ℕ) (fs : List (List Task)) where
   -- the list of the first place, and those of the rest
@@ -23,11 +28,10 @@ module _ {X : Type 0} {old head rest : List X} (split : IsSplit old head rest) (
 pub begin_place-requires-after_bounds : goal.begin_place-requires-after_bounds
 begin_place-requires-after_bounds g t c = λ κs w. (
     let M = g.J.Job.meaning in
-    let s = c.split_at_mut-head in
-    let split : IsSplit c.args.places.now s.result.0.now s.result.1.now = record { whole = s.ensures.value; one = s.ensures.front_len } in
-    let x = slice_index_or s.result.0.now 0 c.index-head-0.result in
+    let cut = split g t (goal.at.begin_place-requires-after_bounds g t c).After-deref_mut-place in
+    let x = slice_index_or c.split_at_mut-head.result.0.now 0 c.index-head-0.result in
     let can =
-    each_split split c.index-head-0.result c.args.number c.args.first.now.lists (λ p f _. CanBegin M c.args.shared.now (padded_value p) f)
+    each_split cut c.index-head-0.result c.args.number c.args.first.now.lists (λ p f _. CanBegin M c.args.shared.now (padded_value p) f)
     c.requires.lists c.requires.can in
     subst (λ u. CanBegin M c.args.shared.now u c.of.result.now) (sym c.deref_mut-place.ensures.value)
     (subst (λ f. CanBegin M c.args.shared.now (padded_value x) f) (sym c.of.ensures) can.0))
@@ -35,23 +39,21 @@ begin_place-requires-after_bounds g t c = λ κs w. (
 pub begin_all-requires-clause-can : goal.begin_all-requires-clause-can
 begin_all-requires-clause-can g t c = λ κs w. (
     let M = g.J.Job.meaning in
-    let s = c.split_at_mut-head in
-    let split : IsSplit c.args.places.now s.result.0.now s.result.1.now = record { whole = s.ensures.value; one = s.ensures.front_len } in
-    (each_split split c.index-head-0.result c.args.number c.args.first.now.lists (λ p f _. CanBegin M c.args.shared.now (padded_value p) f)
+    let cut = split g t (goal.at.begin_all-requires-clause-can g t c).After-deref_mut-place in
+    (each_split cut c.index-head-0.result c.args.number c.args.first.now.lists (λ p f _. CanBegin M c.args.shared.now (padded_value p) f)
     c.requires.lists c.requires.can).1)
 
 pub returns-then-not-is_empty : goal.returns-then-not-is_empty
 returns-then-not-is_empty g t c =
     let M = g.J.Job.meaning in
-    let s = c.split_at_mut-head in
-    let split : IsSplit c.args.places.now s.result.0.now s.result.1.now = record { whole = s.ensures.value; one = s.ensures.front_len } in
-    let rest = s.result.1.now in
-    let x = slice_index_or s.result.0.now 0 c.index-head-0.result in
+    let cut = split g t (goal.at.returns-then-not-is_empty g t c).After-deref_mut-place in
+    let rest = c.split_at_mut-head.result.1.now in
+    let x = slice_index_or c.split_at_mut-head.result.0.now 0 c.index-head-0.result in
     let fs = c.args.first.now.lists in
-    let d = lists_are split c.index-head-0.result c.args.number fs c.requires.lists in
+    let d = lists_are cut c.index-head-0.result c.args.number fs c.requires.lists in
     let first = padded_with_value x c.begin_place.new.place in
     let begins = subst (λ f. Begins M c.args.shared.now c.deref_mut-place.result.now f c.begin_place.new.place) c.of.ensures c.begin_place.ensures in
-    headed (λ xs ys. Each (λ p f q. Begins M c.args.shared.now (padded_value p) f (padded_value q)) xs (drop c.args.number fs) ys) split
+    headed (λ xs ys. Each (λ p f q. Begins M c.args.shared.now (padded_value p) f (padded_value q)) xs (drop c.args.number fs) ys) cut
     c.index-head-0.result first c.begin_all.new.places
     (subst
     (λ gs. Each (λ p f q. Begins M c.args.shared.now (padded_value p) f (padded_value q)) (x ∷ rest) gs (first ∷ c.begin_all.new.places))

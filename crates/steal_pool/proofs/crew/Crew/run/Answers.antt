@@ -16,7 +16,7 @@ run_on-requires-after_bounds g c = λ κs w. (
     let jobs = c.requires.jobs in
     let jobs-count = c.args.jobs.now.ok.0 in
     let lists = c.requires.lists in
-    subst (λ (xs : List _). CanRun g.J.Job.meaning c.args.shared.now (xs, self.room) (c.args.jobs.now.items, c.args.first.now.lists)) (sym c.as_mut_slice-places.ensures.value)
+    subst (λ (xs : List _). CanRun g.J.Job.meaning c.args.shared.now (record { places = xs; room = self.room; jobs = c.args.jobs.now.items; first = c.args.first.now.lists })) (sym c.as_mut_slice.ensures.value)
     (record {
       some = omega arith;
       few = omega arith;
@@ -39,7 +39,7 @@ invariant_of-self-clause-few g c = c.args.self.now.few
 pub invariant_of-self-clause-rest : goal.invariant_of-self-clause-rest
 invariant_of-self-clause-rest g c =
     let new = c.run_on.new.places in
-    let len = c.as_mut_slice-places.ensures.len in
+    let len = c.as_mut_slice.ensures.len in
     let room = c.args.self.now.room in
     let n = vec_len c.args.self.now.places in
     subst (λ xs. All (λ p. IsAtRest n room (padded_value p)) xs) (sym (take_front n new _ (c.run_on.ensures.count ∙ len)))

@@ -7,7 +7,7 @@ abbrev pub invariant-loop-idle : goal.invariant-loop-idle
 invariant-loop-idle g l = record {
   went : EndsWork g.J.Job.meaning l.shared l.fn.self l.self;
   few : HasTakenFew l.self.lane;
-  idle : l.idle ≤ l.fn.patience;
+  idle : l.idle ≤ l.fn.limit.patience;
 }
 
 abbrev pub decreases-loop-idle : goal.decreases-loop-idle
