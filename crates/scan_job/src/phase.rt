@@ -13,6 +13,14 @@ use heap_base::Gate;
 use std::thread::Threads;
 use steal_pool::{Crew, FirstTasks};
 
+/// What all workers of a phase see.
+#[derive(Clone, Copy)]
+pub struct ScanContext<'a, R, G> {
+    pub rt: &'a R,
+    pub shared: &'a ScanShared<'a>,
+    pub gate: &'a G,
+}
+
 /// Sets the mode of each job, and takes the held cells away.
 pub fn begin_phase(jobs: &mut Vec<ScanJob>, mode: Mode)
     ensures { jobs.new.items ≡ map (begun mode) jobs.old.items }
@@ -38,20 +46,19 @@ fn are_empty(first: &FirstTasks, workers: u32) -> bool
 
 /// The crew's run from the first tasks. Where there is none, nothing is to be done, and no thread is started.
 pub fn run_scans<R: Threads + Sync, G: Gate>(
-    rt: &R,
+    context: ScanContext<'_, R, G>,
     crew: &mut Crew<ScanJob>,
-    shared: &ScanShared<'_>,
     jobs: &mut Vec<ScanJob>,
     first: &FirstTasks,
-    gate: &G,
 )
-    requires can { CanRun (lent shared.now) jobs.old.items (room_of crew.old) first.now.lists }
+    requires can { CanRun (lent context.shared.now) jobs.old.items (room_of crew.old) first.now.lists }
     requires jobs { length jobs.old.items ≡ workers_of crew.old }
-    ensures ran { HasRun (lent shared.now) first.now.lists jobs.old.items jobs.new.items }
+    ensures ran { HasRun (lent context.entry.shared.now) first.now.lists jobs.old.items jobs.new.items }
     ensures room { room_of crew.new ≡ room_of crew.old }
     ensures workers { workers_of crew.new ≡ workers_of crew.old }
 {
     if !are_empty(first, crew.workers()) {
+        let ScanContext { rt, shared, gate } = context;
         crew.run(rt, shared, jobs, first, gate);
     }
 }

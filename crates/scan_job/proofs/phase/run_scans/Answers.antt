@@ -6,7 +6,7 @@ use Rattle.scan_job.proofs.phase.run_scans.Goals as goal
 
 pub returns-else-not-are_empty-clause-ran : goal.returns-else-not-are_empty-clause-ran
 returns-else-not-are_empty-clause-ran g c =
-    let s = lent c.args.shared.now in
+    let s = lent c.args.context.shared.now in
     let fs = c.args.first.now.lists in
     let js = c.args.jobs.now.items in
     record {
