@@ -10,7 +10,7 @@ ghost use Rattle.scan_job.specs.Scans.{task_at};
 ghost use Rattle.scan_job.specs.Shared.{lent};
 
 use heap_base::{Gate, Task};
-use scan_job::{Mode, ScanJob, ScanShared, begin_phase, run_scans};
+use scan_job::{Mode, ScanContext, ScanJob, ScanShared, begin_phase, run_scans};
 use std::thread::Threads;
 use steal_pool::{Crew, FirstTasks};
 
@@ -70,5 +70,6 @@ pub fn owner_phase<R: Threads + Sync, G: Gate>(
     ensures workers { workers_of crew.new ≡ workers_of crew.old }
 {
     begin_owner_phase(shared, jobs, first);
-    run_scans(rt, crew, shared, jobs, first, gate);
+    let context = ScanContext { rt, shared, gate };
+    run_scans(context, crew, jobs, first);
 }
