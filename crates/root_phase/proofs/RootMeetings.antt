@@ -76,7 +76,7 @@ firsts-more g won cell b put is =
 pub record NextRoot (s : Shared) (roots cell : ℕ) (goes_on : Bool) (j k : ScanState) : Type 0 where
   pub within : roots < length s.table.table.roots
   pub names : IfSome (slice_get s.table.table.roots roots) (λ n. id_in s.table cell ≡ Some n.1)
-  pub meets : MeetsRoot s cell goes_on j k
+  pub meets : MeetsRoot s (record { cell = cell; goes_on = goes_on }) j k
   pub ready : IsReadyFor k s
   pub within_wins : IsWithinWins k
 

@@ -9,11 +9,16 @@ use Rattle.scan_job.specs.Phases.{cells_in, dealt, root_firsts}
 use Rattle.scan_job.specs.Scans.{one_meeting, Meets}
 use Rattle.scan_job.specs.States.{ScanState}
 
+-- a cell that a root names, and whether the scan goes on from it
+pub record RootCell : Type 0 where
+  pub cell : ℕ
+  pub goes_on : Bool
+
 -- The job j met the cell and became k; the scan goes on from the cell where it was won and is no owner's.
-pub record MeetsRoot (s : Shared) (cell : ℕ) (goes_on : Bool) (j k : ScanState) : Type 0 where
+pub record MeetsRoot (s : Shared) (root : RootCell) (j k : ScanState) : Type 0 where
   pub won : Bool
-  pub meets : Meets (graph_in s) (one_meeting 0 cell won) j k
-  pub scanned : goes_on ≡ (won && not ((graph_in s).is_owner cell))
+  pub meets : Meets (graph_in s) (one_meeting 0 root.cell won) j k
+  pub scanned : root.goes_on ≡ (won && not ((graph_in s).is_owner root.cell))
 
 -- the cells that the first of the roots name
 abbrev pub first_roots : Placed → ℕ → List ℕ

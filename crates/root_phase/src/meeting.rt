@@ -18,7 +18,7 @@ fn meet_one(shared: &ScanShared<'_>, job: &mut ScanJob, cell: u32) -> bool
     requires mode { job.old.mode ≡ Root }
     requires turns { 0 < turns_of job.old }
     requires cell { IsSome (id_in shared.now.table.now cell) }
-    ensures meets { MeetsRoot (lent shared.now) cell result job.old job.new }
+    ensures meets { MeetsRoot (lent shared.now) (record { cell = cell; goes_on = result }) job.old job.new }
     ensures ready { IsReady job.new shared.now }
     ensures within_wins { IsWithinWins job.new }
 {

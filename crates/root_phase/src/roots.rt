@@ -9,7 +9,7 @@ ghost use Rattle.scan_job.specs.Shared.{lent};
 
 use crate::meeting::meet_roots;
 use heap_base::Gate;
-use scan_job::{Mode, ScanJob, ScanShared, begin_phase, run_scans};
+use scan_job::{Mode, ScanContext, ScanJob, ScanShared, begin_phase, run_scans};
 use std::thread::Threads;
 use steal_pool::{Crew, FirstTasks};
 
@@ -52,5 +52,6 @@ pub fn root_phase<R: Threads + Sync, G: Gate>(
     ensures workers { workers_of crew.new ≡ workers_of crew.old }
 {
     begin_root_phase(shared, jobs, first);
-    run_scans(rt, crew, shared, jobs, first, gate);
+    let context = ScanContext { rt, shared, gate };
+    run_scans(context, crew, jobs, first);
 }

@@ -5,7 +5,28 @@ use Rattle.scan_job.proofs.Placing.{is-whole, root-there, held-from_node}
 use Rattle.root_phase.specs.Roots.{JobAndLists}
 use Rattle.root_phase.proofs.RootMeetings.{NextRoot, meets-no_roots, turns-left, passed-by, below, has-room, goes-on}
 use Rattle.root_phase.proofs.meeting.meet_roots.Goals as goal
-use Rattle.root_phase.proofs.meeting.meet_roots.Goals.{then-meet_one, else-meet_one}
+use Rattle.root_phase.proofs.meeting.meet_roots.Goals.{After-meet_one, then-meet_one, else-meet_one}
+
+-- the job and the lists before the first root
+abbrev at_first : After-meet_one → JobAndLists
+at_first c = record { job = c.args.job.now; lists = c.args.first.now.lists }
+
+-- the job and the lists before this root
+abbrev so_far : After-meet_one → JobAndLists
+so_far c = record { job = c.loop-root.job; lists = c.loop-root.first.lists }
+
+as_many : (c : After-meet_one) → c.args.workers ≡ length c.args.first.now.lists
+as_many c = sym (ap length c.requires.lists ∙ length-replicate c.args.workers _)
+
+-- this root is met
+next : (c : After-meet_one) → NextRoot (lent c.args.shared.now) c.loop-root.root c.root_cell-cell.result c.meet_one.result c.loop-root.job c.meet_one.new.job
+next c = record {
+  within = (let e = c.roots-root-end.ensures.count in let l = c.loop-root-test.true in omega arith);
+  names = c.root_cell-cell.ensures.cell;
+  meets = c.meet_one.ensures.meets;
+  ready = c.meet_one.ensures.ready;
+  within_wins = c.meet_one.ensures.within_wins;
+}
 
 pub loop-root-init : goal.loop-root-init
 loop-root-init c =
@@ -32,81 +53,36 @@ meet_one-requires-clause-cell c =
 
 pub add-requires-clause-worker : goal.add-requires-clause-worker
 add-requires-clause-worker c =
-    let s = lent c.args.shared.now in
-    let next : NextRoot s c.loop-root.root c.root_cell-cell.result c.meet_one.result c.loop-root.job c.meet_one.new.job = record {
-      within = (let e = c.roots-root-end.ensures.count in let l = c.loop-root-test.true in omega arith);
-      names = c.root_cell-cell.ensures.cell;
-      meets = c.meet_one.ensures.meets;
-      ready = c.meet_one.ensures.ready;
-      within_wins = c.meet_one.ensures.within_wins;
-    } in
-    let workers : c.args.workers ≡ length c.args.first.now.lists = (sym (ap length c.requires.lists ∙ length-replicate c.args.workers _)) in
-    let old : JobAndLists = record { job = c.args.job.now; lists = c.args.first.now.lists } in
-    let now : JobAndLists = record { job = c.loop-root.job; lists = c.loop-root.first.lists } in
-    (has-room s c.loop-root.root c.root_cell-cell.result c.meet_one.result old now c.meet_one.new.job c.loop-root.invariant.met next c.args.workers
-    c.loop-root.number workers c.loop-root.invariant.number c.if-meet_one.true c.args.first.now.room c.requires.some c.requires.room).0
+    let at = (goal.at.add-requires-clause-worker c).After-meet_one in
+    (has-room _ _ _ _ (at_first at) (so_far at) _ c.loop-root.invariant.met (next at) _ _ (as_many at) c.loop-root.invariant.number c.if-meet_one.true c.args.first.now.room c.requires.some c.requires.room).0
 
 pub add-requires-clause-room : goal.add-requires-clause-room
 add-requires-clause-room c =
-    let s = lent c.args.shared.now in
-    let next : NextRoot s c.loop-root.root c.root_cell-cell.result c.meet_one.result c.loop-root.job c.meet_one.new.job = record {
-      within = (let e = c.roots-root-end.ensures.count in let l = c.loop-root-test.true in omega arith);
-      names = c.root_cell-cell.ensures.cell;
-      meets = c.meet_one.ensures.meets;
-      ready = c.meet_one.ensures.ready;
-      within_wins = c.meet_one.ensures.within_wins;
-    } in
-    let workers : c.args.workers ≡ length c.args.first.now.lists = (sym (ap length c.requires.lists ∙ length-replicate c.args.workers _)) in
-    let old : JobAndLists = record { job = c.args.job.now; lists = c.args.first.now.lists } in
-    let now : JobAndLists = record { job = c.loop-root.job; lists = c.loop-root.first.lists } in
+    let at = (goal.at.add-requires-clause-room c).After-meet_one in
     let r =
-    (has-room s c.loop-root.root c.root_cell-cell.result c.meet_one.result old now c.meet_one.new.job c.loop-root.invariant.met next
-    c.args.workers c.loop-root.number workers c.loop-root.invariant.number c.if-meet_one.true c.args.first.now.room c.requires.some
+    (has-room _ _ _ _ (at_first at) (so_far at) _ c.loop-root.invariant.met (next at) _ _ (as_many at) c.loop-root.invariant.number c.if-meet_one.true c.args.first.now.room c.requires.some
     c.requires.room).1 in
     let e = c.loop-root.invariant.room in
     omega arith
 
 pub overflow_add-number : goal.overflow_add-number
 overflow_add-number c =
-    let s = lent c.args.shared.now in
-    let next : NextRoot s c.loop-root.root c.root_cell-cell.result c.meet_one.result c.loop-root.job c.meet_one.new.job = record {
-      within = (let e = c.roots-root-end.ensures.count in let l = c.loop-root-test.true in omega arith);
-      names = c.root_cell-cell.ensures.cell;
-      meets = c.meet_one.ensures.meets;
-      ready = c.meet_one.ensures.ready;
-      within_wins = c.meet_one.ensures.within_wins;
-    } in
-    let workers : c.args.workers ≡ length c.args.first.now.lists = (sym (ap length c.requires.lists ∙ length-replicate c.args.workers _)) in
-    let old : JobAndLists = record { job = c.args.job.now; lists = c.args.first.now.lists } in
-    let now : JobAndLists = record { job = c.loop-root.job; lists = c.loop-root.first.lists } in
+    let at = (goal.at.overflow_add-number c).After-meet_one in
     let l =
-    below s c.loop-root.root c.root_cell-cell.result c.meet_one.result old now c.meet_one.new.job c.loop-root.invariant.met next c.args.workers
-    c.loop-root.number workers c.loop-root.invariant.number c.if-meet_one.true in
+    below _ _ _ _ (at_first at) (so_far at) _ c.loop-root.invariant.met (next at) _ _ (as_many at) c.loop-root.invariant.number c.if-meet_one.true in
     let few = c.requires.ready.placed.few in
     omega arith
 
 pub loop-root-preserved : goal.loop-root-preserved
 loop-root-preserved c =
-    let s = lent c.args.shared.now in
-    let next : NextRoot s c.loop-root.root c.root_cell-cell.result c.meet_one.result c.loop-root.job c.meet_one.new.job = record {
-      within = (let e = c.roots-root-end.ensures.count in let l = c.loop-root-test.true in omega arith);
-      names = c.root_cell-cell.ensures.cell;
-      meets = c.meet_one.ensures.meets;
-      ready = c.meet_one.ensures.ready;
-      within_wins = c.meet_one.ensures.within_wins;
-    } in
-    let workers : c.args.workers ≡ length c.args.first.now.lists = (sym (ap length c.requires.lists ∙ length-replicate c.args.workers _)) in
-    let old : JobAndLists = record { job = c.args.job.now; lists = c.args.first.now.lists } in
-    let now : JobAndLists = record { job = c.loop-root.job; lists = c.loop-root.first.lists } in
+    let at = (goal.at.loop-root-preserved c).After-meet_one in
     elim c.if-meet_one.branch [
       | then-meet_one w ↦
           let r =
-          goes-on s c.loop-root.root c.root_cell-cell.result c.meet_one.result old now c.meet_one.new.job c.loop-root.invariant.met next
-          c.args.workers c.loop-root.number workers c.loop-root.invariant.number w.if-meet_one.true w.add.new.self.lists w.add.ensures.lists in
+          goes-on _ _ _ _ (at_first at) (so_far at) _ c.loop-root.invariant.met (next at) _ _ (as_many at) c.loop-root.invariant.number w.if-meet_one.true w.add.new.self.lists w.add.ensures.lists in
           rw (w.first-is, w.number-is) (record { met = r.0; number = r.1; ready = c.meet_one.ensures.ready; room = w.add.ensures.room ∙ c.loop-root.invariant.room })
       | else-meet_one w ↦
           let r =
-          passed-by s c.loop-root.root c.root_cell-cell.result c.meet_one.result old now c.meet_one.new.job c.loop-root.invariant.met next
-          c.args.workers c.loop-root.number workers c.loop-root.invariant.number w.if-meet_one.false in
+          passed-by _ _ _ _ (at_first at) (so_far at) _ c.loop-root.invariant.met (next at) _ _ (as_many at) c.loop-root.invariant.number w.if-meet_one.false in
           rw (w.first-is, w.number-is) (record { met = r.0; number = r.1; ready = c.meet_one.ensures.ready; room = c.loop-root.invariant.room })
     ]
