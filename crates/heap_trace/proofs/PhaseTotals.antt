@@ -16,7 +16,7 @@ use Rattle.scan_job.specs.Scans.{kind_count}
 use Rattle.scan_job.specs.States.{ScanState}
 use Rattle.scan_job.proofs.Gaining.{held-gained}
 use Rattle.steal_pool.specs.Lists.{Each}
-use Rattle.heap_trace.specs.TracedCells.{passes_of, all_tallies, IsNew, PhasesTrace}
+use Rattle.heap_trace.specs.TracedCells.{passes_of, all_tallies, IsNew, ThreePhases, PhasesTrace}
 use Rattle.heap_trace.proofs.ThreePhases as Phases
 
 -- ---- after one phase
@@ -69,6 +69,22 @@ new-tallies kind (j ∷ js) new =
 
 -- ---- after all three
 
+-- a sum over all passes is that of what was gained in each phase
+total-all : {X : Type 0} {g : StoppedGraph} {js ms : List ScanState} → All IsNew js → (phases : ThreePhases g js ms) → (h : X → ℕ) (list : Pass → List X) (gained : Gain → List X)
+    → ((p : Pass) → IsFresh p → list p ≡ []) → ((j k : ScanState) (a : Gain) → Grows g j a k → list k.pass ≡ list j.pass ++ gained a)
+    → total (λ p. total h (list p)) (passes_of ms) ≡ total h (flat_map gained phases.owner_phase.gains ++ (flat_map gained phases.take_up.gains ++ flat_map gained phases.root_phase.gains))
+total-all {g = g} {js = js} {ms = ms} new phases h list gained empty longer =
+    let own = phases.owner_phase in
+    let up = phases.take_up in
+    let root = phases.root_phase in
+    let z = new-total h list empty js new in
+    let p = grown-total g h list gained longer js own.gains phases.owned own.each in
+    let q = grown-total g h list gained longer phases.owned up.gains phases.taken_up up.each in
+    let r = grown-total g h list gained longer phases.taken_up root.gains ms root.each in
+    let s = total-append h (flat_map gained own.gains) (flat_map gained up.gains ++ flat_map gained root.gains) in
+    let t = total-append h (flat_map gained up.gains) (flat_map gained root.gains) in
+    omega arith
+
 pub phases_trace : PhasesTrace
 phases_trace g js ms whole new phases once =
     let ks = phases.owned in
@@ -80,31 +96,12 @@ phases_trace g js ms whole new phases once =
     let b = all_gains up.gains in
     let c = all_gains root.gains in
     let up-held : TakeUpGains g a.held b = subst (λ held. TakeUpGains g held b) (held-gained g js own.gains ks own.each) up.all in
-    let met : (h : ℕ → ℕ) → total (λ p. total h (adds p)) (passes_of ms) ≡ total h (a.adds ++ (b.adds ++ c.adds)) = λ h.
-    (let z = new-total h adds (λ p f. f.adds) js new in
-    let p = grown-total g h adds (λ (d : Gain). d.adds) (λ j k d r. r.adds) js own.gains ks own.each in
-    let q = grown-total g h adds (λ (d : Gain). d.adds) (λ j k d r. r.adds) ks up.gains ls up.each in
-    let r = grown-total g h adds (λ (d : Gain). d.adds) (λ j k d r. r.adds) ls root.gains ms root.each in
-    let s = total-append h a.adds (b.adds ++ c.adds) in
-    let t = total-append h b.adds c.adds in
-    omega arith) in
-    let won : (h : ℕ → ℕ) → total (λ p. total h (wins p)) (passes_of ms) ≡ total h (a.wins ++ (b.wins ++ c.wins)) = λ h.
-    (let z = new-total h wins (λ p f. f.wins) js new in
-    let p = grown-total g h wins (λ (d : Gain). d.wins) (λ j k d r. r.wins) js own.gains ks own.each in
-    let q = grown-total g h wins (λ (d : Gain). d.wins) (λ j k d r. r.wins) ks up.gains ls up.each in
-    let r = grown-total g h wins (λ (d : Gain). d.wins) (λ j k d r. r.wins) ls root.gains ms root.each in
-    let s = total-append h a.wins (b.wins ++ c.wins) in
-    let t = total-append h b.wins c.wins in
-    omega arith) in
-    let marked : (m : Mark) (x : ℕ) → all_marks m x (passes_of ms) ≡ times_marked m x (a.marks ++ (b.marks ++ c.marks)) = λ m x.
-    (let h = λ (p : ℕ × Mark). bit (is_mark m p.1 && eqb p.0 x) in
-    let z = new-total h marks (λ p f. f.marks) js new in
-    let p = grown-total g h marks (λ (d : Gain). d.marks) (λ j k d r. r.marks) js own.gains ks own.each in
-    let q = grown-total g h marks (λ (d : Gain). d.marks) (λ j k d r. r.marks) ks up.gains ls up.each in
-    let r = grown-total g h marks (λ (d : Gain). d.marks) (λ j k d r. r.marks) ls root.gains ms root.each in
-    let s = total-append h a.marks (b.marks ++ c.marks) in
-    let t = total-append h b.marks c.marks in
-    omega arith) in
+    let met : (h : ℕ → ℕ) → total (λ p. total h (adds p)) (passes_of ms) ≡ total h (a.adds ++ (b.adds ++ c.adds)) =
+    λ h. total-all new phases h adds (λ (d : Gain). d.adds) (λ p f. f.adds) (λ j k d r. r.adds) in
+    let won : (h : ℕ → ℕ) → total (λ p. total h (wins p)) (passes_of ms) ≡ total h (a.wins ++ (b.wins ++ c.wins)) =
+    λ h. total-all new phases h wins (λ (d : Gain). d.wins) (λ p f. f.wins) (λ j k d r. r.wins) in
+    let marked : (m : Mark) (x : ℕ) → all_marks m x (passes_of ms) ≡ times_marked m x (a.marks ++ (b.marks ++ c.marks)) =
+    λ m x. total-all new phases (λ (p : ℕ × Mark). bit (is_mark m p.1 && eqb p.0 x)) marks (λ (d : Gain). d.marks) (λ p f. f.marks) (λ j k d r. r.marks) in
     let counts : (x : ℕ) → all_adds x (passes_of ms) ≡ times x (a.adds ++ (b.adds ++ c.adds)) = λ x. met (λ y. bit (eqb y x)) in
     let wins-are : (x : ℕ) → all_wins x (passes_of ms) ≡ times x (a.wins ++ (b.wins ++ c.wins)) = λ x. won (λ y. bit (eqb y x)) in
     let once-all : (x : ℕ) → times x (a.wins ++ (b.wins ++ c.wins)) ≡ bit (is_positive (times x (a.adds ++ (b.adds ++ c.adds)))) =

@@ -8,24 +8,23 @@ ghost use Rattle.scan_job.specs.States.{turns_of};
 ghost use Rattle.heap_trace.specs.TracedCells.{ThreePhases};
 
 use heap_base::Gate;
-use scan_job::{ScanJob, ScanShared};
+use scan_job::{ScanContext, ScanJob};
 use std::thread::Threads;
 use steal_pool::{Crew, FirstTasks};
 
 /// Scans from the owners, then from what that left held, and then from the roots. It takes no memory.
 pub(crate) fn run_phases<R: Threads + Sync, G: Gate>(
-    rt: &R,
+    context: ScanContext<'_, R, G>,
     crew: &mut Crew<ScanJob>,
-    shared: &ScanShared<'_>,
     jobs: &mut Vec<ScanJob>,
     first: &mut FirstTasks,
-    gate: &G,
 )
-    requires scan { CanScan shared.now jobs.old.items crew.old first.old }
+    requires scan { CanScan context.shared.now jobs.old.items crew.old first.old }
     requires turns { All (λ j. 3 * 2 ^ 25 + 3 < turns_of j) jobs.old.items }
-    ensures phases { ThreePhases (shared_graph shared.now) jobs.old.items jobs.new.items }
-    ensures ready { AreReady scan_meaning shared.now jobs.new.items }
+    ensures phases { ThreePhases (shared_graph context.entry.shared.now) jobs.old.items jobs.new.items }
+    ensures ready { AreReady scan_meaning context.entry.shared.now jobs.new.items }
 {
+    let ScanContext { rt, shared, gate } = context;
     owner_phase::owner_phase(rt, crew, shared, jobs, first, gate);
     owner_phase::take_up(rt, crew, shared, jobs, first, gate);
     root_phase::root_phase(rt, crew, shared, jobs, first, gate);

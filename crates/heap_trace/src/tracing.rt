@@ -15,7 +15,7 @@ use crate::traced::Traced;
 use graph_meaning::Roles;
 use heap_base::Gate;
 use object_table::ObjectTable;
-use scan_job::ScanShared;
+use scan_job::{ScanContext, ScanShared};
 use std::thread::Threads;
 
 /// Traces the objects of a table by many workers: from the owners, from what they found of others' ownees, and from
@@ -55,7 +55,12 @@ pub fn trace<R: Threads + Sync, G: Gate>(
         table,
         roles,
     };
-    run_phases(rt, &mut crew, &shared, &mut jobs, &mut first, gate);
+    let context = ScanContext {
+        rt,
+        shared: &shared,
+        gate,
+    };
+    run_phases(context, &mut crew, &mut jobs, &mut first);
     merge_tallies(&jobs, &mut tally);
     take_passes(jobs, &mut passes);
     let words = headers.close(passes);

@@ -10,7 +10,7 @@ use Rattle.heap_trace.proofs.phases.run_phases.Goals as goal
 
 pub take_up-requires-clause-scan : goal.take_up-requires-clause-scan
 take_up-requires-clause-scan g c κs within =
-    let s = c.args.shared.now in
+    let s = c.args.context.shared.now in
     let went = c.owner_phase.ensures in
     (next-scans 67108866 s Owner (OwnerGains (shared_graph s)) c.args.jobs.now.items c.owner_phase.new.jobs.items c.args.crew.now c.owner_phase.new.crew c.args.first.now c.owner_phase.new.first
     (omega arith) c.requires.scan (record { gains = went.gains; modes = went.modes; ready = went.ready; turns = went.turns }) c.requires.turns
@@ -18,11 +18,11 @@ take_up-requires-clause-scan g c κs within =
 
 pub take_up-requires-clause-held : goal.take_up-requires-clause-held
 take_up-requires-clause-held g c κs within =
-    held-under (shared_graph c.args.shared.now) c.args.jobs.now.items c.owner_phase.new.jobs.items c.owner_phase.ensures.gains
+    held-under (shared_graph c.args.context.shared.now) c.args.jobs.now.items c.owner_phase.new.jobs.items c.owner_phase.ensures.gains
 
 pub root_phase-requires-after_bounds : goal.root_phase-requires-after_bounds
 root_phase-requires-after_bounds g c κs within =
-    let s = c.args.shared.now in
+    let s = c.args.context.shared.now in
     let ks = c.owner_phase.new.jobs.items in
     let crew = c.owner_phase.new.crew in
     let went = c.owner_phase.ensures in
