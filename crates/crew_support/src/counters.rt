@@ -122,13 +122,14 @@ pub fn new_counters(alloc: Global, workers: u32, cells: u32) -> Result<Vec<Count
 // How many first tasks each worker may have.
 const MOST_FIRST: u32 = 4;
 
-// Adds the task of the cell for the worker, where there is such a worker and such a cell, and room for it.
-fn add_first(first: &mut FirstTasks, workers: u32, cells: u32, worker: u32, cell: u32)
+// Adds the task of the cell, which comes second, for the worker, where there is such a worker and such a cell, and room for it.
+fn add_first(first: &mut FirstTasks, workers: u32, cells: u32, at: (u32, u32))
     requires lists { AreFirst workers cells first.old.lists }
     requires room { first.old.room ≡ 4 }
     ensures lists { AreFirst workers cells first.new.lists }
     ensures room { first.new.room ≡ 4 }
 {
+    let (worker, cell) = at;
     if worker < workers && cell < cells && first.of(worker).len() < MOST_FIRST as usize {
         first.add(worker, Task { cell, tag: 0 });
     }
@@ -145,7 +146,7 @@ pub fn first_tasks(
 {
     let mut first = FirstTasks::make(alloc, workers, MOST_FIRST)?;
     for (worker, cell) in firsts {
-        add_first(&mut first, workers, cells, *worker, *cell);
+        add_first(&mut first, workers, cells, (*worker, *cell));
     }
     Ok(first)
 }

@@ -6,8 +6,7 @@ ghost use Rattle.trace_audit.specs.Auditors.{IsCollected};
 use audit_core::Auditor;
 use graph_meaning::Collection;
 use heap_base::{Gate, OutOfMemory};
-use resident_rounds::Residents;
-use resident_trace::{ResidentJob, ResidentScan, trace_resident};
+use resident_trace::{TraceCrew, trace_resident};
 use std::alloc::Global;
 use std::sync::Wait;
 
@@ -16,7 +15,7 @@ use std::sync::Wait;
 pub fn collect_resident<R: Wait, G: Gate + Send + Drop + 'static>(
     rt: &R,
     alloc: Global,
-    crew: &mut Residents<ResidentScan, ResidentJob, G>,
+    crew: &mut TraceCrew<G>,
     auditor: &mut Auditor,
 ) -> Result<Collection, OutOfMemory>
     requires few { auditor.old.collections < LONGEST_TRACE }

@@ -1,6 +1,7 @@
 use crate::share::JobShare;
 use heap_base::Gate;
 use parked_crew::ParkedCrew;
+use std::alloc::Global;
 use std::sync::Arc;
 use steal_pool::Job;
 
@@ -9,4 +10,6 @@ use steal_pool::Job;
 pub struct Residents<S: Sync + Drop, J: Job<S> + Drop, G: Gate + Drop> {
     pub(crate) crew: ParkedCrew<JobShare<S, J, G>>,
     pub(crate) gate: Arc<G>,
+    /// Where a run allocates.
+    pub(crate) alloc: Global,
 }

@@ -10,7 +10,7 @@ ghost use Rattle.resident_rounds.specs.Progress.{to_do, Progress};
 
 use crate::dealing::{deal, gather};
 use crate::residents::Residents;
-use crate::seating::{seat_all, unseat_all};
+use crate::seating::{Seating, seat_all, unseat_all};
 use crate::share::JobShare;
 use heap_base::{Gate, OutOfMemory, Task};
 use parked_crew::ParkedCrew;
@@ -51,6 +51,7 @@ impl<
         Ok(Residents {
             crew: ParkedCrew::start(rt, alloc, workers)?,
             gate,
+            alloc,
         })
     }
 
@@ -69,7 +70,6 @@ impl<
     pub fn run<R: Wait>(
         &mut self,
         rt: &R,
-        alloc: Global,
         shared: &Arc<S>,
         jobs: Vec<J>,
         first: &FirstTasks,
@@ -86,7 +86,13 @@ impl<
         ensures turns { IfOk result (λ ks. TurnsLast J.meaning (most_tasks J.meaning jobs.items first.now.lists) jobs.items ks.items) }
         ensures workers { workers_of self.new ≡ workers_of self.old }
     {
-        let mut shares = seat_all(alloc, jobs, first, shared, &self.gate)?;
+        let alloc = self.alloc;
+        let seating = Seating {
+            alloc,
+            shared,
+            gate: &self.gate,
+        };
+        let mut shares = seat_all(&seating, jobs, first)?;
         let mut tasks = Vec::new(alloc);
         while has_tasks(&shares) {
             shares = self.crew.round(rt, alloc, shares)?;
@@ -100,7 +106,11 @@ impl<
 
     /// Ends all threads.
     pub fn end<R: Threads>(self, rt: &R) {
-        let Residents { crew, gate: _ } = self;
+        let Residents {
+            crew,
+            gate: _,
+            alloc: _,
+        } = self;
         crew.end(rt);
     }
 }

@@ -14,25 +14,32 @@ use steal_pool::{FirstTasks, Job, Outbox};
 /// Threads pay for a run that may have so many tasks at a worker.
 const MANY_TASKS: u64 = 1_000;
 
+/// Where the shares of a run are made, and what all of them have.
+#[derive(Clone, Copy)]
+pub struct Seating<'a, S, G> {
+    pub alloc: Global,
+    pub shared: &'a Arc<S>,
+    pub gate: &'a Arc<G>,
+}
+
 // The share of the worker with this number at the beginning of a run.
 fn seat<S: Sync + Drop, J: Job<S> + Drop, G: Drop>(
-    alloc: Global,
+    seating: &Seating<'_, S, G>,
     job: J,
     list: &[Task],
     number: u32,
-    shared: &Arc<S>,
-    gate: &Arc<G>,
 ) -> Result<JobShare<S, J, G>, OutOfMemory>
-    ensures { IfOk result (IsSeatOf J.meaning (arc_value shared.now) job list.now) }
+    ensures { IfOk result (IsSeatOf J.meaning (arc_value seating.now.shared.now) job list.now) }
 {
+    let alloc = seating.alloc;
     let room = job.room();
     Ok(JobShare {
         job,
         list: list.to_vec(alloc)?,
         out: Outbox::make(alloc, room)?,
         done: 0,
-        shared: Arc::try_clone(shared)?,
-        gate: Arc::try_clone(gate)?,
+        shared: Arc::try_clone(seating.shared)?,
+        gate: Arc::try_clone(seating.gate)?,
         number,
         begun: 0,
         is_large: room >= MANY_TASKS,
@@ -41,20 +48,18 @@ fn seat<S: Sync + Drop, J: Job<S> + Drop, G: Drop>(
 
 /// The jobs at the beginning of a run, each with the list of its number.
 pub fn seat_all<S: Sync + Drop, J: Job<S> + Drop, G: Drop>(
-    alloc: Global,
+    seating: &Seating<'_, S, G>,
     jobs: Vec<J>,
     first: &FirstTasks,
-    shared: &Arc<S>,
-    gate: &Arc<G>,
 ) -> Result<Vec<JobShare<S, J, G>>, OutOfMemory>
     requires lists { length first.now.lists ≡ vec_len jobs }
     requires few { vec_len jobs ≤ MOST_WORKERS }
-    ensures { IfOk result (λ ps. Each (IsSeatOf J.meaning (arc_value shared.now)) jobs.items first.now.lists ps.items) }
+    ensures { IfOk result (λ ps. Each (IsSeatOf J.meaning (arc_value seating.now.shared.now)) jobs.items first.now.lists ps.items) }
 {
-    let mut shares = Vec::with_capacity(alloc, jobs.len())?;
+    let mut shares = Vec::with_capacity(seating.alloc, jobs.len())?;
     for job in jobs {
         let number = shares.len() as u32;
-        shares.push(seat(alloc, job, first.of(number), number, shared, gate)?)?;
+        shares.push(seat(seating, job, first.of(number), number)?)?;
     }
     Ok(shares)
 }

@@ -21,5 +21,5 @@ pub fn run_cells<R: Wait, G: Gate + Send + Drop + 'static>(
     let workers = crew.workers();
     let jobs = new_counters(alloc, workers, cells.count)?;
     let first = first_tasks(alloc, workers, cells.count, firsts)?;
-    crew.run(host.rt, alloc, cells, jobs, &first)
+    crew.run(host.rt, cells, jobs, &first)
 }

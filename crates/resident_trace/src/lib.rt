@@ -7,5 +7,6 @@ mod scan;
 mod tracing;
 
 pub use job::ResidentJob;
+pub use phases::TraceCrew;
 pub use scan::ResidentScan;
 pub use tracing::trace_resident;

@@ -22,28 +22,38 @@ use std::alloc::Global;
 use std::sync::{Arc, Wait};
 use steal_pool::FirstTasks;
 
+/// Workers that stay and trace heaps.
+pub type TraceCrew<G> = Residents<ResidentScan, ResidentJob, G>;
+
+/// What all runs of a trace have.
+#[derive(Clone, Copy)]
+pub struct TraceContext<'a, R> {
+    pub rt: &'a R,
+    pub alloc: Global,
+    pub shared: &'a Arc<ResidentScan>,
+}
+
 /// Scans from the owners, then from what that left held, and then from the roots. When out of memory the crew can run again.
 pub fn run_phases<R: Wait, G: Gate + Send + Drop + 'static>(
-    rt: &R,
-    alloc: Global,
-    crew: &mut Residents<ResidentScan, ResidentJob, G>,
-    shared: &Arc<ResidentScan>,
+    context: &TraceContext<'_, R>,
+    crew: &mut TraceCrew<G>,
     mut jobs: Vec<ScanJob>,
     mut first: FirstTasks,
 ) -> Result<Vec<ScanJob>, OutOfMemory>
-    requires begin { CanBegin (owned (arc_value shared.now)) jobs.items first }
+    requires begin { CanBegin (owned (arc_value context.now.shared.now)) jobs.items first }
     requires turns { All (λ j. 3 * 2 ^ 25 + 3 < turns_of j) jobs.items }
     requires jobs { length jobs.items ≡ workers_of crew.old }
-    ensures phases { IfOk result (λ ms. ThreePhases (graph_in (owned (arc_value shared.now))) jobs.items ms.items) }
-    ensures ready { IfOk result (λ ms. AreReady shared_meaning (owned (arc_value shared.now)) ms.items) }
+    ensures phases { IfOk result (λ ms. ThreePhases (graph_in (owned (arc_value context.now.shared.now))) jobs.items ms.items) }
+    ensures ready { IfOk result (λ ms. AreReady shared_meaning (owned (arc_value context.now.shared.now)) ms.items) }
     ensures workers { workers_of crew.new ≡ workers_of crew.old }
 {
+    let shared = context.shared;
     begin_owner_phase(&lend(shared), &mut jobs, &mut first);
-    let mut after_owners = run_jobs(rt, alloc, crew, shared, jobs, &first)?;
+    let mut after_owners = run_jobs(context, crew, jobs, &first)?;
     begin_take_up(&lend(shared), &mut after_owners, &mut first);
-    let mut after_take_up = run_jobs(rt, alloc, crew, shared, after_owners, &first)?;
+    let mut after_take_up = run_jobs(context, crew, after_owners, &first)?;
     begin_root_phase(&lend(shared), &mut after_take_up, &mut first);
-    run_jobs(rt, alloc, crew, shared, after_take_up, &first)
+    run_jobs(context, crew, after_take_up, &first)
 }
 
 fn lend(shared: &Arc<ResidentScan>) -> ScanShared<'_>
@@ -54,21 +64,19 @@ fn lend(shared: &Arc<ResidentScan>) -> ScanShared<'_>
 
 // The crew's run from the first tasks.
 fn run_jobs<R: Wait, G: Gate + Send + Drop + 'static>(
-    rt: &R,
-    alloc: Global,
-    crew: &mut Residents<ResidentScan, ResidentJob, G>,
-    shared: &Arc<ResidentScan>,
+    context: &TraceContext<'_, R>,
+    crew: &mut TraceCrew<G>,
     jobs: Vec<ScanJob>,
     first: &FirstTasks,
 ) -> Result<Vec<ScanJob>, OutOfMemory>
-    requires can { CanRun (owned (arc_value shared.now)) jobs.items (2 * cells_in (owned (arc_value shared.now)) + 1) first.now.lists }
+    requires can { CanRun (owned (arc_value context.now.shared.now)) jobs.items (2 * cells_in (owned (arc_value context.now.shared.now)) + 1) first.now.lists }
     requires jobs { length jobs.items ≡ workers_of crew.old }
-    ensures ran { IfOk result (λ ks. HasRun (owned (arc_value shared.now)) first.now.lists jobs.items ks.items) }
+    ensures ran { IfOk result (λ ks. HasRun (owned (arc_value context.now.shared.now)) first.now.lists jobs.items ks.items) }
     ensures workers { workers_of crew.new ≡ workers_of crew.old }
 {
-    let jobs = wrap(alloc, jobs)?;
-    let jobs = crew.run(rt, alloc, shared, jobs, first)?;
-    unwrap(alloc, jobs)
+    let jobs = wrap(context.alloc, jobs)?;
+    let jobs = crew.run(context.rt, context.shared, jobs, first)?;
+    unwrap(context.alloc, jobs)
 }
 
 // The same jobs, as those of workers that stay.

@@ -10,15 +10,13 @@ ghost use Rattle.object_table.specs.Placed.{IsPlaced};
 ghost use Rattle.resident_rounds.specs.Crews.{workers_of};
 ghost use Rattle.resident_trace.specs.Scans.{owned};
 
-use crate::job::ResidentJob;
-use crate::phases::run_phases;
+use crate::phases::{TraceContext, TraceCrew, run_phases};
 use crate::scan::ResidentScan;
 use graph_meaning::Roles;
 use header_rule::Headers;
 use heap_base::{Gate, OutOfMemory};
 use heap_trace::{TraceMemory, Traced, merge_tallies, take_passes};
 use object_table::ObjectTable;
-use resident_rounds::Residents;
 use std::alloc::Global;
 use std::sync::{Arc, Wait};
 
@@ -27,7 +25,7 @@ use std::sync::{Arc, Wait};
 pub fn trace_resident<R: Wait, G: Gate + Send + Drop + 'static>(
     rt: &R,
     alloc: Global,
-    crew: &mut Residents<ResidentScan, ResidentJob, G>,
+    crew: &mut TraceCrew<G>,
     table: &ObjectTable,
     roles: &Roles,
 ) -> Result<Traced, OutOfMemory>
@@ -50,7 +48,12 @@ pub fn trace_resident<R: Wait, G: Gate + Send + Drop + 'static>(
         mut tally,
     } = memory;
     let shared = share(alloc, headers, table, roles)?;
-    let jobs = run_phases(rt, alloc, crew, &shared, jobs, first)?;
+    let context = TraceContext {
+        rt,
+        alloc,
+        shared: &shared,
+    };
+    let jobs = run_phases(&context, crew, jobs, first)?;
     merge_tallies(&jobs, &mut tally);
     take_passes(jobs, &mut passes);
     let words = shared.headers.read_all(alloc, passes)?;

@@ -9,4 +9,4 @@ returns-then-of-clause-lists c =
     let is = ap (λ (ts : List Task). length ts) c.of.ensures in
     let few = c.if-of.true in
     subst (AreFirst c.args.workers c.args.cells) (sym c.add.ensures.lists)
-    (first_more c.args.workers c.args.cells c.args.first.now.lists c.args.worker c.args.cell c.requires.lists c.if-worker-workers.true c.if-cell-cells.true (omega arith))
+    (first_more c.args.workers c.args.cells c.args.first.now.lists c.args.at.0 c.args.at.1 c.requires.lists c.if-worker-workers.true c.if-cell-cells.true (omega arith))

@@ -10,6 +10,6 @@ abbrev pub invariant-loop-job : goal.invariant-loop-job
 invariant-loop-job g l = record {
   all : l.yielded ++ into_iter_items l.job-iterator ≡ into_iter_items l.initial.job-iterator;
   left : into_iter_len l.job-iterator ≡ length (into_iter_items l.job-iterator);
-  made : Each (IsSeatOf g.J.Job.meaning (arc_value l.shared)) l.yielded (take (vec_len l.shares) l.first.lists) l.shares.items;
+  made : Each (IsSeatOf g.J.Job.meaning (arc_value l.seating.shared.now)) l.yielded (take (vec_len l.shares) l.first.lists) l.shares.items;
   count : vec_len l.shares + length (into_iter_items l.job-iterator) ≡ length l.first.lists;
 }

@@ -8,7 +8,7 @@ use Rattle.resident_trace.proofs.phases.run_jobs.Goals as goal
 
 pub returns-clause-ran : goal.returns-clause-ran
 returns-clause-ran g c =
-    let s = arc_value c.args.shared.now in
+    let s = arc_value c.args.context.now.shared.now in
     let fs = c.args.first.now.lists in
     let js = c.args.jobs.items in
     let ran = c.in_ok-jobs-2.ensures in

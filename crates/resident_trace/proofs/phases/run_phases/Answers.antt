@@ -23,7 +23,7 @@ begin_take_up-requires-clause-begin g c =
 
 pub begin_take_up-requires-clause-held : goal.begin_take_up-requires-clause-held
 begin_take_up-requires-clause-held g c =
-    let s = owned (arc_value c.args.shared.now) in
+    let s = owned (arc_value c.args.context.now.shared.now) in
     let b : Begun Owner OwnerGains c.lend.ensures c.args.jobs.items c.begin_owner_phase.new.jobs.items c.args.first c.begin_owner_phase.new.first =
     record { firsts = owner_firsts c.lend.result.roles.now; begun = c.begin_owner_phase.ensures.begun; lists = c.begin_owner_phase.ensures.first; first_room = c.begin_owner_phase.ensures.first_room } in
     let ks = c.in_ok-after_owners.after_owners.items in

@@ -9,12 +9,13 @@ use Rattle.scan_job.specs.Jobs.{graph_in}
 use Rattle.scan_job.specs.Phases.{CanBegin}
 use Rattle.scan_job.specs.Shared.{Shared}
 use Rattle.heap_trace.specs.TracedCells.{AreWonOnce, IsNewFor, ThreePhases, all_tallies, passes_of}
-use Rattle.heap_trace.proofs.TracedWords.{are-closed, is-trace, count-of}
+use Rattle.heap_trace.proofs.TracedWords.{AreClosed, are-closed, is-trace, count-of}
 use Rattle.heap_trace.proofs.WholeTrace.{can-begin, all-new, many-after, passes-after}
 use Rattle.resident_trace.specs.Scans.{owned}
 use Rattle.resident_trace.specs.declared.scan.ResidentScan.{ResidentScan}
 use Rattle.resident_trace.proofs.Tallies.{few-tallied}
 use Rattle.resident_trace.proofs.tracing.trace_resident.Goals as goal
+use Rattle.resident_trace.proofs.tracing.trace_resident.Goals.{In_ok-jobs, In_ok-words}
 
 pub run_phases-requires-clause-begin : goal.run_phases-requires-clause-begin
 run_phases-requires-clause-begin g c κs within =
@@ -58,16 +59,28 @@ read_all-requires g c =
     let there : ArePassesOf c.deref-2.result.now.headers (passes_of ms) = subst (λ (x : ResidentScan). ArePassesOf x.headers (passes_of ms)) (sym c.deref-2.ensures) kept in
     record { passes = subst (ArePassesOf c.deref-2.result.now.headers) (sym c.take_passes.ensures) there }
 
+-- the phases over what the table and the roles say
+phases_are : (g : _) (c : In_ok-jobs g) → ThreePhases (graph_of c.args.table.now c.args.roles.now) c.in_ok-memory.memory.jobs.items c.in_ok-jobs.jobs.items
+phases_are g c = subst (λ (x : Shared). ThreePhases (graph_in x) c.in_ok-memory.memory.jobs.items c.in_ok-jobs.jobs.items) c.in_ok-shared.ensures c.in_ok-jobs.ensures.phases
+
+-- there is a header for each cell
+cells_are : (g : _) (c : In_ok-words g) → c.deref-2.result.now.headers.cells ≡ length c.args.table.now.cells
+cells_are g c =
+    ap (λ (x : ResidentScan). x.headers.cells) c.deref-2.ensures ∙ ap (λ (x : Shared). x.headers.cells) c.in_ok-shared.ensures ∙ c.in_ok-memory.ensures.cells ∙ c.cells-cells.ensures.count
+
+-- the words are those of the jobs after the phases
+closed : (g : _) (c : In_ok-words g) → AreClosed (length c.args.table.now.cells) c.in_ok-words.words c.in_ok-jobs.jobs.items
+closed g c =
+    let read = c.in_ok-words.ensures in
+    are-closed _ c.deref-2.result.now.headers.cells _ _ c.take_passes.new.passes.items (cells_are g c) c.take_passes.ensures read.counts read.marks read.wins
+
 pub of-requires-clause-below : goal.of-requires-clause-below
 of-requires-clause-below g c kind =
     let m = c.in_ok-memory.memory in
-    let p = c.args.table.now in
-    let r = c.args.roles.now in
-    let js = m.jobs.items in
     let ms = c.in_ok-jobs.jobs.items in
-    let phases : ThreePhases (graph_of p r) js ms = subst (λ (x : Shared). ThreePhases (graph_in x) js ms) c.in_ok-shared.ensures c.in_ok-jobs.ensures.phases in
+    let phases = phases_are g (goal.at.of-requires-clause-below g c).In_ok-jobs in
     let once : AreWonOnce ms = subst (λ ps. (x : ℕ) → all_wins x ps ≡ bit (is_positive (all_adds x ps))) c.take_passes.ensures c.in_ok-words.ensures.wins in
-    let few = few-tallied p r c.requires.roles js ms (all-new m.headers.cells (length m.tally) js m.new_jobs) phases once kind in
+    let few = few-tallied c.args.table.now c.args.roles.now c.requires.roles m.jobs.items ms (all-new m.headers.cells (length m.tally) m.jobs.items m.new_jobs) phases once kind in
     let sum = c.merge_tallies.ensures.sums kind in
     let all = ap (all_tallies kind) c.deref.ensures.value in
     let cells = c.in_ok-memory.ensures.cells in
@@ -77,34 +90,20 @@ of-requires-clause-below g c kind =
 
 pub returns-clause-trace : goal.returns-clause-trace
 returns-clause-trace g c h stand =
+    let at = goal.at.returns-clause-trace g c in
     let m = c.in_ok-memory.memory in
-    let p = c.args.table.now in
-    let r = c.args.roles.now in
-    let js = m.jobs.items in
-    let ms = c.in_ok-jobs.jobs.items in
-    let phases : ThreePhases (graph_of p r) js ms = subst (λ (x : Shared). ThreePhases (graph_in x) js ms) c.in_ok-shared.ensures c.in_ok-jobs.ensures.phases in
-    let read = c.in_ok-words.ensures in
-    let cells : c.deref-2.result.now.headers.cells ≡ length p.cells =
-    ap (λ (x : ResidentScan). x.headers.cells) c.deref-2.ensures ∙ ap (λ (x : Shared). x.headers.cells) c.in_ok-shared.ensures ∙ c.in_ok-memory.ensures.cells ∙ c.cells-cells.ensures.count in
     let made = c.in_ok-traced.ensures in
-    is-trace p r c.cells-cells.ensures.placed c.cells-cells.ensures.sound c.requires.roles js ms (all-new m.headers.cells (length m.tally) js m.new_jobs) phases c.in_ok-words.words
-    (are-closed (length p.cells) c.deref-2.result.now.headers.cells c.in_ok-words.words ms c.take_passes.new.passes.items cells c.take_passes.ensures read.counts read.marks read.wins)
-    h stand c.in_ok-traced.traced made.words (read.cells ∙ cells) made.counts
+    is-trace c.args.table.now c.args.roles.now c.cells-cells.ensures.placed c.cells-cells.ensures.sound c.requires.roles m.jobs.items c.in_ok-jobs.jobs.items
+    (all-new m.headers.cells (length m.tally) m.jobs.items m.new_jobs) (phases_are g at.In_ok-jobs) c.in_ok-words.words (closed g at.In_ok-words)
+    h stand c.in_ok-traced.traced made.words (c.in_ok-words.ensures.cells ∙ cells_are g at.In_ok-words) made.counts
     (made.kinds ∙ c.merge_tallies.ensures.kinds ∙ c.in_ok-memory.ensures.kinds ∙ c.kinds.ensures.count)
     (λ kind. made.instances kind ∙ c.merge_tallies.ensures.sums kind ∙ ap (all_tallies kind) c.deref.ensures.value)
 
 pub returns-clause-counts : goal.returns-clause-counts
-returns-clause-counts g c h stand cell id at =
+returns-clause-counts g c h stand cell id found =
+    let at = goal.at.returns-clause-counts g c in
     let m = c.in_ok-memory.memory in
-    let p = c.args.table.now in
-    let r = c.args.roles.now in
-    let js = m.jobs.items in
-    let ms = c.in_ok-jobs.jobs.items in
-    let phases : ThreePhases (graph_of p r) js ms = subst (λ (x : Shared). ThreePhases (graph_in x) js ms) c.in_ok-shared.ensures c.in_ok-jobs.ensures.phases in
-    let read = c.in_ok-words.ensures in
-    let cells : c.deref-2.result.now.headers.cells ≡ length p.cells =
-    ap (λ (x : ResidentScan). x.headers.cells) c.deref-2.ensures ∙ ap (λ (x : Shared). x.headers.cells) c.in_ok-shared.ensures ∙ c.in_ok-memory.ensures.cells ∙ c.cells-cells.ensures.count in
     ap (λ w. count_in w cell) c.in_ok-traced.ensures.words
-    ∙ count-of p r c.cells-cells.ensures.placed c.cells-cells.ensures.sound c.requires.roles js ms (all-new m.headers.cells (length m.tally) js m.new_jobs) phases c.in_ok-words.words
-    (are-closed (length p.cells) c.deref-2.result.now.headers.cells c.in_ok-words.words ms c.take_passes.new.passes.items cells c.take_passes.ensures read.counts read.marks read.wins)
-    h stand cell id at
+    ∙ count-of c.args.table.now c.args.roles.now c.cells-cells.ensures.placed c.cells-cells.ensures.sound c.requires.roles m.jobs.items c.in_ok-jobs.jobs.items
+    (all-new m.headers.cells (length m.tally) m.jobs.items m.new_jobs) (phases_are g at.In_ok-jobs) c.in_ok-words.words (closed g at.In_ok-words)
+    h stand cell id found

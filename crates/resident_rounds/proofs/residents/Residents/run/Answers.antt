@@ -1,8 +1,8 @@
-use Rattle.std.proofs.Common.{◌≡◌, ◌<◌, List, [], ◌++◌, drop, length, sym, ap, subst, refl, ◌∙◌, arith}
+use Rattle.std.proofs.Common.{◌≡◌, ◌<◌, List, [], ◌++◌, drop, take, length, sym, ap, subst, refl, ◌∙◌, arith}
 use Rattle.std.specs.Arc.{arc_value}
 use Rattle.std.specs.List.{All}
-use Rattle.steal_pool.proofs.ListLemmas.{take_front}
-use Rattle.steal_pool.proofs.WholeRun.{rec_all, each_length}
+use Rattle.steal_pool.proofs.ListLemmas.{take_front, each_length}
+use Rattle.steal_pool.proofs.WholeRun.{rec_all}
 use Rattle.steal_pool.specs.Runs.{AreReady, ShareFit, TurnsLast, Run, fit_tasks, most_tasks}
 use Rattle.steal_pool.specs.Lists.{Pairs}
 use Rattle.heap_base.specs.declared.task.Task.{Task}
@@ -10,6 +10,27 @@ use Rattle.resident_rounds.specs.Shares.{HasDoneList, IsBegun}
 use Rattle.resident_rounds.specs.Progress.{IsSeatOf, Progress, to_do, all_left, most_left}
 use Rattle.resident_rounds.proofs.Whole.{begins, all_can_work, have_done_lists, smaller, begun_length, zip_length, goes_further, has_run, are_ready, share_fit, turns_last}
 use Rattle.resident_rounds.proofs.residents.Residents.run.Goals as goal
+use Rattle.resident_rounds.proofs.residents.Residents.run.Goals.{In_ok-deal}
+
+-- what was put in a round is dealt for the next
+dealt : (g : _) (c : In_ok-deal g)
+    → Pairs IsBegun c.in_ok-shares-2.shares.items c.deal.new.shares × (to_do c.deal.new.shares ≡ all_left c.in_ok-shares-2.shares.items)
+dealt g c =
+    let qs = c.in_ok-shares-2.shares.items in
+    let left : c.gather.new.tasks.items ≡ all_left qs =
+    c.in_ok-gather.ensures ∙ (ap (λ (ts : List Task). ts ++ all_left c.deref-in-loop-self.result.now) c.clear.ensures.items ∙ ap all_left c.deref-in-loop-self.ensures.value) in (
+      subst (λ (xs : List _). Pairs IsBegun xs c.deal.new.shares) c.deref_mut.ensures.value c.in_ok-deal.ensures.dealt,
+      c.in_ok-deal.ensures.tasks ∙ (c.deref-in-loop-self-2.ensures.value ∙ left),
+    )
+
+-- the shares after the round are those that were dealt
+all_dealt : (g : _) (c : In_ok-deal g)
+    → take c.in_ok-shares-2.shares.len (c.deal.new.shares ++ drop (length c.deal.new.shares) c.in_ok-shares-2.shares.items) ≡ c.deal.new.shares
+all_dealt g c =
+    let qs = c.in_ok-shares-2.shares.items in
+    let rs = c.deal.new.shares in
+    take_front c.in_ok-shares-2.shares.len rs (drop (length rs) qs)
+    (begun_length g.J.Job.meaning (arc_value c.args.shared.now) qs rs (dealt g c).0 ∙ sym c.in_ok-shares-2.shares.ok.0)
 
 pub loop-self-init : goal.loop-self-init
 loop-self-init g c =
@@ -37,33 +58,26 @@ pub loop-self-smaller : goal.loop-self-smaller
 loop-self-smaller g c =
     let M = g.J.Job.meaning in
     let s = arc_value c.args.shared.now in
+    let at = (goal.at.loop-self-smaller g c).In_ok-deal in
     let ps = c.loop-self.shares.items in
-    let qs = c.in_ok-shares-2.shares.items in
-    let rs = c.deal.new.shares in
-    let z = c.in_ok-shares-2.ensures.worked in
-    let b : Pairs IsBegun qs rs = subst (λ (xs : List _). Pairs IsBegun xs rs) c.deref_mut.ensures.value c.in_ok-deal.ensures.dealt in
-    let left : c.gather.new.tasks.items ≡ all_left qs =
-    c.in_ok-gather.ensures ∙ (ap (λ (ts : List Task). ts ++ all_left c.deref-in-loop-self.result.now) c.clear.ensures.items ∙ ap all_left c.deref-in-loop-self.ensures.value) in
-    let t : to_do rs ≡ all_left qs = c.in_ok-deal.ensures.tasks ∙ (c.deref-in-loop-self-2.ensures.value ∙ left) in
-    let len = c.in_ok-shares-2.shares.ok.0 in
-    let same = take_front c.in_ok-shares-2.shares.len rs (drop (length rs) qs) (begun_length M s qs rs b ∙ sym len) in
+    let deal = dealt g at in
     let some : 0 < length (to_do ps) = subst (λ (xs : List _). 0 < length (to_do xs)) c.deref.ensures.value c.loop-self-test.ensures in
-    subst (λ (xs : List _). most_left M s xs < most_left M s ps) (sym same) (smaller M s ps qs rs z b t some)
+    subst (λ (xs : List _). most_left M s xs < most_left M s ps) (sym (all_dealt g at))
+    (smaller M s ps c.in_ok-shares-2.shares.items c.deal.new.shares c.in_ok-shares-2.ensures.worked deal.0 deal.1 some)
 
 pub loop-self-preserved : goal.loop-self-preserved
 loop-self-preserved g c =
     let M = g.J.Job.meaning in
     let s = arc_value c.args.shared.now in
+    let at = (goal.at.loop-self-preserved g c).In_ok-deal in
     let ps = c.loop-self.shares.items in
     let qs = c.in_ok-shares-2.shares.items in
     let rs = c.deal.new.shares in
     let z = c.in_ok-shares-2.ensures.worked in
-    let b : Pairs IsBegun qs rs = subst (λ (xs : List _). Pairs IsBegun xs rs) c.deref_mut.ensures.value c.in_ok-deal.ensures.dealt in
-    let left : c.gather.new.tasks.items ≡ all_left qs =
-    c.in_ok-gather.ensures ∙ (ap (λ (ts : List Task). ts ++ all_left c.deref-in-loop-self.result.now) c.clear.ensures.items ∙ ap all_left c.deref-in-loop-self.ensures.value) in
-    let t : to_do rs ≡ all_left qs = c.in_ok-deal.ensures.tasks ∙ (c.deref-in-loop-self-2.ensures.value ∙ left) in
+    let deal = dealt g at in
+    let same = all_dealt g at in
+    let b = begun_length M s qs rs deal.0 in
     let len = c.in_ok-shares-2.shares.ok.0 in
-    let same = take_front c.in_ok-shares-2.shares.len rs (drop (length rs) qs) (begun_length M s qs rs b ∙ sym len) in
     let was = c.loop-self.invariant in
     let many = was.count in
     let crew = was.crew in
@@ -73,7 +87,7 @@ loop-self-preserved g c =
     record {
       gone =
           subst (λ (xs : List _). Progress M s (fit_tasks M s c.args.jobs.items) c.args.first.now.lists c.args.jobs.items xs) (sym same)
-          (goes_further M s c.args.jobs.items c.args.first.now.lists ps qs rs was.gone z b t);
+          (goes_further M s c.args.jobs.items c.args.first.now.lists ps qs rs was.gone z deal.0 deal.1);
       count = omega arith;
       crew = workers ∙ crew;
     }
