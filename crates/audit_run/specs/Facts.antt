@@ -1,19 +1,17 @@
 -- What follows from the statement on an audit, for a source that tells its bytes.
 use Rattle.std.specs.Prelude.{◌≡◌, ℕ, List, Some}
-use Rattle.heap_base.specs.declared.limits.TheConstants.{LONGEST_TRACE}
 use Rattle.heap_base.specs.declared.status.Status.{Status}
 use Rattle.heap_base.specs.declared.status.Status.TheVariants.{ReadFault}
 use Rattle.run_meaning.specs.Run.{RunRules}
-use Rattle.trace_run.specs.Outcome.{Outside, reading}
+use Rattle.trace_run.specs.Outcome.{Outside, reading, of_bytes, IsCutShort}
 use Rattle.trace_run.specs.Facts.{HasFacts}
-use Rattle.audit_program.specs.Audits.{audit_report}
-use Rattle.audit_run.specs.Outcome.{Ended}
+use Rattle.audit_run.specs.Outcome.{Ended, report_by_rules}
 
--- Each fact of a run follows, whatever the status.
+-- Each fact of a run follows, whatever the status, and where a read failed, how far the run came.
 abbrev pub FactsFollow : Type 0
 FactsFollow =
     (rules : RunRules) (old new : Outside) (answer : Status) (bytes : List ℕ) → old.source.bytes ≡ Some bytes → Ended rules old new answer →
-    HasFacts LONGEST_TRACE (audit_report rules) old new answer bytes
+    HasFacts (of_bytes (report_by_rules rules) bytes) old new answer × (answer ≡ ReadFault → IsCutShort (report_by_rules rules) old new)
 
 -- no read of a source that counts no faults is said to have failed
 abbrev pub NoReadFails : Type 0

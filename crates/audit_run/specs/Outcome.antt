@@ -4,7 +4,7 @@ use Rattle.heap_base.specs.declared.limits.TheConstants.{LONGEST_TRACE}
 use Rattle.heap_base.specs.declared.status.Status.{Status}
 use Rattle.run_meaning.specs.Run.{RunRules}
 use Rattle.trace_run.specs.Outcome as outcome
-use Rattle.trace_run.specs.Outcome.{Outside}
+use Rattle.trace_run.specs.Outcome.{Outside, TraceReport, trace_report}
 use Rattle.audit_program.specs.Audits.{audit_report, rules_by}
 use Rattle.settings.specs.declared.settings.Settings.{Settings}
 
@@ -12,13 +12,17 @@ use Rattle.settings.specs.declared.settings.Settings.{Settings}
 abbrev pub rules_of : Settings → RunRules
 rules_of s = rules_by s.paths s.react
 
+-- what is to be reported on a trace by these rules
+abbrev pub report_by_rules : RunRules → TraceReport
+report_by_rules rules = trace_report LONGEST_TRACE (audit_report rules)
+
 -- what is written where the words of the command line are refused
 abbrev pub usage_line : List ℕ
 usage_line = codes "usage: gcaudit [--workers N] [--paths P] [--react R] [--gen K --size N]\n"
 
 -- What stands after a run by these rules, by its status: the report is that of an audit.
 abbrev pub Ended : RunRules → Outside → Outside → Status → Type 0
-Ended rules old new answer = outcome.Ended LONGEST_TRACE (audit_report rules) old new answer
+Ended rules old new answer = outcome.Ended (report_by_rules rules) old new answer
 
 -- What was appended where the words of the command line are refused, by the status.
 abbrev pub RefusesWords : Outside → Outside → Status → Type 0

@@ -12,7 +12,7 @@ use Rattle.trace_reader.specs.Meaning.{Item, blank, event, refused}
 use Rattle.trace_reader.specs.Items.{items_of}
 use Rattle.trace_run.specs.Lines.{whole_lines}
 use Rattle.trace_run.specs.Program.{Ran, by_effect, takes_item, run, report_by}
-use Rattle.trace_run.specs.Outcome.{Outside, Ended, RefusesWords}
+use Rattle.trace_run.specs.Outcome.{Outside, Ended, RefusesWords, trace_report}
 use Rattle.heap_snapshot.specs.declared.from_trace.TheConstants.{LONGEST_TRACE}
 use Rattle.heap_snapshot.specs.FromTrace.{effect_of_step, takes, snapshot_meaning}
 use Rattle.heap_snapshot.specs.Laws.{WritesAtTheEnd}
@@ -60,9 +60,9 @@ nothing_appended (Some xs) None none appends = absurd appends
 nothing_appended (Some xs) (Some ys) none appends = appends ∙ ap (λ (t : List ℕ). xs ++ t) none ∙ append-nil xs
 
 module _ (old new : Outside) {status : Status} (failed : status ≡ ReadFault) where
-  pub unwritten_from_trace : Ended LONGEST_TRACE (report_by snapshot_meaning empty_heap) old new status → Keeps old.sink.bytes new.sink.bytes
+  pub unwritten_from_trace : Ended (trace_report LONGEST_TRACE (report_by snapshot_meaning empty_heap)) old new status → Keeps old.sink.bytes new.sink.bytes
   unwritten_from_trace ended =
-      let cut = (subst (λ (s : Status). Ended LONGEST_TRACE (report_by snapshot_meaning empty_heap) old new s) failed ended).1 in
+      let cut = (subst (λ (s : Status). Ended (trace_report LONGEST_TRACE (report_by snapshot_meaning empty_heap)) old new s) failed ended).1 in
       nothing_appended old.sink.bytes new.sink.bytes (writes_at_the_end (items_of LONGEST_TRACE (whole_lines cut.bytes))) cut.part
 
   pub unwritten_to_trace : Converted old new status → Keeps old.sink.bytes new.sink.bytes

@@ -3,7 +3,7 @@ use Rattle.std.proofs.Common.{◌≡◌, ℕ, ◌<◌, List, [], length, Option,
 use Rattle.std.specs.Io.KnownBytes.{Consumes, IsAtEnd}
 use Rattle.std.proofs.KnownBytes.{Consumes-nil, Consumes-trans}
 use Rattle.snapshot_text.specs.declared.read.TheConstants.{LONGEST_SNAPSHOT}
-use Rattle.trace_reader.specs.Windows.{Adds}
+use Rattle.trace_reader.specs.Windows.{Adds, held_and_left}
 use Rattle.heap_snapshot.specs.ToTrace.{IsRead}
 
 pub begins : (start : Option (List ℕ)) (text : List ℕ) → text ≡ [] → Consumes start start text
@@ -15,7 +15,7 @@ at_end (Some left) is = is
 
 -- one piece more behind what was read
 module _ (start : Option (List ℕ)) {before after : Option (List ℕ)} {old new took : List ℕ} {count : ℕ}
-    (adds : Adds old new before after count took) (consumed : Consumes start before old) where
+    (adds : Adds (held_and_left old before) (held_and_left new after) count took) (consumed : Consumes start before old) where
   pub goes_on : Consumes start after new
   goes_on = subst (Consumes start after) (sym adds.held) (Consumes-trans start before after old took consumed adds.consumes)
 

@@ -2,7 +2,7 @@
 ghost use Rattle.std.specs.Prelude.{ℕ, Result};
 ghost use Rattle.heap_base.specs.Streams.{stream_of};
 ghost use Rattle.trace_run.specs.Program.{Takes, report_by};
-ghost use Rattle.trace_run.specs.Outcome.{Ended, seen};
+ghost use Rattle.trace_run.specs.Outcome.{Ended, seen, trace_report};
 ghost use Rattle.graph_meaning.specs.Heap.{Heap, empty_heap};
 ghost use Rattle.graph_meaning.specs.Step.{step};
 ghost use Rattle.graph_meaning.specs.declared.event.Event.TheVariants.{Alloc, Root, Store};
@@ -50,7 +50,7 @@ impl Program for Making {
 pub(crate) fn from_trace<S: Source, K: Sink>(alloc: Global, source: &mut S, sink: &mut K) -> Status
     ensures { let old = seen (stream_of S.left S.faults source.old) (stream_of K.held K.faults sink.old) in
         let new = seen (stream_of S.left S.faults source.new) (stream_of K.held K.faults sink.new) in
-        Ended LONGEST_TRACE (report_by snapshot_meaning empty_heap) old new result }
+        Ended (trace_report LONGEST_TRACE (report_by snapshot_meaning empty_heap)) old new result }
 {
     let Ok(table) = ObjectTable::make(alloc) else {
         return Status::NoMemory;

@@ -2,7 +2,7 @@ ghost use Rattle.std.specs.Prelude.{◌≡◌, Some, None, map};
 ghost use Rattle.std.specs.Io.KnownBytes.{Keeps};
 ghost use Rattle.heap_base.specs.Streams.{stream_of};
 ghost use Rattle.trace_run.specs.Program.{report_by};
-ghost use Rattle.trace_run.specs.Outcome.{Ended, RefusesWords, seen};
+ghost use Rattle.trace_run.specs.Outcome.{Ended, RefusesWords, seen, trace_report};
 ghost use Rattle.graph_meaning.specs.Heap.{empty_heap};
 ghost use Rattle.heap_snapshot.specs.Words.{command_in, command_named, usage_line};
 ghost use Rattle.heap_snapshot.specs.FromTrace.{snapshot_meaning};
@@ -37,7 +37,7 @@ pub fn snap_run<S: Source, K: Sink>(
 ) -> Status
     ensures from_trace { let old = seen (stream_of S.left S.faults source.old) (stream_of K.held K.faults sink.old) in
         let new = seen (stream_of S.left S.faults source.new) (stream_of K.held K.faults sink.new) in
-        command_in (map (λ w. w.now) words.now) ≡ Some Command.FromTrace → Ended LONGEST_TRACE (report_by snapshot_meaning empty_heap) old new result }
+        command_in (map (λ w. w.now) words.now) ≡ Some Command.FromTrace → Ended (trace_report LONGEST_TRACE (report_by snapshot_meaning empty_heap)) old new result }
     ensures to_trace { let old = seen (stream_of S.left S.faults source.old) (stream_of K.held K.faults sink.old) in
         let new = seen (stream_of S.left S.faults source.new) (stream_of K.held K.faults sink.new) in
         command_in (map (λ w. w.now) words.now) ≡ Some Command.ToTrace → Converted old new result }

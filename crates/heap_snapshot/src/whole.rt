@@ -1,6 +1,6 @@
 //! Reads a source whole.
 ghost use Rattle.std.specs.Prelude.{◌≤◌, ◌<◌, ◌≡◌, ℕ, List, [], length, Err, IfOk, OnOk};
-ghost use Rattle.trace_reader.specs.Windows.{Adds};
+ghost use Rattle.trace_reader.specs.Windows.{Adds, held_and_left};
 ghost use Rattle.heap_base.specs.Causes.{Rose};
 ghost use Rattle.heap_snapshot.specs.ToTrace.{IsRead};
 
@@ -63,7 +63,7 @@ fn read_piece<S: Source>(
     text: &mut Vec<u8>,
 ) -> Result<usize, ReadStop>
     requires some { 0 < length piece.old }
-    ensures read { IfOk result (λ count. (took : List ℕ) × Adds text.old.items text.new.items (S.left source.old) (S.left source.new) count took) }
+    ensures read { IfOk result (λ count. (took : List ℕ) × Adds (held_and_left text.old.items (S.left source.old)) (held_and_left text.new.items (S.left source.new)) count took) }
     ensures later { S.faults source.old ≤ S.faults source.new }
     ensures failed { result ≡ Err ReadStop.Failed → Rose (S.faults source.old) (S.faults source.new) }
 {

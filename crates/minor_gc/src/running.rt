@@ -2,7 +2,7 @@
 ghost use Rattle.std.specs.Prelude.{◌≡◌, ◌≢◌, ◌+◌, ◌<◌, ◌≤◌, length, IfOk};
 ghost use Rattle.heap_base.specs.Streams.{stream_of};
 ghost use Rattle.heap_base.specs.declared.limits.TheConstants.{LONGEST_TRACE};
-ghost use Rattle.trace_run.specs.Outcome.{Ended, RefusesWords, seen};
+ghost use Rattle.trace_run.specs.Outcome.{Ended, RefusesWords, seen, trace_report};
 ghost use Rattle.trace_run.specs.Program.{Takes, goes_on, report_by};
 ghost use Rattle.minor_gc.specs.MinorPrograms.{state_in};
 ghost use Rattle.minor_gc.specs.MinorRuns.{collects, first_minor_state, minor_meaning, minor_usage};
@@ -31,7 +31,7 @@ pub fn minor_run<S: Source, K: Sink>(
 ) -> Status
     ensures taken { let old = seen (stream_of S.left S.faults source.old) (stream_of K.held K.faults sink.old) in
         let new = seen (stream_of S.left S.faults source.new) (stream_of K.held K.faults sink.new) in
-        length words.now ≡ 1 → Ended LONGEST_TRACE (report_by minor_meaning first_minor_state) old new result }
+        length words.now ≡ 1 → Ended (trace_report LONGEST_TRACE (report_by minor_meaning first_minor_state)) old new result }
     ensures refused { let old = seen (stream_of S.left S.faults source.old) (stream_of K.held K.faults sink.old) in
         let new = seen (stream_of S.left S.faults source.new) (stream_of K.held K.faults sink.new) in
         length words.now ≢ 1 → (source.new ≡ source.old) × RefusesWords minor_usage old new result }

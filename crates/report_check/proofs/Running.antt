@@ -14,25 +14,25 @@ use Rattle.graph_meaning.specs.declared.refusal.Refusal.{Refusal}
 use Rattle.graph_meaning.specs.declared.refusal.Refusal.TheVariants as refusal
 use Rattle.trace_reader.specs.declared.error.CutError.{CutError}
 use Rattle.trace_reader.specs.declared.error.CutError.TheVariants as cut_error
-use Rattle.trace_reader.specs.Cutter.{CutterState, StepsOn, fresh_cutter}
+use Rattle.trace_reader.specs.Cutter.{CutterState, StepsOn, fresh_cutter, with_source}
 use Rattle.trace_reader.specs.Items.{items_of}
 use Rattle.trace_reader.specs.Meaning.{item_of_line}
 use Rattle.report.specs.Text.{fault_text}
-use Rattle.trace_run.specs.Outcome.{Outside, Ended, RefusesLine, AppendsPartOfReport, seen}
+use Rattle.trace_run.specs.Outcome.{Outside, Ended, RefusesLine, AppendsPartOfReport, seen, trace_report}
 use Rattle.trace_run.specs.Program.{Effect, Last, Report, by_effect, end_of_trace, ends_so, goes_on, refuses, report_by, report_on, status_by, takes_item}
-use Rattle.trace_run.specs.Turn.{EndsRun}
+use Rattle.trace_run.specs.Turn.{EndsRun, sink_change}
 use Rattle.trace_run.proofs.Endings.{AppendsPart-longer, finished, line_ends, line_too_long, trace_too_long}
 use Rattle.trace_run.proofs.Progress.{InProgress, begins_at, line_leaves_fewer, line_taken, line_within}
 use Rattle.trace_run.proofs.Runs.{report_on-text}
 use Rattle.audit_program.specs.Audits.{AuditState, audit_meaning, first_audit_state, rules_by}
 use Rattle.audit_program.proofs.Reports.{audit_is_reported}
 use Rattle.graph_meaning.specs.declared.reaction.React.TheVariants as react
-use Rattle.report_check.specs.Flows.{ComparesLine}
+use Rattle.report_check.specs.Flows.{ComparesLine, checked_line}
 use Rattle.report_check.specs.Reports.{TellsOfReports, TellsOfRun}
 use Rattle.report_check.specs.States.{state_in}
 use Rattle.report_check.specs.declared.line.Check.{Check}
 use Rattle.report_check.specs.declared.line.Flow.TheVariants.{GoesOn, Ends}
-use Rattle.text_comparison.specs.Comparing.{ComparisonState, DiffersWithin, IsEqualSoFar, Tells, fresh_comparison}
+use Rattle.text_comparison.specs.Comparing.{ComparisonState, DiffersWithin, IsEqualSoFar, Tells, comparison_of, fresh_comparison}
 use Rattle.text_comparison.specs.Differences.{IsFirstDifference}
 use Rattle.text_comparison.specs.declared.outcome.Compared.{Compared}
 use Rattle.text_comparison.specs.declared.outcome.Compared.TheVariants.{Differs}
@@ -64,7 +64,7 @@ moment trace report check lines = record {
 pub record UnderWay (first now : Moment) : Type 0 where
   pub written : List ℕ
   pub so_far : InProgress audit_meaning LONGEST_TRACE first.state (seen first.trace (held [])) (seen now.trace (held written)) now.cutter now.state now.lines
-  pub equal : IsEqualSoFar first.report.bytes now.report.bytes now.comparison written
+  pub equal : IsEqualSoFar (comparison_of first.report.bytes now.report.bytes now.comparison) written
   pub later : first.report.faults ≤ now.report.faults
 
 pub begins : (first : Moment) → first.cutter ≡ fresh_cutter LONGEST_TRACE → first.comparison ≡ fresh_comparison → first.lines ≡ 0 → UnderWay first first
@@ -74,7 +74,7 @@ begins first fresh nothing none = record {
       subst (λ (n : ℕ). InProgress audit_meaning LONGEST_TRACE first.state (seen first.trace (held [])) (seen first.trace (held [])) first.cutter first.state n) (sym none)
       (begins_at audit_meaning LONGEST_TRACE first.state (seen first.trace (held [])) first.cutter fresh);
   equal =
-      subst (λ (k : ComparisonState). IsEqualSoFar first.report.bytes first.report.bytes k []) (sym nothing)
+      subst (λ (k : ComparisonState). IsEqualSoFar (comparison_of first.report.bytes first.report.bytes k) []) (sym nothing)
       (record { consumed = Consumes-nil first.report.bytes; place = refl });
   later = omega arith;
 }
@@ -101,19 +101,21 @@ module _ (first : AuditState) (trace report : Option (List ℕ)) where
 module _ (first : AuditState) (trace : Stream) (report : Option (List ℕ)) (after : Stream) where
   -- the text up to a refused line was made
   tells-refused : (whole : List ℕ) (compared : Compared) →
-      RefusesLine LONGEST_TRACE (report_by audit_meaning first) (seen trace (held [])) (seen after (held whole)) → Tells report whole compared → TellsOfRun first trace.bytes report compared
-  tells-refused whole compared ended tells = tells-whole first trace.bytes report ended.bytes whole compared ended.trace ended.report tells
+      RefusesLine (trace_report LONGEST_TRACE (report_by audit_meaning first)) (seen trace (held [])) (seen after (held whole)) →
+      Tells report whole compared → TellsOfRun first trace.bytes report compared
+  tells-refused whole compared ended tells = tells-whole first trace.bytes report ended.bytes whole compared ended.trace ended.appended tells
 
   -- the text up to the end of the trace was made
   tells-at_end : (whole : List ℕ) (compared : Compared) (violated : Bool) →
-      Ended LONGEST_TRACE (report_by audit_meaning first) (seen trace (held [])) (seen after (held whole)) (status_by violated) →
+      Ended (trace_report LONGEST_TRACE (report_by audit_meaning first)) (seen trace (held [])) (seen after (held whole)) (status_by violated) →
       Tells report whole compared → TellsOfRun first trace.bytes report compared
-  tells-at_end whole compared true ended tells = tells-whole first trace.bytes report ended.bytes whole compared ended.trace ended.report tells
-  tells-at_end whole compared false ended tells = tells-whole first trace.bytes report ended.bytes whole compared ended.trace ended.report tells
+  tells-at_end whole compared true ended tells = tells-whole first trace.bytes report ended.bytes whole compared ended.trace ended.appended tells
+  tells-at_end whole compared false ended tells = tells-whole first trace.bytes report ended.bytes whole compared ended.trace ended.appended tells
 
   -- a part of the text was made, and they differ in it
   tells-part : (part : List ℕ) (m : ℕ) →
-      AppendsPartOfReport LONGEST_TRACE (report_by audit_meaning first) (seen trace (held [])) (seen after (held part)) → DiffersWithin report part m → TellsOfRun first trace.bytes report (Differs m)
+      AppendsPartOfReport (trace_report LONGEST_TRACE (report_by audit_meaning first)) (seen trace (held [])) (seen after (held part)) →
+      DiffersWithin report part m → TellsOfRun first trace.bytes report (Differs m)
   tells-part part m made (within, differ) = tells-on first trace.bytes report made.bytes (Differs m) made.trace (go report made.part.2 differ)
     where
       go : (report : Option (List ℕ)) → part ≡ take made.part.0 (text_on first made.bytes) → IfSome report (λ bytes. (more : List ℕ) → IsFirstDifference bytes (part ++ more) m) →
@@ -127,7 +129,7 @@ module _ (first : AuditState) (trace : Stream) (report : Option (List ℕ)) (aft
 
 module _ {first now : Moment} (u : UnderWay first now) (trace : Stream) (c : CutterState) (took : List ℕ) where
   abbrev Steps : Result (Option ℕ) CutError → Type 0
-  Steps result = StepsOn now.cutter c now.trace.bytes trace.bytes now.trace.faults trace.faults result took
+  Steps result = StepsOn (with_source now.cutter now.trace) (with_source c trace) result took
 
   -- what is seen at the beginning, before the step, and where this text was due behind it
   abbrev start : Outside
@@ -146,15 +148,15 @@ module _ {first now : Moment} (u : UnderWay first now) (trace : Stream) (c : Cut
   -- the line's number, and that fewer lines are left
   pub next-number : (number : ℕ) → Steps (Ok (Some number)) → (now.lines < LONGEST_TRACE) × (now.lines + 1 ≡ number)
   next-number number steps =
-      line_within audit_meaning LONGEST_TRACE first.state start before trace.bytes trace.faults now.cutter c now.state now.lines number took u.so_far steps
+      line_within audit_meaning LONGEST_TRACE first.state start before trace now.cutter c now.state now.lines number took u.so_far steps
 
   pub leaves-fewer : (number : ℕ) → Steps (Ok (Some number)) → LONGEST_TRACE - c.given < LONGEST_TRACE - now.cutter.given
   leaves-fewer number steps =
-      line_leaves_fewer audit_meaning LONGEST_TRACE first.state start before trace.bytes trace.faults now.cutter c now.state now.lines number took u.so_far steps
+      line_leaves_fewer audit_meaning LONGEST_TRACE first.state start before trace now.cutter c now.state now.lines number took u.so_far steps
 
   -- a line was taken, and its text is equal
   pub goes-on : (report : Stream) (s : AuditState) (number : ℕ) (k : ComparisonState) → Steps (Ok (Some number)) →
-      ComparesLine effect number s first.report.bytes report.bytes k u.written GoesOn → now.report.faults ≤ report.faults →
+      ComparesLine (checked_line effect number s) (comparison_of first.report.bytes report.bytes k) u.written GoesOn → now.report.faults ≤ report.faults →
       UnderWay first (record { trace = trace; report = report; cutter = c; state = s; lines = number; comparison = k })
   goes-on report s number k steps (text, taken, equal) later =
       let was = u.later in
@@ -173,7 +175,7 @@ module _ {first now : Moment} (u : UnderWay first now) (trace : Stream) (c : Cut
   differs-there number text s m steps taken differ =
       tells-part first.state first.trace first.report.bytes trace (u.written ++ text) m
       (line_ends audit_meaning LONGEST_TRACE first.state start before (behind text) now.cutter c now.state now.lines number took c.line NoMemory u.so_far steps refl
-      (λ on. subst (λ (e : Effect AuditState). EndsRun false (held u.written) (held (u.written ++ text)) (report_on (by_effect (now.lines + 1) e on)) NoMemory) (sym taken)
+      (λ on. subst (λ (e : Effect AuditState). EndsRun false (sink_change (held u.written) (held (u.written ++ text))) (report_on (by_effect (now.lines + 1) e on)) NoMemory) (sym taken)
       (subst (λ (t : List ℕ). AppendsPart (Some u.written) (Some (u.written ++ text)) t) (sym (report_on-text text (on s)))
       (AppendsPart-longer (Some u.written) (Some (u.written ++ text)) text (report_on (on s)).text
       (length text, omega arith, ap (λ t. u.written ++ t) (sym (take_all (length text) text (omega arith))))))))
@@ -186,13 +188,13 @@ module _ {first now : Moment} (u : UnderWay first now) (trace : Stream) (c : Cut
       let text = fault_text number r in
       tells-refused first.state first.trace first.report.bytes trace (u.written ++ text) compared
       (line_ends audit_meaning LONGEST_TRACE first.state start before (behind text) now.cutter c now.state now.lines number took c.line TraceFault u.so_far steps refl
-      (λ on. subst (λ (e : Effect AuditState). EndsRun false (held u.written) (held (u.written ++ text)) (report_on (by_effect (now.lines + 1) e on)) TraceFault) (sym taken)
+      (λ on. subst (λ (e : Effect AuditState). EndsRun false (sink_change (held u.written) (held (u.written ++ text))) (report_on (by_effect (now.lines + 1) e on)) TraceFault) (sym taken)
       (refl, ap (λ m. u.written ++ fault_text m r) (sym (next-number number steps).1))))
       tells
 
   -- a line behind which the check ends
   pub ends-line : (number : ℕ) (s : AuditState) (left : Option (List ℕ)) (k : ComparisonState) (compared : Compared) → Steps (Ok (Some number)) →
-      ComparesLine effect number s first.report.bytes left k u.written (Ends compared) → TellsOfRun first.state first.trace.bytes first.report.bytes compared
+      ComparesLine (checked_line effect number s) (comparison_of first.report.bytes left k) u.written (Ends compared) → TellsOfRun first.state first.trace.bytes first.report.bytes compared
   ends-line number s left k compared steps flow =
       ⊎_elim
       (λ d. subst (λ (x : Compared). TellsOfRun first.state first.trace.bytes first.report.bytes x) (sym d.2.1) (differs-there number d.0 s d.2.0 steps d.1 d.2.2))
@@ -212,7 +214,7 @@ module _ {first now : Moment} (u : UnderWay first now) (trace : Stream) (c : Cut
       tells
     where
       ends-by : (violated : Bool) → violated ≡ last.violated →
-          EndsRun true (held u.written) (held (u.written ++ last.text)) (report_on (ends_so (end_of_trace last))) (status_by violated)
+          EndsRun true (sink_change (held u.written) (held (u.written ++ last.text))) (report_on (ends_so (end_of_trace last))) (status_by violated)
       ends-by true e = (refl, ap status_by (sym e), refl)
       ends-by false e = (refl, ap status_by (sym e), refl)
 

@@ -6,9 +6,9 @@ ghost use Rattle.report.specs.Text.{fault_text};
 ghost use Rattle.trace_reader.specs.Meaning.{item_of_line};
 ghost use Rattle.trace_run.specs.Program.{takes_item};
 ghost use Rattle.audit_program.specs.Audits.{audit_meaning, end_of};
-ghost use Rattle.text_comparison.specs.Comparing.{IsEqualSoFar, Tells};
+ghost use Rattle.text_comparison.specs.Comparing.{IsEqualSoFar, Tells, comparison_of};
 ghost use Rattle.report_check.specs.declared.outcome.CheckError.TheVariants.{ReadFault};
-ghost use Rattle.report_check.specs.Flows.{ComparesLine, ComparesText};
+ghost use Rattle.report_check.specs.Flows.{ComparesLine, ComparesText, checked_line};
 ghost use Rattle.report_check.specs.States.{state_in};
 
 use crate::checking::Checking;
@@ -43,8 +43,9 @@ impl Check {
         report: &mut B,
     ) -> Result<Flow, CheckError>
         requires few { self.old.checking.collections < LONGEST_TRACE }
-        ensures compares { (start : Option (List ℕ)) (before : List ℕ) → IsEqualSoFar start (B.left report.old) self.old.comparison before →
-            IfOk result (ComparesLine (takes_item audit_meaning (state_in self.old.checking) (item_of_line self.old.cutter.line)) number (state_in self.new.checking) start (B.left report.new) self.new.comparison before) }
+        ensures compares { let effect = takes_item audit_meaning (state_in self.old.checking) (item_of_line self.old.cutter.line) in
+            (start : Option (List ℕ)) (before : List ℕ) → IsEqualSoFar (comparison_of start (B.left report.old) self.old.comparison) before →
+            IfOk result (ComparesLine (checked_line effect number (state_in self.new.checking)) (comparison_of start (B.left report.new) self.new.comparison) before) }
         ensures cutter { self.new.cutter ≡ self.old.cutter }
         ensures few { self.new.checking.collections ≤ self.old.checking.collections + 1 }
         ensures later { B.faults report.old ≤ B.faults report.new }
@@ -58,7 +59,7 @@ impl Check {
 
     /// Compares the last text, where the trace ends.
     pub(crate) fn compare_end<B: Source>(&mut self, report: &mut B) -> Result<Compared, CheckError>
-        ensures tells { (start : Option (List ℕ)) (before : List ℕ) → IsEqualSoFar start (B.left report.old) self.old.comparison before →
+        ensures tells { (start : Option (List ℕ)) (before : List ℕ) → IsEqualSoFar (comparison_of start (B.left report.old) self.old.comparison) before →
             IfOk result (Tells start (before ++ (end_of (state_in self.old.checking).totals).text)) }
         ensures cause { result ≡ Err ReadFault → Rose (B.faults report.old) (B.faults report.new) }
     {
@@ -73,7 +74,7 @@ impl Check {
         refusal: Refusal,
         report: &mut B,
     ) -> Result<Compared, CheckError>
-        ensures tells { (start : Option (List ℕ)) (before : List ℕ) → IsEqualSoFar start (B.left report.old) self.old.comparison before →
+        ensures tells { (start : Option (List ℕ)) (before : List ℕ) → IsEqualSoFar (comparison_of start (B.left report.old) self.old.comparison) before →
             IfOk result (Tells start (before ++ fault_text line refusal)) }
         ensures cause { result ≡ Err ReadFault → Rose (B.faults report.old) (B.faults report.new) }
     {
@@ -88,8 +89,8 @@ fn compare_text<B: Source>(
     comparison: &mut Comparison,
     report: &mut B,
 ) -> Result<Flow, CheckError>
-    ensures compares { (start : Option (List ℕ)) (before : List ℕ) → IsEqualSoFar start (B.left report.old) comparison.old before →
-        IfOk result (ComparesText start (B.left report.new) comparison.new (before ++ text.now)) }
+    ensures compares { (start : Option (List ℕ)) (before : List ℕ) → IsEqualSoFar (comparison_of start (B.left report.old) comparison.old) before →
+        IfOk result (ComparesText (comparison_of start (B.left report.new) comparison.new) (before ++ text.now)) }
     ensures later { B.faults report.old ≤ B.faults report.new }
     ensures cause { result ≡ Err ReadFault → Rose (B.faults report.old) (B.faults report.new) }
 {

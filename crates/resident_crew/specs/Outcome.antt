@@ -5,7 +5,7 @@ use Rattle.heap_base.specs.declared.status.Status.{Status}
 use Rattle.graph_meaning.specs.declared.reaction.React.TheVariants.{Report}
 use Rattle.run_meaning.specs.Run.{RunRules}
 use Rattle.trace_run.specs.Outcome as outcome
-use Rattle.trace_run.specs.Outcome.{Outside}
+use Rattle.trace_run.specs.Outcome.{Outside, trace_report}
 use Rattle.audit_program.specs.Audits.{audit_report, rules_by}
 
 -- what every run goes by: violations are reported, and the usual number of paths is shown
@@ -18,7 +18,7 @@ usage_line = codes "usage: gcresident [--workers N]\n"
 
 -- What stands after a run, by its status: the report is that of an audit.
 abbrev pub Ended : Outside → Outside → Status → Type 0
-Ended old new answer = outcome.Ended LONGEST_TRACE (audit_report rules) old new answer
+Ended old new answer = outcome.Ended (trace_report LONGEST_TRACE (audit_report rules)) old new answer
 
 -- What was appended where the words of the command line are refused, by the status.
 abbrev pub RefusesWords : Outside → Outside → Status → Type 0

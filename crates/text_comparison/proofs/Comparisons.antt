@@ -6,7 +6,7 @@ use Rattle.std.specs.Io.KnownBytes.{Consumes, IsAtEnd}
 use Rattle.std.proofs.KnownBytes.{Consumes-nil, Consumes-trans}
 use Rattle.std.proofs.lemmas.List.{append_assoc, append-nil, length-append}
 use Rattle.text_comparison.specs.Differences.{IsFirstDifference}
-use Rattle.text_comparison.specs.Comparing.{ComparisonState, DiffersWithin, GivesNext, HasCompared, IsEqualSoFar, Tells}
+use Rattle.text_comparison.specs.Comparing.{ComparisonState, DiffersWithin, GivesNext, HasCompared, IsEqualSoFar, Tells, comparison_of, bytes_ahead}
 use Rattle.text_comparison.specs.declared.outcome.Compared.{Compared}
 use Rattle.text_comparison.specs.declared.outcome.Compared.TheVariants.{Equal, Differs}
 
@@ -14,14 +14,14 @@ use Rattle.text_comparison.specs.declared.outcome.Compared.TheVariants.{Equal, D
 
 -- where none is pending, a piece that was read gives the next
 pub gives-read : (pending piece pending' : List ℕ) (left left' : Option (List ℕ)) (next : Option ℕ) → pending ≡ [] → Consumes left left' piece →
-    (piece ≡ [] → IsAtEnd left') → piece ≡ option_to_list next ++ pending' → IfNone next (piece ≡ []) → GivesNext pending pending' left left' next
+    (piece ≡ [] → IsAtEnd left') → piece ≡ option_to_list next ++ pending' → IfNone next (piece ≡ []) → GivesNext (bytes_ahead pending left) (bytes_ahead pending' left') next
 gives-read pending piece pending' left left' None empty consumed end is none =
     (empty, sym is ∙ none, subst (λ (t : List ℕ). Consumes left left' t) none consumed, end none)
 gives-read pending piece pending' left left' (Some byte) empty consumed end is none = (piece, consumed, ap (λ t. t ++ piece) empty ∙ is)
 
 -- else it is the first of those that are pending
 pub gives-pending : (pending pending' : List ℕ) (left : Option (List ℕ)) (next : Option ℕ) → (pending ≡ [] → ⊥) →
-    pending ≡ option_to_list next ++ pending' → IfNone next (pending ≡ []) → GivesNext pending pending' left left next
+    pending ≡ option_to_list next ++ pending' → IfNone next (pending ≡ []) → GivesNext (bytes_ahead pending left) (bytes_ahead pending' left) next
 gives-pending pending pending' left None some is none = absurd (some none)
 gives-pending pending pending' left (Some byte) some is none = ([], Consumes-nil left, append-nil pending ∙ is)
 
@@ -67,20 +67,20 @@ module _ (read : List ℕ) (P : List ℕ → Type 0) where
 
 -- ---- behind a text that was equal so far
 
-module _ {start left : Option (List ℕ)} {s : ComparisonState} {text : List ℕ} (equal : IsEqualSoFar start left s text) where
+module _ {start left : Option (List ℕ)} {s : ComparisonState} {text : List ℕ} (equal : IsEqualSoFar (comparison_of start left s) text) where
   -- the next byte was taken, or there is none
   module _ (left' : Option (List ℕ)) (pending' : List ℕ) where
-    took-one : (byte : ℕ) → GivesNext s.pending pending' left left' (Some byte) → Consumes start left' ((text ++ byte ∷ []) ++ pending')
+    took-one : (byte : ℕ) → GivesNext (bytes_ahead s.pending left) (bytes_ahead pending' left') (Some byte) → Consumes start left' ((text ++ byte ∷ []) ++ pending')
     took-one byte (took, consumed, is) =
         subst (λ (t : List ℕ). Consumes start left' t) (next-split text s.pending took pending' byte is) (Consumes-trans _ _ _ _ _ equal.consumed consumed)
 
-    took-none : GivesNext s.pending pending' left left' None → Consumes start left' text
+    took-none : GivesNext (bytes_ahead s.pending left) (bytes_ahead pending' left') None → Consumes start left' text
     took-none (empty, nothing, consumed, end) =
         subst (λ (t : List ℕ). Consumes start left' t) (append-nil (text ++ s.pending) ∙ ap (λ t. text ++ t) empty ∙ append-nil text)
         (Consumes-trans _ _ _ _ _ equal.consumed consumed)
 
     -- then the source is at its end
-    no-rest : GivesNext s.pending pending' left left' None → (rest : List ℕ) → left' ≡ Some rest → text ++ rest ≡ text
+    no-rest : GivesNext (bytes_ahead s.pending left) (bytes_ahead pending' left') None → (rest : List ℕ) → left' ≡ Some rest → text ++ rest ≡ text
     no-rest (empty, nothing, consumed, end) rest is = ap (λ t. text ++ t) (subst IsAtEnd is end) ∙ append-nil text
 
     -- the bytes, where this one is the next
@@ -88,12 +88,12 @@ module _ {start left : Option (List ℕ)} {s : ComparisonState} {text : List ℕ
     with-rest byte rest = ap (λ t. t ++ rest) (append_assoc text (byte ∷ []) pending') ∙ append_assoc text (byte ∷ pending') rest
 
     -- one byte more is equal
-    equal-more : (byte : ℕ) → GivesNext s.pending pending' left left' (Some byte) → IsEqualSoFar start left' (record { pending = pending'; place = s.place + 1 }) (text ++ byte ∷ [])
+    equal-more : (byte : ℕ) → GivesNext (bytes_ahead s.pending left) (bytes_ahead pending' left') (Some byte) → IsEqualSoFar (comparison_of start left' (record { pending = pending'; place = s.place + 1 })) (text ++ byte ∷ [])
     equal-more byte gives = record { consumed = took-one byte gives; place = omega (arith, equal.place, length-append text (byte ∷ [])) }
 
     module _ (n : ℕ) (is : n ≡ s.place + 1) where
       -- the next byte is another than that of the text
-      pub differs-other : (other byte : ℕ) (rest : List ℕ) → GivesNext s.pending pending' left left' (Some other) → other ≢ byte → DiffersWithin start (text ++ byte ∷ rest) n
+      pub differs-other : (other byte : ℕ) (rest : List ℕ) → GivesNext (bytes_ahead s.pending left) (bytes_ahead pending' left') (Some other) → other ≢ byte → DiffersWithin start (text ++ byte ∷ rest) n
       differs-other other byte rest gives apart = (
         omega (arith, is, equal.place, length-append text (byte ∷ rest)),
         of-all ((text ++ other ∷ []) ++ pending') (λ bytes. (more : List ℕ) → IsFirstDifference bytes ((text ++ byte ∷ rest) ++ more) n) start left' (took-one other gives)
@@ -104,7 +104,7 @@ module _ {start left : Option (List ℕ)} {s : ComparisonState} {text : List ℕ
       )
 
       -- the source ends before the text
-      pub differs-end : (byte : ℕ) (rest : List ℕ) → GivesNext s.pending pending' left left' None → DiffersWithin start (text ++ byte ∷ rest) n
+      pub differs-end : (byte : ℕ) (rest : List ℕ) → GivesNext (bytes_ahead s.pending left) (bytes_ahead pending' left') None → DiffersWithin start (text ++ byte ∷ rest) n
       differs-end byte rest gives = (
         omega (arith, is, equal.place, length-append text (byte ∷ rest)),
         of-all text (λ bytes. (more : List ℕ) → IsFirstDifference bytes ((text ++ byte ∷ rest) ++ more) n) start left' (took-none gives)
@@ -115,7 +115,7 @@ module _ {start left : Option (List ℕ)} {s : ComparisonState} {text : List ℕ
       )
 
       -- at the end of the text a byte is left
-      pub tells-more : (other : ℕ) → GivesNext s.pending pending' left left' (Some other) → Tells start text (Differs n)
+      pub tells-more : (other : ℕ) → GivesNext (bytes_ahead s.pending left) (bytes_ahead pending' left') (Some other) → Tells start text (Differs n)
       tells-more other gives =
           of-all ((text ++ other ∷ []) ++ pending') (λ bytes. IsFirstDifference bytes text n) start left' (took-one other gives)
           (λ behind _.
@@ -124,21 +124,21 @@ module _ {start left : Option (List ℕ)} {s : ComparisonState} {text : List ℕ
           (differ-behind text (other ∷ pending' ++ behind) [] n (omega (arith, is, equal.place)) (λ same. no-byte other same))))
 
     -- or none
-    pub tells-equal : GivesNext s.pending pending' left left' None → Tells start text Equal
+    pub tells-equal : GivesNext (bytes_ahead s.pending left) (bytes_ahead pending' left') None → Tells start text Equal
     tells-equal gives = of-all text (λ bytes. bytes ≡ text) start left' (took-none gives) (λ rest at. no-rest gives rest at)
 
   -- the next byte is that of the text, and was counted
   module _ (left' : Option (List ℕ)) {read counted : ComparisonState} (kept : read.place ≡ s.place) (is : counted ≡ record read { place = read.place + 1 }) where
-    pub equal-counted : (other byte : ℕ) → other ≡ byte → GivesNext s.pending read.pending left left' (Some other) → IsEqualSoFar start left' counted (text ++ byte ∷ [])
+    pub equal-counted : (other byte : ℕ) → other ≡ byte → GivesNext (bytes_ahead s.pending left) (bytes_ahead read.pending left') (Some other) → IsEqualSoFar (comparison_of start left' counted) (text ++ byte ∷ [])
     equal-counted other byte same gives =
-        subst (λ (b : ℕ). IsEqualSoFar start left' counted (text ++ b ∷ [])) same
-        (subst (λ (c : ComparisonState). IsEqualSoFar start left' c (text ++ other ∷ []))
+        subst (λ (b : ℕ). IsEqualSoFar (comparison_of start left' counted) (text ++ b ∷ [])) same
+        (subst (λ (c : ComparisonState). IsEqualSoFar (comparison_of start left' c) (text ++ other ∷ []))
         (ap (λ (n : ℕ). let c : ComparisonState = record { pending = read.pending; place = n + 1 } in c) (sym kept) ∙ sym is)
         (equal-more left' read.pending other gives))
 
 -- what differs from a text differs from it, also where nothing follows
 pub tells-differs : (start left : Option (List ℕ)) (s : ComparisonState) (text : List ℕ) (compared : Compared) →
-    HasCompared start left s text (Ok compared) → compared ≢ Equal → Tells start text compared
+    HasCompared (comparison_of start left s) text (Ok compared) → compared ≢ Equal → Tells start text compared
 tells-differs start left s text Equal has other = absurd (other refl)
 tells-differs start left s text (Differs n) (within, differ) other = go start differ
   where

@@ -1,7 +1,7 @@
 //! A comparison that is under way.
 ghost use Rattle.std.specs.Prelude.{◌≡◌, ◌≢◌, ◌≤◌, ◌+◌, ◌-◌, ◌^◌, ◌++◌, ℕ, List, Option, Err, IfOk, OnOk, OnErr};
 ghost use Rattle.heap_base.specs.Causes.{HasCause, Rose};
-ghost use Rattle.text_comparison.specs.Comparing.{IsEqualSoFar, HasCompared, Tells, fresh_comparison, GivesNext};
+ghost use Rattle.text_comparison.specs.Comparing.{IsEqualSoFar, HasCompared, Tells, comparison_of, fresh_comparison, GivesNext, bytes_ahead};
 ghost use Rattle.text_comparison.specs.declared.outcome.CompareError.TheVariants.{ReadFault, TooLong};
 
 use crate::outcome::{CompareError, Compared};
@@ -41,7 +41,7 @@ impl Comparison {
     /// Takes more of the text, behind what was equal so far, and compares it with what the source has next. `ReadFault` comes only where a
     /// read of the source fails, and `TooLong` only where nearly 2^64 bytes were equal.
     pub fn take<B: Source>(&mut self, source: &mut B, text: &[u8]) -> Result<Compared, CompareError>
-        ensures compared { (start : Option (List ℕ)) (before : List ℕ) → IsEqualSoFar start (B.left source.old) self.old before → HasCompared start (B.left source.new) self.new (before ++ text.now) result }
+        ensures compared { (start : Option (List ℕ)) (before : List ℕ) → IsEqualSoFar (comparison_of start (B.left source.old) self.old) before → HasCompared (comparison_of start (B.left source.new) self.new) (before ++ text.now) result }
         ensures later { B.faults source.old ≤ B.faults source.new }
         ensures cause { result ≡ Err ReadFault → Rose (B.faults source.old) (B.faults source.new) }
         ensures too_long { result ≡ Err TooLong → 2 ^ 64 - 2 ≤ self.new.place }
@@ -62,7 +62,7 @@ impl Comparison {
         source: &mut B,
         text: &[u8],
     ) -> Result<Compared, CompareError>
-        ensures tells { (start : Option (List ℕ)) (before : List ℕ) → IsEqualSoFar start (B.left source.old) self.old before → IfOk result (Tells start (before ++ text.now)) }
+        ensures tells { (start : Option (List ℕ)) (before : List ℕ) → IsEqualSoFar (comparison_of start (B.left source.old) self.old) before → IfOk result (Tells start (before ++ text.now)) }
         ensures later { B.faults source.old ≤ B.faults source.new }
         ensures cause { result ≡ Err ReadFault → Rose (B.faults source.old) (B.faults source.new) }
         ensures too_long { result ≡ Err TooLong → 2 ^ 64 - 2 ≤ self.new.place }
@@ -75,7 +75,7 @@ impl Comparison {
 
     // Ends the text, which was equal so far: whether the source has more.
     fn finish<B: Source>(&mut self, source: &mut B) -> Result<Compared, CompareError>
-        ensures tells { (start : Option (List ℕ)) (text : List ℕ) → IsEqualSoFar start (B.left source.old) self.old text → IfOk result (Tells start text) }
+        ensures tells { (start : Option (List ℕ)) (text : List ℕ) → IsEqualSoFar (comparison_of start (B.left source.old) self.old) text → IfOk result (Tells start text) }
         ensures later { B.faults source.old ≤ B.faults source.new }
         ensures cause { result ≡ Err ReadFault → Rose (B.faults source.old) (B.faults source.new) }
         ensures told { result ≢ Err TooLong }
@@ -88,7 +88,7 @@ impl Comparison {
 
     // The next byte of the source, and `None` at its end.
     fn next<B: Source>(&mut self, source: &mut B) -> Result<Option<u8>, Failed>
-        ensures gives { IfOk result (GivesNext self.old.pending self.new.pending (B.left source.old) (B.left source.new)) }
+        ensures gives { IfOk result (GivesNext (bytes_ahead self.old.pending (B.left source.old)) (bytes_ahead self.new.pending (B.left source.new))) }
         ensures place { self.new.place ≡ self.old.place }
         ensures cause { HasCause (B.faults source.old) (B.faults source.new) result }
     {

@@ -3,7 +3,7 @@ ghost use Rattle.std.specs.Prelude.{◌≡◌, ◌+◌, ◌<◌, ◌≤◌};
 ghost use Rattle.heap_base.specs.Streams.{stream_of};
 ghost use Rattle.heap_base.specs.declared.limits.TheConstants.{LONGEST_TRACE, MOST_WORKERS};
 ghost use Rattle.run_meaning.specs.Run.{is_force};
-ghost use Rattle.trace_run.specs.Outcome.{Ended, seen};
+ghost use Rattle.trace_run.specs.Outcome.{Ended, seen, trace_report};
 ghost use Rattle.trace_run.specs.Program.{Takes};
 ghost use Rattle.audit_program.specs.Audits.{audit_meaning, audit_report, rules_by};
 ghost use Rattle.trace_audit.specs.Auditors.{MakesCollections, MayCollect};
@@ -42,7 +42,7 @@ pub fn audit_trace<
     requires collects { MakesCollections C.step }
     ensures { let old = seen (stream_of S.left S.faults source.old) (stream_of K.held K.faults sink.old) in
         let new = seen (stream_of S.left S.faults source.new) (stream_of K.held K.faults sink.new) in
-        Ended LONGEST_TRACE (audit_report (rules_by plan.paths plan.react)) old new result }
+        Ended (trace_report LONGEST_TRACE (audit_report (rules_by plan.paths plan.react))) old new result }
 {
     let alloc = plan.alloc;
     let force = is_force(plan.react);

@@ -1,6 +1,5 @@
 pub mod FieldLemmas
 pub mod Json
-pub mod Left
 pub mod Newlines
 pub mod ObjectLemmas
 pub mod Pieces

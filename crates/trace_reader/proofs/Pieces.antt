@@ -119,42 +119,43 @@ item_of-past_limit limit before piece not_long past =
 
 -- ---- steps of a cutter
 
--- a line that is given is what its piece is
-pub item_of-given : (old new : CutterState) (bytes piece : List ℕ) (n : ℕ) → GivesLine old new bytes piece n → item_of old.limit old.given piece ≡ item_of_line new.line
-item_of-given old new bytes piece n gives =
-    let same : line_of piece ≡ new.line =
-    elim gives.next.ended as (λ _. line_of piece ≡ new.line) [
-      | inl whole ↦ ap line_of whole ∙ line_of-line new.line gives.next.one_line
-      | inr last ↦ ap line_of last.0 ∙ line_of-last new.line gives.next.one_line
-    ] in
-    item_of-short old.limit old.given piece (omega (arith, ap length same, gives.short)) (omega (arith, gives.given, gives.within)) ∙ ap item_of_line same
+module _ (old new : CutterState) (bytes : List ℕ) (n : ℕ) (gives : GivesLine old new bytes n) where
+  -- a line that is given is what its piece is
+  pub item_of-given : item_of old.limit old.given gives.piece ≡ item_of_line new.line
+  item_of-given =
+      let same : line_of gives.piece ≡ new.line =
+      elim gives.next.ended as (λ _. line_of gives.piece ≡ new.line) [
+        | inl whole ↦ ap line_of whole ∙ line_of-line new.line gives.next.one_line
+        | inr last ↦ ap line_of last.0 ∙ line_of-last new.line gives.next.one_line
+      ] in
+      item_of-short old.limit old.given gives.piece (omega (arith, ap length same, gives.short)) (omega (arith, gives.given, gives.within)) ∙ ap item_of_line same
 
--- the piece of a line that is given is the first, whatever the source gives after it; nothing, where its end was read
-pub pieces-given : (old new : CutterState) (bytes piece rest : List ℕ) (n : ℕ) → GivesLine old new bytes piece n →
-    (IsTrue new.at_end → rest ≡ []) → pieces (bytes ++ rest) ≡ piece ∷ pieces (new.pending ++ rest)
-pieces-given old new bytes piece rest n gives end =
-    let next = gives.next in
-    ap (λ bs. pieces (bs ++ rest)) next.split
-    ∙ ap pieces (append_assoc piece new.pending rest)
-    ∙ elim next.ended as (λ _. pieces (piece ++ (new.pending ++ rest)) ≡ piece ∷ pieces (new.pending ++ rest)) [
-      | inl whole ↦ ap (λ p. pieces (p ++ (new.pending ++ rest))) whole ∙ pieces-line new.line (new.pending ++ rest) next.one_line ∙ ap (λ p. p ∷ pieces (new.pending ++ rest)) (sym whole)
-      | inr last ↦ (
-          let nothing : new.pending ++ rest ≡ [] = ap (λ l. l ++ rest) last.2 ∙ end last.3 in
-          let left : pieces (piece ++ (new.pending ++ rest)) ≡ piece ∷ [] =
-          ap (λ l. pieces (piece ++ l)) nothing ∙ ap pieces (append-nil piece) ∙ ap pieces last.0 ∙ pieces-last new.line next.one_line last.1 ∙ ap (λ p. p ∷ []) (sym last.0) in
-          left ∙ ap (λ ps. piece ∷ ps) (sym (ap pieces nothing ∙ pieces-nil))
-          )
-    ]
+  -- the piece of a line that is given is the first, whatever the source gives after it; nothing, where its end was read
+  pub pieces-given : (rest : List ℕ) → (IsTrue new.at_end → rest ≡ []) → pieces (bytes ++ rest) ≡ gives.piece ∷ pieces (new.pending ++ rest)
+  pieces-given rest end =
+      let next = gives.next in
+      let piece = gives.piece in
+      ap (λ bs. pieces (bs ++ rest)) next.split
+      ∙ ap pieces (append_assoc piece new.pending rest)
+      ∙ elim next.ended as (λ _. pieces (piece ++ (new.pending ++ rest)) ≡ piece ∷ pieces (new.pending ++ rest)) [
+        | inl whole ↦ ap (λ p. pieces (p ++ (new.pending ++ rest))) whole ∙ pieces-line new.line (new.pending ++ rest) next.one_line ∙ ap (λ p. p ∷ pieces (new.pending ++ rest)) (sym whole)
+        | inr last ↦ (
+            let nothing : new.pending ++ rest ≡ [] = ap (λ l. l ++ rest) last.2 ∙ end last.3 in
+            let left : pieces (piece ++ (new.pending ++ rest)) ≡ piece ∷ [] =
+            ap (λ l. pieces (piece ++ l)) nothing ∙ ap pieces (append-nil piece) ∙ ap pieces last.0 ∙ pieces-last new.line next.one_line last.1 ∙ ap (λ p. p ∷ []) (sym last.0) in
+            left ∙ ap (λ ps. piece ∷ ps) (sym (ap pieces nothing ∙ pieces-nil))
+            )
+      ]
 
--- so the items that are left are what that line is, and then those of the bytes behind it
-pub items_from-given : (old new : CutterState) (bytes piece rest : List ℕ) (n : ℕ) → GivesLine old new bytes piece n → (IsTrue new.at_end → rest ≡ [])
-    → items_from old.limit old.given (pieces (bytes ++ rest)) ≡ item_of_line new.line ∷ items_from old.limit new.given (pieces (new.pending ++ rest))
-items_from-given old new bytes piece rest n gives end =
-    let later = pieces (new.pending ++ rest) in
-    ap (items_from old.limit old.given) (pieces-given old new bytes piece rest n gives end)
-    ∙ items_from-cons old.limit old.given piece later
-    ∙ ap (λ item. item ∷ items_from old.limit (old.given + length piece) later) (item_of-given old new bytes piece n gives)
-    ∙ ap (λ k. item_of_line new.line ∷ items_from old.limit k later) (sym gives.given)
+  -- so the items that are left are what that line is, and then those of the bytes behind it
+  pub items_from-given : (rest : List ℕ) → (IsTrue new.at_end → rest ≡ [])
+      → items_from old.limit old.given (pieces (bytes ++ rest)) ≡ item_of_line new.line ∷ items_from old.limit new.given (pieces (new.pending ++ rest))
+  items_from-given rest end =
+      let later = pieces (new.pending ++ rest) in
+      ap (items_from old.limit old.given) (pieces-given rest end)
+      ∙ items_from-cons old.limit old.given gives.piece later
+      ∙ ap (λ item. item ∷ items_from old.limit (old.given + length gives.piece) later) item_of-given
+      ∙ ap (λ k. item_of_line new.line ∷ items_from old.limit k later) (sym gives.given)
 
 -- no item is left where no byte is
 pub items_from-done : (new : CutterState) (limit given : ℕ) (rest : List ℕ) → IsDone new → rest ≡ [] → items_from limit given (pieces (new.pending ++ rest)) ≡ []

@@ -4,26 +4,26 @@ use Rattle.std.proofs.Common.{arith, subst, append_assoc, length-append, length-
 use Rattle.std.proofs.Math.Seq.{split_at}
 use Rattle.std.specs.Option.{MatchOption}
 use Rattle.trace_reader.specs.declared.error.CutError.{CutError}
-use Rattle.trace_reader.specs.Cutter.{CutterState, Cuts, StepsOn, MayRead, GivesLine}
+use Rattle.trace_reader.specs.Cutter.{CutterState, CutterWithSource, Cuts, StepsOn, MayRead, GivesLine}
 use Rattle.trace_reader.specs.Cuts.{HasNoNewline, IsLine, IsFirstNewline}
-use Rattle.trace_reader.specs.Reads.{ReadsOn}
+use Rattle.trace_reader.specs.Reads.{ReadsOn, read_state}
 
-pub step_of_cut : (old new : CutterState) (held : List ℕ) (left_before left_after : Option (List ℕ)) (before after : ℕ) (result : Result (Option ℕ) CutError) (took : List ℕ)
-    → old.stopped ≡ None → new.limit ≡ old.limit
-    → ReadsOn (record { held = old.pending; at_end = old.at_end; left = left_before; faults = before }) (record { held = held; at_end = new.at_end; left = left_after; faults = after }) took
-    → Cuts old new held before after result
-    → StepsOn old new left_before left_after before after result took
-step_of_cut old new held left_before left_after before after result took going limit reads cuts = record {
+pub step_of_cut : (old new : CutterWithSource) (held : List ℕ) (result : Result (Option ℕ) CutError) (took : List ℕ)
+    → old.cutter.stopped ≡ None → new.cutter.limit ≡ old.cutter.limit
+    → ReadsOn (read_state old.cutter.pending old.cutter.at_end old.source) (read_state held new.cutter.at_end new.source) took
+    → Cuts old new held result
+    → StepsOn old new result took
+step_of_cut old new held result took going limit reads cuts = record {
   consumes = reads.consumes;
   cuts =
-      let Q : CutError → Type 0 = λ e. (result ≡ Err e) × (new ≡ old) × (took ≡ []) in
-      let P : Type 0 = Cuts old new (old.pending ++ took) before after result in
-      subst (λ (o : Option CutError). MatchOption o P Q) (sym going) (subst (λ bytes. Cuts old new bytes before after result) reads.held cuts);
+      let Q : CutError → Type 0 = λ e. (result ≡ Err e) × (new.cutter ≡ old.cutter) × (took ≡ []) in
+      let P : Type 0 = Cuts old new (old.cutter.pending ++ took) result in
+      subst (λ (o : Option CutError). MatchOption o P Q) (sym going) (subst (λ bytes. Cuts old new bytes result) reads.held cuts);
   at_end = reads.at_end;
   stays_at_end = reads.stays_at_end;
   limit = limit;
   reads =
-      elim reads.asks as (λ _. MayRead old ⊎ ((left_after ≡ left_before) × (after ≡ before))) [
+      elim reads.asks as (λ _. MayRead old.cutter ⊎ (new.source ≡ old.source)) [
         | inl may ↦ inl (record { one_line = may.0; not_at_end = may.1; stopped = going })
         | inr same ↦ inr same
       ];
@@ -40,10 +40,11 @@ line_split held n first =
 
 pub gives_line : (old new : CutterState) (held : List ℕ) (allowed n : ℕ) → IsLine held allowed n → allowed ≡ old.limit - old.given
     → new.line ≡ take n held → new.pending ≡ drop (n + 1) held → new.given ≡ old.given + (n + 1) → new.lines ≡ old.lines + 1 → new.stopped ≡ None
-    → GivesLine old new held (take n held ++ 10 ∷ []) (old.lines + 1)
+    → GivesLine old new held (old.lines + 1)
 gives_line old new held allowed n is allowed_is line pending given lines stopped =
     let size : length (take n held) ≡ n = length-take-le n held (let there = is.newline.there in omega arith) in
     record {
+      piece = take n held ++ 10 ∷ [];
       next = record {
         split = line_split held n is.newline ∙ ap (λ rest. (take n held ++ 10 ∷ []) ++ rest) (sym pending);
         one_line = subst HasNoNewline (sym line) is.newline.one_line;

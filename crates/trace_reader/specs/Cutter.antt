@@ -2,6 +2,7 @@
 use Rattle.std.specs.Prelude.{◌≡◌, ℕ, ◌+◌, ◌-◌, ◌<◌, ◌≤◌, ◌⊎◌, List, [], ◌∷◌, ◌++◌, length, Bool, false, IsTrue, Option, None, Some, MatchOption, Result, Ok, Err, ⊤}
 use Rattle.std.specs.Io.KnownBytes.{Consumes, IsAtEnd}
 use Rattle.heap_base.specs.Causes.{Rose}
+use Rattle.heap_base.specs.Streams.{Stream}
 use Rattle.heap_base.specs.declared.limits.TheConstants.{LONGEST_LINE}
 use Rattle.graph_meaning.specs.declared.event.Event.{Event}
 use Rattle.graph_meaning.specs.declared.refusal.Stop.{Stop}
@@ -27,19 +28,29 @@ abbrev pub fresh_cutter : ℕ → CutterState
 fresh_cutter limit =
     record { limit = limit; pending = []; at_end = false; given = 0; lines = 0; line = []; stopped = None }
 
+-- A cutter and what can be seen of its source, at a moment.
+pub record CutterWithSource : Type 0 where
+  pub cutter : CutterState
+  pub source : Stream
+
+abbrev pub with_source : CutterState → Stream → CutterWithSource
+with_source cutter source = record { cutter = cutter; source = source }
+
 -- how many bytes the trace may have behind the lines that were given
 abbrev pub room : CutterState → ℕ
 room c = c.limit - c.given
 
--- The piece is the next of the bytes: a line and its newline, or, at the end of the source, a line that is not empty.
-pub record IsNextPiece (line piece bytes rest : List ℕ) (at_end : Bool) : Type 0 where
-  pub split : bytes ≡ piece ++ rest
-  pub one_line : HasNoNewline line
-  pub ended : (piece ≡ line ++ 10 ∷ []) ⊎ ((piece ≡ line) × (0 < length line) × (rest ≡ []) × IsTrue at_end)
+-- The piece is the next of the bytes, of which the cutter keeps the rest: its line and a newline, or, at the end of the source, its line, which
+-- is not empty.
+pub record IsNextPiece (new : CutterState) (piece bytes : List ℕ) : Type 0 where
+  pub split : bytes ≡ piece ++ new.pending
+  pub one_line : HasNoNewline new.line
+  pub ended : (piece ≡ new.line ++ 10 ∷ []) ⊎ ((piece ≡ new.line) × (0 < length new.line) × (new.pending ≡ []) × IsTrue new.at_end)
 
 -- A line is given: the next piece, which is neither too long nor past the trace's limit.
-pub record GivesLine (old new : CutterState) (bytes piece : List ℕ) (n : ℕ) : Type 0 where
-  pub next : IsNextPiece new.line piece bytes new.pending new.at_end
+pub record GivesLine (old new : CutterState) (bytes : List ℕ) (n : ℕ) : Type 0 where
+  pub piece : List ℕ
+  pub next : IsNextPiece new piece bytes
   pub number : n ≡ old.lines + 1
   pub lines : new.lines ≡ old.lines + 1
   pub given : new.given ≡ old.given + length piece
@@ -77,12 +88,12 @@ pub record IsTraceTooLong (new : CutterState) : Type 0 where
   pub stopped : new.stopped ≡ Some TraceTooLong
 
 -- What a cutter that stood at no refusal answers over these bytes: those that it held, and those that it took.
-abbrev pub Cuts : CutterState → CutterState → List ℕ → ℕ → ℕ → Result (Option ℕ) CutError → Type 0
-Cuts old new bytes faults_before faults_after (Ok (Some number)) = (piece : List ℕ) × GivesLine old new bytes piece number
-Cuts old new bytes faults_before faults_after (Ok None) = GivesNone old new bytes × IsDone new
-Cuts old new bytes faults_before faults_after (Err ReadFault) = GivesNone old new bytes × WaitsForMore new × Rose faults_before faults_after
-Cuts old new bytes faults_before faults_after (Err LineTooLong) = GivesNone old new bytes × IsLineTooLong new
-Cuts old new bytes faults_before faults_after (Err TraceTooLong) = GivesNone old new bytes × IsTraceTooLong new
+abbrev pub Cuts : CutterWithSource → CutterWithSource → List ℕ → Result (Option ℕ) CutError → Type 0
+Cuts old new bytes (Ok (Some number)) = GivesLine old.cutter new.cutter bytes number
+Cuts old new bytes (Ok None) = GivesNone old.cutter new.cutter bytes × IsDone new.cutter
+Cuts old new bytes (Err ReadFault) = GivesNone old.cutter new.cutter bytes × WaitsForMore new.cutter × Rose old.source.faults new.source.faults
+Cuts old new bytes (Err LineTooLong) = GivesNone old.cutter new.cutter bytes × IsLineTooLong new.cutter
+Cuts old new bytes (Err TraceTooLong) = GivesNone old.cutter new.cutter bytes × IsTraceTooLong new.cutter
 
 -- A cutter that may ask its source: it holds no newline, did not read the source's end and stands at no refusal.
 pub record MayRead (old : CutterState) : Type 0 where
@@ -92,14 +103,14 @@ pub record MayRead (old : CutterState) : Type 0 where
 
 -- One step of the cutter: it takes bytes from its source, none once the source's end was read or a refusal was met,
 -- and cuts.
-pub record StepsOn (old new : CutterState) (left_before left_after : Option (List ℕ)) (faults_before faults_after : ℕ) (result : Result (Option ℕ) CutError) (took : List ℕ) : Type 0 where
-  pub consumes : Consumes left_before left_after took
-  pub cuts : MatchOption old.stopped (Cuts old new (old.pending ++ took) faults_before faults_after result) (λ e. (result ≡ Err e) × (new ≡ old) × (took ≡ []))
-  pub at_end : IsTrue new.at_end → IsTrue old.at_end ⊎ IsAtEnd left_after
-  pub stays_at_end : IsTrue old.at_end → IsTrue new.at_end × (took ≡ [])
-  pub limit : new.limit ≡ old.limit
-  pub reads : MayRead old ⊎ ((left_after ≡ left_before) × (faults_after ≡ faults_before))
-  pub later : faults_before ≤ faults_after
+pub record StepsOn (old new : CutterWithSource) (result : Result (Option ℕ) CutError) (took : List ℕ) : Type 0 where
+  pub consumes : Consumes old.source.bytes new.source.bytes took
+  pub cuts : MatchOption old.cutter.stopped (Cuts old new (old.cutter.pending ++ took) result) (λ e. (result ≡ Err e) × (new.cutter ≡ old.cutter) × (took ≡ []))
+  pub at_end : IsTrue new.cutter.at_end → IsTrue old.cutter.at_end ⊎ IsAtEnd new.source.bytes
+  pub stays_at_end : IsTrue old.cutter.at_end → IsTrue new.cutter.at_end × (took ≡ [])
+  pub limit : new.cutter.limit ≡ old.cutter.limit
+  pub reads : MayRead old.cutter ⊎ (new.source ≡ old.source)
+  pub later : old.source.faults ≤ new.source.faults
 
 -- the answer to a line is what the line is, unless memory ran out
 abbrev pub Tells : Result (Option Event) Stop → Item → Type 0

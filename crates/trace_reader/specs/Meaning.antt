@@ -90,13 +90,13 @@ needed_value f value (Some d) = good_value f (value d)
 abbrev pub needed_field : {A : Type 0} → FieldName → (Data → Option A) → Data → Result A Refusal
 needed_field f value d = needed_value f value (get (field_text f) d)
 
-abbrev pub optional_value : {A : Type 0} → FieldName → (Data → Option A) → A → Option Data → Result A Refusal
-optional_value f value default None = Ok default
-optional_value f value default (Some d) = good_value f (value d)
+abbrev pub value_or_zero : FieldName → (Data → Option ℕ) → Option Data → Result ℕ Refusal
+value_or_zero f value None = Ok 0
+value_or_zero f value (Some d) = good_value f (value d)
 
--- a field that may be missing, and is the default then
-abbrev pub optional_field : {A : Type 0} → FieldName → (Data → Option A) → A → Data → Result A Refusal
-optional_field f value default d = optional_value f value default (get (field_text f) d)
+-- a number in a field that may be missing, and is 0 then
+abbrev pub field_or_zero : FieldName → (Data → Option ℕ) → Data → Result ℕ Refusal
+field_or_zero f value d = value_or_zero f value (get (field_text f) d)
 
 -- the answer is what the definition gives, unless memory ran out
 abbrev pub Gives : {A : Type 0} → Result A Stop → Result A Refusal → Type 0
@@ -110,8 +110,8 @@ unfoldable pub alloc_in : Data → Result Event Refusal
 alloc_in d = do
   id ← needed_field IdField id_value d
   kind ← needed_field TypeField name_value d
-  slots ← optional_field SlotsField count_value 0 d
-  thread ← optional_field ThreadField thread_value 0 d
+  slots ← field_or_zero SlotsField count_value d
+  thread ← field_or_zero ThreadField thread_value d
   Ok (Alloc id kind slots thread)
 
 unfoldable pub store_in : Data → Result Event Refusal
@@ -141,12 +141,12 @@ dead_in d = do
 
 unfoldable pub start_in : Data → Result Event Refusal
 start_in d = do
-  thread ← optional_field ThreadField thread_value 0 d
+  thread ← field_or_zero ThreadField thread_value d
   Ok (StartRegion thread)
 
 unfoldable pub all_dead_in : Data → Result Event Refusal
 all_dead_in d = do
-  thread ← optional_field ThreadField thread_value 0 d
+  thread ← field_or_zero ThreadField thread_value d
   Ok (AssertAllDead thread)
 
 unfoldable pub instances_in : Data → Result Event Refusal

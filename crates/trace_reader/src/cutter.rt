@@ -1,11 +1,11 @@
-ghost use Rattle.std.specs.Prelude.{◌≡◌, ◌≤◌, ℕ, List, length, take, IfOk, None};
-ghost use Rattle.trace_reader.specs.Cuts.{HasNoNewline};
-ghost use Rattle.trace_reader.specs.Cutter.{fresh_cutter, StepsOn};
-ghost use Rattle.trace_reader.specs.Reads.{ReadState, ReadsOn, Settles};
+ghost use Rattle.std.specs.Prelude.{◌≡◌, ◌≤◌, ◌<◌, ◌+◌, ℕ, List, length, take, drop, IfOk, None, Some};
+ghost use Rattle.heap_base.specs.Streams.{stream_of};
+ghost use Rattle.trace_reader.specs.Cutter.{fresh_cutter, StepsOn, with_source};
 ghost use Rattle.trace_reader.specs.declared.reader.TheConstants.{MOST_AHEAD};
 
 use crate::CutError;
-use crate::cut::{Cut, cut_of};
+use crate::cut::Cut;
+use crate::held::Held;
 use crate::reader::MOST_AHEAD;
 use crate::window::Window;
 use heap_base::{Failed, OutOfMemory, Source};
@@ -16,7 +16,7 @@ use std::marker::Model;
 #[derive(Drop)]
 pub struct LineCutter {
     // The piece that was given last, and behind it the bytes of which no line was given.
-    window: Window,
+    held: Held,
     piece_length: usize,
     line_length: usize,
     // So many bytes behind the piece are known to have no newline.
@@ -24,20 +24,19 @@ pub struct LineCutter {
     limit: u64,
     given: u64,
     lines: u64,
-    at_end: bool,
     stopped: Option<CutError>,
 }
 
 impl Model for LineCutter {
-    ghost use Rattle.std.specs.Prelude.{take, drop};
+    ghost use Rattle.std.specs.Prelude.{◌≤◌, take, drop};
     ghost use Rattle.trace_reader.specs.Cutter.{CutterState};
-    ghost use Rattle.trace_reader.specs.Reads.{IsCutter};
+    ghost use Rattle.trace_reader.specs.Reads.{HoldsPiece};
 
     ghost Value = { CutterState };
 
-    ghost view = { λ c. record { limit = c.limit; pending = drop c.piece_length c.window; at_end = c.at_end; given = c.given; lines = c.lines; line = take c.line_length c.window; stopped = c.stopped } };
+    ghost view = { λ c. record { limit = c.limit; pending = drop c.piece_length c.held.window; at_end = c.held.at_end; given = c.given; lines = c.lines; line = take c.line_length c.held.window; stopped = c.stopped } };
 
-    ghost invariant = { λ c. IsCutter c.window c.piece_length c.line_length c.searched c.limit c.given c.lines };
+    ghost invariant = { λ c. HoldsPiece c.held.window c.piece_length c.line_length c.searched × (c.given ≤ c.limit) × (c.lines ≤ c.given) };
 }
 
 impl LineCutter {
@@ -55,14 +54,16 @@ impl LineCutter {
     {
         let window = Window::make(alloc, ahead)?;
         Ok(LineCutter {
-            window,
+            held: Held {
+                window,
+                at_end: false,
+            },
             piece_length: 0,
             line_length: 0,
             searched: 0,
             limit,
             given: 0,
             lines: 0,
-            at_end: false,
             stopped: None,
         })
     }
@@ -70,7 +71,7 @@ impl LineCutter {
     /// Cuts the next line, and answers its number, from 1. `Ok(None)` comes where the source's end was read
     /// and no line is left. It reads only where it holds no whole line.
     pub fn next<S: Source>(&mut self, source: &mut S) -> Result<Option<u64>, CutError>
-        ensures { (took : List ℕ) × StepsOn self.old self.new (S.left source.old) (S.left source.new) (S.faults source.old) (S.faults source.new) result took }
+        ensures { (took : List ℕ) × StepsOn (with_source self.old (stream_of S.left S.faults source.old)) (with_source self.new (stream_of S.left S.faults source.new)) result took }
     {
         if let Some(refusal) = self.stopped {
             return Err(refusal);
@@ -82,89 +83,67 @@ impl LineCutter {
     pub fn line(&self) -> &[u8]
         ensures { result.now ≡ self.now.line }
     {
-        &self.window.bytes()[..self.line_length]
+        &self.held.window.bytes()[..self.line_length]
     }
 
     /// The bytes behind that line, as far as they were read.
     pub fn behind(&self) -> &[u8]
         ensures { result.now ≡ self.now.pending }
     {
-        &self.window.bytes()[self.piece_length..]
+        &self.held.window.bytes()[self.piece_length..]
     }
 
     // The step of a cutter that stands at no refusal.
     fn cut_next<S: Source>(&mut self, source: &mut S) -> Result<Option<u64>, CutError>
         requires { self.old.stopped ≡ None }
-        ensures { (took : List ℕ) × StepsOn self.old self.new (S.left source.old) (S.left source.new) (S.faults source.old) (S.faults source.new) result took }
+        ensures { (took : List ℕ) × StepsOn (with_source self.old (stream_of S.left S.faults source.old)) (with_source self.new (stream_of S.left S.faults source.new)) result took }
     {
-        self.window.skip(self.piece_length);
+        self.held.window.skip(self.piece_length);
         self.piece_length = 0;
         self.line_length = 0;
         let allowed = self.limit - self.given;
-        let settled = settle(
-            &mut self.window,
-            &mut self.at_end,
-            source,
-            self.searched,
-            allowed,
-        );
+        let settled = self.held.settle(source, self.searched, allowed);
         self.searched = 0;
         match settled {
-            Ok(Cut::Line(n)) => {
-                self.line_length = n;
-                self.piece_length = n + 1;
-                self.given += n as u64 + 1;
-                self.lines += 1;
-                Ok(Some(self.lines))
-            }
+            Ok(Cut::Line(n)) => Ok(Some(self.give(n, n + 1))),
             Ok(Cut::LastLine) => {
-                let n = self.window.bytes().len();
-                self.line_length = n;
-                self.piece_length = n;
-                self.given += n as u64;
-                self.lines += 1;
-                Ok(Some(self.lines))
+                let n = self.held.window.bytes().len();
+                Ok(Some(self.give(n, n)))
             }
             Ok(Cut::End) => Ok(None),
-            Ok(Cut::LineTooLong) => {
-                self.stopped = Some(CutError::LineTooLong);
-                Err(CutError::LineTooLong)
-            }
-            Ok(Cut::TraceTooLong) => {
-                self.stopped = Some(CutError::TraceTooLong);
-                Err(CutError::TraceTooLong)
-            }
+            Ok(Cut::LineTooLong) => Err(self.stop(CutError::LineTooLong)),
+            Ok(Cut::TraceTooLong) => Err(self.stop(CutError::TraceTooLong)),
             Err(Failed) => {
-                self.searched = self.window.bytes().len();
+                self.searched = self.held.window.bytes().len();
                 Err(CutError::ReadFault)
             }
         }
     }
-}
 
-// Reads until the bytes that are held have a cut, or a read fails. The first `searched` bytes are known to have
-// no newline, and the trace may have `allowed` bytes more than those before the bytes that are held.
-fn settle<S: Source>(
-    window: &mut Window,
-    at_end: &mut bool,
-    source: &mut S,
-    searched: usize,
-    allowed: u64,
-) -> Result<Cut, Failed>
-    requires within { searched ≤ length window.old }
-    requires searched { HasNoNewline (take searched window.old) }
-    ensures { let old : ReadState = record { held = window.old; at_end = at_end.old; left = S.left source.old; faults = S.faults source.old } in
-        let new : ReadState = record { held = window.new; at_end = at_end.new; left = S.left source.new; faults = S.faults source.new } in
-        (took : List ℕ) × ReadsOn old new took × Settles old new allowed result }
-{
-    let mut searched = searched;
-    loop {
-        let held = window.bytes();
-        if let Some(cut) = cut_of(held, searched, *at_end, allowed) {
-            return Ok(cut);
-        }
-        searched = held.len();
-        let n = window.fill(source)?;
-        *at_end = n == 0;
+    // Gives the next line, which has the first bytes of a piece, and answers its number.
+    fn give(&mut self, line_length: usize, piece_length: usize) -> u64
+        requires some { 0 < piece_length }
+        requires line { line_length ≤ piece_length }
+        requires held { piece_length ≤ length self.old.pending }
+        requires within { self.old.given + piece_length ≤ self.old.limit }
+        ensures gives { self.new ≡ record self.old { pending = drop piece_length self.old.pending; line = take line_length self.old.pending; given = self.old.given + piece_length; lines = self.old.lines + 1 } }
+        ensures number { result ≡ self.old.lines + 1 }
+    {
+        self.held.window.skip(self.piece_length);
+        self.piece_length = piece_length;
+        self.line_length = line_length;
+        self.searched = 0;
+        self.given += piece_length as u64;
+        self.lines += 1;
+        self.lines
+    }
+
+    // Stays at this refusal.
+    fn stop(&mut self, refusal: CutError) -> CutError
+        ensures stopped { self.new ≡ record self.old { stopped = Some refusal } }
+        ensures same { result ≡ refusal }
+    {
+        self.stopped = Some(refusal);
+        refusal
     }
 }

@@ -1,7 +1,7 @@
 ghost use Rattle.std.specs.Prelude.{◌≡◌, ◌^◌, ◌<◌, IfOk, Some, None, Ok, Err, option_map, MatchResult};
 ghost use Rattle.serde_json.specs.Find.{get, as_bool, as_u64, as_number};
 ghost use Rattle.trace_reader.specs.Objects.{object_data, value_data};
-ghost use Rattle.trace_reader.specs.Meaning.{Gives, field_text, good_value, needed_field, optional_field, id_value, count_value, thread_value, target_value, name_value};
+ghost use Rattle.trace_reader.specs.Meaning.{Gives, field_text, good_value, needed_field, field_or_zero, id_value, count_value, thread_value, target_value, name_value};
 
 use crate::names::RecentNames;
 use crate::object::{FieldValue, Object};
@@ -49,7 +49,7 @@ pub fn name_field(
 
 /// A number of slots, 0 where the field is missing.
 pub fn slots_field(object: Object<'_>) -> Result<u32, Stop>
-    ensures { Gives result (optional_field FieldName.SlotsField count_value 0 (object_data object.entry)) }
+    ensures { Gives result (field_or_zero FieldName.SlotsField count_value (object_data object.entry)) }
 {
     match object.get(FieldName::SlotsField) {
         None => Ok(0),
@@ -59,7 +59,7 @@ pub fn slots_field(object: Object<'_>) -> Result<u32, Stop>
 
 /// A thread, number 0 where the field is missing.
 pub fn thread_field(object: Object<'_>) -> Result<ThreadNo, Stop>
-    ensures { Gives result (optional_field FieldName.ThreadField thread_value 0 (object_data object.entry)) }
+    ensures { Gives result (field_or_zero FieldName.ThreadField thread_value (object_data object.entry)) }
 {
     let thread = match object.get(FieldName::ThreadField) {
         None => ThreadNo::of(0),

@@ -6,6 +6,7 @@ mod cutter;
 mod error;
 mod field;
 mod fields;
+mod held;
 mod key;
 mod line;
 mod names;

@@ -1,7 +1,7 @@
 ghost use Rattle.std.specs.Prelude.{◌≡◌, ◌+◌, ◌-◌, ◌≤◌, ℕ, [], length, drop, slice_range, IfOk};
 ghost use Rattle.heap_base.specs.Causes.{HasCause};
 ghost use Rattle.trace_reader.specs.declared.reader.TheConstants.{MOST_AHEAD};
-ghost use Rattle.trace_reader.specs.Windows.{ReadsInto};
+ghost use Rattle.trace_reader.specs.Windows.{ReadsInto, held_and_left};
 
 use crate::reader::MOST_AHEAD;
 use heap_base::{Failed, LONGEST_LINE, OutOfMemory, Source};
@@ -66,7 +66,7 @@ impl Window {
     /// too little room is left behind them, so none is moved again and again.
     pub fn fill<S: Source>(&mut self, source: &mut S) -> Result<usize, Failed>
         requires { length self.old ≤ LONGEST_LINE }
-        ensures reads { ReadsInto self.old self.new (S.left source.old) (S.left source.new) result }
+        ensures reads { ReadsInto (held_and_left self.old (S.left source.old)) (held_and_left self.new (S.left source.new)) result }
         ensures cause { HasCause (S.faults source.old) (S.faults source.new) result }
     {
         let buffer = self.buffer.as_mut_slice();

@@ -18,11 +18,11 @@ use Rattle.trace_reader.specs.declared.error.CutError.{CutError}
 use Rattle.trace_reader.specs.declared.error.CutError.TheVariants as cut_error
 use Rattle.trace_reader.specs.Meaning.{Item, item_of_line, refused}
 use Rattle.trace_reader.specs.Items.{pieces, items_from, items_of}
-use Rattle.trace_reader.specs.Cutter.{CutterState, StepsOn, Cuts, GivesLine}
+use Rattle.trace_reader.specs.Cutter.{CutterState, StepsOn, Cuts, with_source}
 use Rattle.trace_run.specs.Lines.{whole_lines}
 use Rattle.trace_run.specs.Program.{Meaning, Ran, Report, end_of_trace, refused_line, takes_item, by_effect, ends_so, behind, run, report_on, report_by}
-use Rattle.trace_run.specs.Outcome.{Outside, IsTrace, ReportsTrace, Ended, AppendsPartOfReport}
-use Rattle.trace_run.specs.Turn.{EndsRun}
+use Rattle.trace_run.specs.Outcome.{Outside, TraceReport, trace_report, of_bytes, IsTrace, ReportsTrace, Ended, AppendsPartOfReport}
+use Rattle.trace_run.specs.Turn.{EndsRun, sink_change}
 use Rattle.trace_reader.proofs.Pieces.{items_from-append, items_from-given, items_from-line_too_long, items_from-trace_too_long}
 use Rattle.trace_run.proofs.Runs.{LeadsTo, run-takes, run-nil, run-refused, run-leads_to, report_on-text, report_on-behind}
 use Rattle.trace_run.proofs.Lines.{IsWholeLine, pieces-whole_lines, whole_lines-cut}
@@ -48,8 +48,8 @@ pub Rose-earlier : (start before now : ℕ) → start ≤ before → Rose before
 Rose-earlier start before now le rose = omega arith
 
 -- a run that ends ends so where the same is to be reported
-pub EndsRun-at : (at_end : Bool) (sink sink' : Stream) (r r' : Ran) (status : Status) → r' ≡ r → EndsRun at_end sink sink' (report_on r) status → EndsRun at_end sink sink' (report_on r') status
-EndsRun-at at_end sink sink' r r' status same ends = subst (λ (x : Ran). EndsRun at_end sink sink' (report_on x) status) (sym same) ends
+pub EndsRun-at : (at_end : Bool) (sink sink' : Stream) (r r' : Ran) (status : Status) → r' ≡ r → EndsRun at_end (sink_change sink sink') (report_on r) status → EndsRun at_end (sink_change sink sink') (report_on r') status
+EndsRun-at at_end sink sink' r r' status same ends = subst (λ (x : Ran). EndsRun at_end (sink_change sink sink') (report_on x) status) (sym same) ends
 
 -- ---- the bytes of the trace
 
@@ -98,7 +98,7 @@ module _ {State : Type 0} (p : Meaning State) (limit : ℕ) (first : State) (sta
   appends_whole after =
       subst (λ (t : List ℕ). Appends start.sink.bytes now'.sink.bytes t) (sym whole_text) (Appends-trans _ _ _ _ _ before after)
 
-  appends_part : AppendsPart now.sink.bytes now'.sink.bytes (report_on rest).text → AppendsPartOfReport limit (report_by p first) start now'
+  appends_part : AppendsPart now.sink.bytes now'.sink.bytes (report_on rest).text → AppendsPartOfReport (trace_report limit (report_by p first)) start now'
   appends_part part = record {
     bytes = bytes;
     trace = all.trace;
@@ -112,24 +112,24 @@ module _ {State : Type 0} (p : Meaning State) (limit : ℕ) (first : State) (sta
 
   reports : (at_end : Bool) (status : Status) → (IsTrue at_end → Consumes start.source.bytes now'.source.bytes bytes) →
       IsTrue (at_end || (report_on rest).is_halted) → (report_on rest).status ≡ status →
-      Appends now.sink.bytes now'.sink.bytes (report_on rest).text → ReportsTrace limit (report_by p first) start now' status
+      Appends now.sink.bytes now'.sink.bytes (report_on rest).text → ReportsTrace (trace_report limit (report_by p first)) start now' status
   reports at_end status end either is appended = record {
     bytes = bytes;
     trace = all.trace;
     read = read_or_halted at_end end either;
-    report = appends_whole appended;
+    appended = appends_whole appended;
     status = sym (whole_status ∙ is);
   }
 
   pub ended : (at_end : Bool) (status : Status) → start.sink.faults ≤ now.sink.faults → (IsTrue at_end → Consumes start.source.bytes now'.source.bytes bytes) →
-      EndsRun at_end now.sink now'.sink (report_on rest) status → Ended limit (report_by p first) start now' status
+      EndsRun at_end (sink_change now.sink now'.sink) (report_on rest) status → Ended (trace_report limit (report_by p first)) start now' status
   ended at_end Clean later end ends = reports at_end Clean end ends.0 ends.1 ends.2
   ended at_end Violated later end ends = reports at_end Violated end ends.0 ends.1 ends.2
   ended at_end TraceFault later end ends = record {
     bytes = bytes;
     trace = all.trace;
     refused = whole_status ∙ ends.0;
-    report = appends_whole ends.1;
+    appended = appends_whole ends.1;
   }
   ended at_end ReadFault later end ends = absurd ends
   ended at_end WriteFault later end ends = (Rose-earlier _ _ _ later ends.0, appends_part ends.1)
@@ -147,7 +147,7 @@ pub record Trace (limit : ℕ) (start now' : Outside) (c c' : CutterState) (took
 trace_of :
     {State : Type 0} (p : Meaning State) (limit : ℕ) (first : State) (start now now' : Outside) (c c' : CutterState) (s : State) (n : ℕ)
     (took taken : List ℕ) (done : List (List ℕ)) (text : List ℕ) (result : Result (Option ℕ) CutError) →
-    Progress p limit first start now c s n taken done text → StepsOn c c' now.source.bytes now'.source.bytes now.source.faults now'.source.faults result took →
+    Progress p limit first start now c s n taken done text → StepsOn (with_source c now.source) (with_source c' now'.source) result took →
     Trace limit start now' c c' took taken done
 trace_of p limit first start now now' c c' s n took taken done text result so_far steps =
     let (rest, left, nothing, read) =
@@ -178,11 +178,11 @@ run-none p limit s n given = run-nil p s n
 
 -- the trace was read to its end
 pub finished : {State : Type 0} (p : Meaning State) (limit : ℕ) (first : State) (start now now' : Outside) (c c' : CutterState) (s : State) (n : ℕ) (took : List ℕ) (status : Status) →
-    InProgress p limit first start now c s n → StepsOn c c' now.source.bytes now'.source.bytes now.source.faults now'.source.faults (Ok None) took →
-    EndsRun true now.sink now'.sink (report_on (ends_so (end_of_trace (p.ends s)))) status → Ended limit (report_by p first) start now' status
+    InProgress p limit first start now c s n → StepsOn (with_source c now.source) (with_source c' now'.source) (Ok None) took →
+    EndsRun true (sink_change now.sink now'.sink) (report_on (ends_so (end_of_trace (p.ends s)))) status → Ended (trace_report limit (report_by p first)) start now' status
 finished p limit first start now now' c c' s n took status progress steps ends =
     let so_far = progress.so_far in
-    let cut : Cuts c c' (c.pending ++ took) now.source.faults now'.source.faults (Ok None) = cuts_of c.stopped _ _ so_far.stopped steps.cuts in
+    let cut : Cuts (with_source c now.source) (with_source c' now'.source) (c.pending ++ took) (Ok None) = cuts_of c.stopped _ _ so_far.stopped steps.cuts in
     let trace = trace_of p limit first start now now' c c' s n took progress.taken progress.done progress.text _ so_far steps in
     let none : trace.rest ≡ [] = trace.nothing cut.1.at_end in
     let nothing : (c.pending ++ took) ++ trace.rest ≡ [] = ap (λ t. t ++ trace.rest) (sym cut.0.pending ∙ cut.1.nothing_left) ∙ none in
@@ -197,9 +197,9 @@ finished p limit first start now now' c c' s n took status progress steps ends =
 refused_cut :
     {State : Type 0} (p : Meaning State) (limit : ℕ) (first : State) (start now now' : Outside) (c c' : CutterState) (s : State) (n : ℕ)
     (took : List ℕ) (r : Refusal) (result : Result (Option ℕ) CutError) (status : Status) →
-    InProgress p limit first start now c s n → StepsOn c c' now.source.bytes now'.source.bytes now.source.faults now'.source.faults result took →
+    InProgress p limit first start now c s n → StepsOn (with_source c now.source) (with_source c' now'.source) result took →
     ((rest : List ℕ) → (more : List Item) × (items_from limit c.given (pieces ((c.pending ++ took) ++ rest)) ≡ refused r ∷ more)) →
-    EndsRun false now.sink now'.sink (report_on (ends_so (refused_line (n + 1) r))) status → Ended limit (report_by p first) start now' status
+    EndsRun false (sink_change now.sink now'.sink) (report_on (ends_so (refused_line (n + 1) r))) status → Ended (trace_report limit (report_by p first)) start now' status
 refused_cut p limit first start now now' c c' s n took r result status progress steps refuses ends =
     let so_far = progress.so_far in
     let trace = trace_of p limit first start now now' c c' s n took progress.taken progress.done progress.text _ so_far steps in
@@ -212,19 +212,17 @@ refused_cut p limit first start now now' c c' s n took r result status progress 
 
 -- the line that was given ends the run
 line_ends_by : {State : Type 0} (p : Meaning State) (limit : ℕ) (first : State) (start now now' : Outside) (c c' : CutterState) (s : State) (n number : ℕ) (took : List ℕ) (status : Status) →
-    InProgress p limit first start now c s n → StepsOn c c' now.source.bytes now'.source.bytes now.source.faults now'.source.faults (Ok (Some number)) took →
-    ((on : State → Ran) → EndsRun false now.sink now'.sink (report_on (by_effect (n + 1) (takes_item p s (item_of_line c'.line)) on)) status) →
-    Ended limit (report_by p first) start now' status
+    InProgress p limit first start now c s n → StepsOn (with_source c now.source) (with_source c' now'.source) (Ok (Some number)) took →
+    ((on : State → Ran) → EndsRun false (sink_change now.sink now'.sink) (report_on (by_effect (n + 1) (takes_item p s (item_of_line c'.line)) on)) status) →
+    Ended (trace_report limit (report_by p first)) start now' status
 line_ends_by p limit first start now now' c c' s n number took status progress steps ends =
     let so_far = progress.so_far in
-    let cut : Cuts c c' (c.pending ++ took) now.source.faults now'.source.faults (Ok (Some number)) = cuts_of c.stopped _ _ so_far.stopped steps.cuts in
-    let piece = cut.0 in
-    let line : GivesLine c c' (c.pending ++ took) piece number = cut.1 in
+    let cut : Cuts (with_source c now.source) (with_source c' now'.source) (c.pending ++ took) (Ok (Some number)) = cuts_of c.stopped _ _ so_far.stopped steps.cuts in
     let trace = trace_of p limit first start now now' c c' s n took progress.taken progress.done progress.text _ so_far steps in
     let others = items_from limit c'.given (pieces (c'.pending ++ trace.rest)) in
     let items : items_from limit c.given (pieces ((c.pending ++ took) ++ trace.rest)) ≡ item_of_line c'.line ∷ others =
     let F : ℕ → Type 0 = λ l. items_from l c.given (pieces ((c.pending ++ took) ++ trace.rest)) ≡ item_of_line c'.line ∷ items_from l c'.given (pieces (c'.pending ++ trace.rest)) in
-    subst F so_far.same_limit (items_from-given c c' (c.pending ++ took) piece trace.rest number line trace.nothing) in
+    subst F so_far.same_limit (items_from-given c c' (c.pending ++ took) number cut trace.rest trace.nothing) in
     let last : run p s n (items_from limit c.given (pieces ((c.pending ++ took) ++ trace.rest))) ≡ by_effect (n + 1) (takes_item p s (item_of_line c'.line)) (λ next. run p next (n + 1) others) =
     ap (run p s n) items ∙ run-takes p s n (item_of_line c'.line) others in
     ended p limit first start now now' s n progress.done progress.text _ _ so_far.written so_far.ran trace.all false status so_far.writes
@@ -232,12 +230,12 @@ line_ends_by p limit first start now now' c c' s n number took status progress s
     (EndsRun-at false now.sink now'.sink _ _ status last (ends (λ next. run p next (n + 1) others)))
 
 pub line_ends : {State : Type 0} (p : Meaning State) (limit : ℕ) (first : State) (start now now' : Outside) (c c' : CutterState) (s : State) (n number : ℕ) (took line : List ℕ) (status : Status) →
-    InProgress p limit first start now c s n → StepsOn c c' now.source.bytes now'.source.bytes now.source.faults now'.source.faults (Ok (Some number)) took → line ≡ c'.line →
-    ((on : State → Ran) → EndsRun false now.sink now'.sink (report_on (by_effect (n + 1) (takes_item p s (item_of_line line)) on)) status) →
-    Ended limit (report_by p first) start now' status
+    InProgress p limit first start now c s n → StepsOn (with_source c now.source) (with_source c' now'.source) (Ok (Some number)) took → line ≡ c'.line →
+    ((on : State → Ran) → EndsRun false (sink_change now.sink now'.sink) (report_on (by_effect (n + 1) (takes_item p s (item_of_line line)) on)) status) →
+    Ended (trace_report limit (report_by p first)) start now' status
 line_ends p limit first start now now' c c' s n number took line status progress steps e ends =
     line_ends_by p limit first start now now' c c' s n number took status progress steps
-    (λ on. subst (λ (l : List ℕ). EndsRun false now.sink now'.sink (report_on (by_effect (n + 1) (takes_item p s (item_of_line l)) on)) status) e (ends on))
+    (λ on. subst (λ (l : List ℕ). EndsRun false (sink_change now.sink now'.sink) (report_on (by_effect (n + 1) (takes_item p s (item_of_line l)) on)) status) e (ends on))
 
 -- a line that is too long, and a trace that is too long
 refused_there : (limit : ℕ) (c c' : CutterState) (bytes rest : List ℕ) (r : Refusal) → c'.limit ≡ limit → c'.given ≡ c.given → c'.pending ≡ bytes →
@@ -249,19 +247,19 @@ refused_there limit c c' bytes rest r same given pending (more, first) = (
 )
 
 pub line_too_long : {State : Type 0} (p : Meaning State) (limit : ℕ) (first : State) (start now now' : Outside) (c c' : CutterState) (s : State) (n : ℕ) (took : List ℕ) (status : Status) →
-    InProgress p limit first start now c s n → StepsOn c c' now.source.bytes now'.source.bytes now.source.faults now'.source.faults (Err cut_error.LineTooLong) took →
-    EndsRun false now.sink now'.sink (report_on (ends_so (refused_line (n + 1) refusal.LineTooLong))) status → Ended limit (report_by p first) start now' status
+    InProgress p limit first start now c s n → StepsOn (with_source c now.source) (with_source c' now'.source) (Err cut_error.LineTooLong) took →
+    EndsRun false (sink_change now.sink now'.sink) (report_on (ends_so (refused_line (n + 1) refusal.LineTooLong))) status → Ended (trace_report limit (report_by p first)) start now' status
 line_too_long p limit first start now now' c c' s n took status progress steps ends =
-    let cut : Cuts c c' (c.pending ++ took) now.source.faults now'.source.faults (Err cut_error.LineTooLong) = cuts_of c.stopped _ _ progress.so_far.stopped steps.cuts in
+    let cut : Cuts (with_source c now.source) (with_source c' now'.source) (c.pending ++ took) (Err cut_error.LineTooLong) = cuts_of c.stopped _ _ progress.so_far.stopped steps.cuts in
     refused_cut p limit first start now now' c c' s n took refusal.LineTooLong _ status progress steps
     (λ rest. refused_there limit c c' (c.pending ++ took) rest refusal.LineTooLong (steps.limit ∙ progress.so_far.same_limit) cut.0.given
     cut.0.pending (items_from-line_too_long c' rest cut.1.too_long)) ends
 
 pub trace_too_long : {State : Type 0} (p : Meaning State) (limit : ℕ) (first : State) (start now now' : Outside) (c c' : CutterState) (s : State) (n : ℕ) (took : List ℕ) (status : Status) →
-    InProgress p limit first start now c s n → StepsOn c c' now.source.bytes now'.source.bytes now.source.faults now'.source.faults (Err cut_error.TraceTooLong) took →
-    EndsRun false now.sink now'.sink (report_on (ends_so (refused_line (n + 1) refusal.TraceTooLong))) status → Ended limit (report_by p first) start now' status
+    InProgress p limit first start now c s n → StepsOn (with_source c now.source) (with_source c' now'.source) (Err cut_error.TraceTooLong) took →
+    EndsRun false (sink_change now.sink now'.sink) (report_on (ends_so (refused_line (n + 1) refusal.TraceTooLong))) status → Ended (trace_report limit (report_by p first)) start now' status
 trace_too_long p limit first start now now' c c' s n took status progress steps ends =
-    let cut : Cuts c c' (c.pending ++ took) now.source.faults now'.source.faults (Err cut_error.TraceTooLong) = cuts_of c.stopped _ _ progress.so_far.stopped steps.cuts in
+    let cut : Cuts (with_source c now.source) (with_source c' now'.source) (c.pending ++ took) (Err cut_error.TraceTooLong) = cuts_of c.stopped _ _ progress.so_far.stopped steps.cuts in
     refused_cut p limit first start now now' c c' s n took refusal.TraceTooLong _ status progress steps
     (λ rest. refused_there limit c c' (c.pending ++ took) rest refusal.TraceTooLong (steps.limit ∙ progress.so_far.same_limit) cut.0.given
     cut.0.pending (items_from-trace_too_long c' rest
@@ -272,12 +270,12 @@ trace_too_long p limit first start now now' c c' s n took status progress steps 
 
 -- a read failed, and the run ends there
 pub cut_short : {State : Type 0} (p : Meaning State) (limit : ℕ) (first : State) (start now now' : Outside) (c c' : CutterState) (s : State) (n : ℕ) (took : List ℕ) →
-    InProgress p limit first start now c s n → StepsOn c c' now.source.bytes now'.source.bytes now.source.faults now'.source.faults (Err cut_error.ReadFault) took → now'.sink ≡ now.sink →
-    Ended limit (report_by p first) start now' ReadFault
+    InProgress p limit first start now c s n → StepsOn (with_source c now.source) (with_source c' now'.source) (Err cut_error.ReadFault) took → now'.sink ≡ now.sink →
+    Ended (trace_report limit (report_by p first)) start now' ReadFault
 cut_short p limit first start now now' c c' s n took progress steps same =
     let so_far = progress.so_far in
     let done = progress.done in
-    let cut : Cuts c c' (c.pending ++ took) now.source.faults now'.source.faults (Err cut_error.ReadFault) = cuts_of c.stopped _ _ so_far.stopped steps.cuts in
+    let cut : Cuts (with_source c now.source) (with_source c' now'.source) (c.pending ++ took) (Err cut_error.ReadFault) = cuts_of c.stopped _ _ so_far.stopped steps.cuts in
     let waits = cut.1 in
     let all : AllByRecursion IsWholeLine done = so_far.whole (still_at_end c.at_end c'.at_end took (Unit {0}) steps.stays_at_end waits.not_at_end) in
     let split : progress.taken ++ took ≡ concat done ++ c'.pending =
@@ -308,13 +306,13 @@ cut_short p limit first start now now' c c' s n took progress steps same =
     part r text e = ap (λ (x : Ran). x.texts) e ∙ append-nil text
 
 -- the program was out of memory before anything was written
-pub nothing_written : (limit : ℕ) (of : List Item → Report) (start now : Outside) → now.sink ≡ start.sink → Ended limit of start now NoMemory
-nothing_written limit of start now same =
+pub nothing_written : (report : TraceReport) (start now : Outside) → now.sink ≡ start.sink → Ended report start now NoMemory
+nothing_written report start now same =
     let (bytes, trace) = some_trace start.source.bytes in
     record {
       bytes = bytes;
       trace = trace;
-      part = subst (λ (k : Stream). AppendsPart start.sink.bytes k.bytes (of (items_of limit bytes)).text) (sym same) (0, omega arith, Appends-nil start.sink.bytes);
+      part = subst (λ (k : Stream). AppendsPart start.sink.bytes k.bytes (of_bytes report bytes).text) (sym same) (0, omega arith, Appends-nil start.sink.bytes);
     }
   where
     some_trace : (left : Option (List ℕ)) → (bytes : List ℕ) × IfSome left (λ told. told ≡ bytes)

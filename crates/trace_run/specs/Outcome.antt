@@ -1,5 +1,4 @@
--- What stands when a run over a trace has returned, by the status that it answers. The trace has at most `limit` bytes,
--- and `of` is the report on its items.
+-- What stands when a run over a trace has returned, by the status that it answers.
 use Rattle.std.specs.Prelude.{◌≡◌, ◌⊎◌, ℕ, ◌+◌, ◌≤◌, List, length, IsTrue, Some, IfSome}
 use Rattle.std.specs.Io.KnownBytes.{Appends, Consumes, Keeps}
 use Rattle.heap_base.specs.Causes.{Rose}
@@ -25,52 +24,64 @@ seen source sink = record { source = source; sink = sink }
 abbrev pub reading : List ℕ → Outside → Outside
 reading bytes o = record o { source = record { bytes = Some bytes; faults = 0 } }
 
+-- What a run is to report on a trace that may have so many bytes: the report on its items.
+pub record TraceReport : Type 0 where
+  pub limit : ℕ
+  pub of_items : List Item → Report
+
+abbrev pub trace_report : ℕ → (List Item → Report) → TraceReport
+trace_report limit of_items = record { limit = limit; of_items = of_items }
+
+-- the report on these bytes of a trace
+abbrev pub of_bytes : TraceReport → List ℕ → Report
+of_bytes report bytes = report.of_items (items_of report.limit bytes)
+
 -- The bytes are a trace that the source may hold: all that it has left, where it tells them.
 abbrev pub IsTrace : Outside → List ℕ → Type 0
 IsTrace old bytes = IfSome old.source.bytes (λ left. left ≡ bytes)
 
 -- The whole report on the trace was appended, and the status is the trace's. All bytes of it were read, or the run halted.
-pub record ReportsTrace (limit : ℕ) (of : List Item → Report) (old new : Outside) (answer : Status) : Type 0 where
+pub record ReportsTrace (report : TraceReport) (old new : Outside) (answer : Status) : Type 0 where
   pub bytes : List ℕ
   pub trace : IsTrace old bytes
-  pub read : Consumes old.source.bytes new.source.bytes bytes ⊎ IsTrue (of (items_of limit bytes)).is_halted
-  pub report : Appends old.sink.bytes new.sink.bytes (of (items_of limit bytes)).text
-  pub status : answer ≡ (of (items_of limit bytes)).status
+  pub read : Consumes old.source.bytes new.source.bytes bytes ⊎ IsTrue (of_bytes report bytes).is_halted
+  pub appended : Appends old.sink.bytes new.sink.bytes (of_bytes report bytes).text
+  pub status : answer ≡ (of_bytes report bytes).status
 
 -- A line of the trace is refused, and the whole report, whose last line says so, was appended.
-pub record RefusesLine (limit : ℕ) (of : List Item → Report) (old new : Outside) : Type 0 where
+pub record RefusesLine (report : TraceReport) (old new : Outside) : Type 0 where
   pub bytes : List ℕ
   pub trace : IsTrace old bytes
-  pub refused : (of (items_of limit bytes)).status ≡ TraceFault
-  pub report : Appends old.sink.bytes new.sink.bytes (of (items_of limit bytes)).text
+  pub refused : (of_bytes report bytes).status ≡ TraceFault
+  pub appended : Appends old.sink.bytes new.sink.bytes (of_bytes report bytes).text
 
 -- A read failed after these bytes of the trace: no whole line of them is refused or halts the run, at most as many bytes
 -- as a line may have stand behind the last whole line, they are within the limit of the trace, and the texts of the whole
 -- lines were appended.
-pub record IsCutShort (limit : ℕ) (of : List Item → Report) (old new : Outside) : Type 0 where
+pub record IsCutShort (report : TraceReport) (old new : Outside) : Type 0 where
   pub bytes : List ℕ
   pub read : Consumes old.source.bytes new.source.bytes bytes
-  pub goes_on : IsTrue (of (items_of limit (whole_lines bytes))).is_at_end
+  pub goes_on : IsTrue (of_bytes report (whole_lines bytes)).is_at_end
   pub tail : length bytes ≤ length (whole_lines bytes) + LONGEST_LINE
-  pub within : length bytes ≤ limit
-  pub part : Appends old.sink.bytes new.sink.bytes (of (items_of limit (whole_lines bytes))).part
+  pub within : length bytes ≤ report.limit
+  pub part : Appends old.sink.bytes new.sink.bytes (of_bytes report (whole_lines bytes)).part
 
 -- A beginning of the report was appended.
-pub record AppendsPartOfReport (limit : ℕ) (of : List Item → Report) (old new : Outside) : Type 0 where
+pub record AppendsPartOfReport (report : TraceReport) (old new : Outside) : Type 0 where
   pub bytes : List ℕ
   pub trace : IsTrace old bytes
-  pub part : AppendsPart old.sink.bytes new.sink.bytes (of (items_of limit bytes)).text
+  pub part : AppendsPart old.sink.bytes new.sink.bytes (of_bytes report bytes).text
 
 -- What stands after a run, by its status. A failure is answered only where the count of faults of the object that it
 -- speaks of rose in the call.
-abbrev pub Ended : ℕ → (List Item → Report) → Outside → Outside → Status → Type 0
-Ended limit of old new Clean = ReportsTrace limit of old new Clean
-Ended limit of old new Violated = ReportsTrace limit of old new Violated
-Ended limit of old new TraceFault = RefusesLine limit of old new
-Ended limit of old new ReadFault = Rose old.source.faults new.source.faults × IsCutShort limit of old new
-Ended limit of old new WriteFault = Rose old.sink.faults new.sink.faults × AppendsPartOfReport limit of old new
-Ended limit of old new NoMemory = AppendsPartOfReport limit of old new
-Ended limit of old new Usage = ⊥
+abbrev pub Ended : TraceReport → Outside → Outside → Status → Type 0
+Ended report old new Clean = ReportsTrace report old new Clean
+Ended report old new Violated = ReportsTrace report old new Violated
+Ended report old new TraceFault = RefusesLine report old new
+Ended report old new ReadFault = Rose old.source.faults new.source.faults × IsCutShort report old new
+Ended report old new WriteFault = Rose old.sink.faults new.sink.faults × AppendsPartOfReport report old new
+Ended report old new NoMemory = AppendsPartOfReport report old new
+Ended report old new Usage = ⊥
 
 -- One text was written and this status is answered; or the sink failed in it, and a beginning of it was appended.
 abbrev pub WritesOnce : List ℕ → Status → Stream → Stream → Status → Type 0

@@ -10,20 +10,36 @@ use Rattle.trace_run.specs.Program.{Effect, goes_on, Ran, Report, report_on, by_
 use Rattle.trace_run.specs.declared.turn.Flow.{Flow}
 use Rattle.trace_run.specs.declared.turn.Flow.TheVariants.{GoesOn, Ends}
 
+-- What can be seen of a sink before and after.
+pub record SinkChange : Type 0 where
+  pub old : Stream
+  pub new : Stream
+
+abbrev pub sink_change : Stream → Stream → SinkChange
+sink_change old new = record { old = old; new = new }
+
 -- The run ends with this status, and appended what there was to report, or a part of it. It is Clean or Violated only
 -- where the trace is at its end, or the run halts.
-abbrev pub EndsRun : Bool → Stream → Stream → Report → Status → Type 0
-EndsRun at_end sink sink' d Clean = IsTrue (at_end || d.is_halted) × (d.status ≡ Clean) × Appends sink.bytes sink'.bytes d.text
-EndsRun at_end sink sink' d Violated = IsTrue (at_end || d.is_halted) × (d.status ≡ Violated) × Appends sink.bytes sink'.bytes d.text
-EndsRun at_end sink sink' d TraceFault = (d.status ≡ TraceFault) × Appends sink.bytes sink'.bytes d.text
-EndsRun at_end sink sink' d WriteFault = Rose sink.faults sink'.faults × AppendsPart sink.bytes sink'.bytes d.text
-EndsRun at_end sink sink' d NoMemory = AppendsPart sink.bytes sink'.bytes d.text
-EndsRun at_end sink sink' d ReadFault = ⊥
-EndsRun at_end sink sink' d Usage = ⊥
+abbrev pub EndsRun : Bool → SinkChange → Report → Status → Type 0
+EndsRun at_end sink d Clean = IsTrue (at_end || d.is_halted) × (d.status ≡ Clean) × Appends sink.old.bytes sink.new.bytes d.text
+EndsRun at_end sink d Violated = IsTrue (at_end || d.is_halted) × (d.status ≡ Violated) × Appends sink.old.bytes sink.new.bytes d.text
+EndsRun at_end sink d TraceFault = (d.status ≡ TraceFault) × Appends sink.old.bytes sink.new.bytes d.text
+EndsRun at_end sink d WriteFault = Rose sink.old.faults sink.new.faults × AppendsPart sink.old.bytes sink.new.bytes d.text
+EndsRun at_end sink d NoMemory = AppendsPart sink.old.bytes sink.new.bytes d.text
+EndsRun at_end sink d ReadFault = ⊥
+EndsRun at_end sink d Usage = ⊥
 
--- What a line with this effect does to a run: the run goes on from the state after it, and the text that is due was
--- appended; or it ends, whatever was to come.
-abbrev pub TakesLine : {State : Type 0} → Effect State → ℕ → State → Stream → Stream → Flow → Type 0
-TakesLine effect lines after sink sink' GoesOn = (text : List ℕ) × (effect ≡ goes_on text after) × Appends sink.bytes sink'.bytes text
-TakesLine {State} effect lines after sink sink' (Ends status) =
-    (on : State → Ran) → EndsRun false sink sink' (report_on (by_effect (lines + 1) effect on)) status
+-- A line behind so many others: what it leads to, and the state after it, where the run goes on.
+pub record LineEffect (State : Type 0) : Type 0 where
+  pub effect : Effect State
+  pub lines : ℕ
+  pub after : State
+
+abbrev pub line_effect : {State : Type 0} → Effect State → ℕ → State → LineEffect State
+line_effect effect lines after = record { effect = effect; lines = lines; after = after }
+
+-- What a line does to a run: the run goes on from the state after it, and the text that is due was appended; or it ends, whatever was to come.
+abbrev pub TakesLine : {State : Type 0} → LineEffect State → SinkChange → Flow → Type 0
+TakesLine line sink GoesOn = (text : List ℕ) × (line.effect ≡ goes_on text line.after) × Appends sink.old.bytes sink.new.bytes text
+TakesLine {State} line sink (Ends status) =
+    (on : State → Ran) → EndsRun false sink (report_on (by_effect (line.lines + 1) line.effect on)) status

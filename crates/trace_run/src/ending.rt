@@ -2,7 +2,7 @@
 ghost use Rattle.std.specs.Prelude.{◌≤◌, true, false};
 ghost use Rattle.heap_base.specs.Streams.{stream_of};
 ghost use Rattle.trace_run.specs.Program.{IsLast, Last, end_of_trace, ends_so, halted, refused_line, report_on};
-ghost use Rattle.trace_run.specs.Turn.{EndsRun};
+ghost use Rattle.trace_run.specs.Turn.{EndsRun, sink_change};
 
 use crate::once::write_once;
 use crate::program::Program;
@@ -14,7 +14,7 @@ use std::alloc::Global;
 
 /// Ends the report at a line that is refused.
 pub fn refuse<K: Sink>(alloc: Global, line: u64, refusal: Refusal, sink: &mut K) -> Status
-    ensures ends { EndsRun false (stream_of K.held K.faults sink.old) (stream_of K.held K.faults sink.new) (report_on (ends_so (refused_line line refusal))) result }
+    ensures ends { EndsRun false (sink_change (stream_of K.held K.faults sink.old) (stream_of K.held K.faults sink.new)) (report_on (ends_so (refused_line line refusal))) result }
     ensures later { K.faults sink.old ≤ K.faults sink.new }
 {
     let Ok(text) = fault_text(alloc, line, &refusal) else {
@@ -25,8 +25,8 @@ pub fn refuse<K: Sink>(alloc: Global, line: u64, refusal: Refusal, sink: &mut K)
 
 /// Writes the last text.
 pub fn put_last<K: Sink>(last: &LastText, sink: &mut K) -> Status
-    ensures at_end { (d : Last) → IsLast d last.now → EndsRun true (stream_of K.held K.faults sink.old) (stream_of K.held K.faults sink.new) (report_on (ends_so (end_of_trace d))) result }
-    ensures halts { (d : Last) → IsLast d last.now → EndsRun false (stream_of K.held K.faults sink.old) (stream_of K.held K.faults sink.new) (report_on (ends_so (halted d))) result }
+    ensures at_end { (d : Last) → IsLast d last.now → EndsRun true (sink_change (stream_of K.held K.faults sink.old) (stream_of K.held K.faults sink.new)) (report_on (ends_so (end_of_trace d))) result }
+    ensures halts { (d : Last) → IsLast d last.now → EndsRun false (sink_change (stream_of K.held K.faults sink.old) (stream_of K.held K.faults sink.new)) (report_on (ends_so (halted d))) result }
     ensures later { K.faults sink.old ≤ K.faults sink.new }
 {
     let status = if last.violated {
@@ -39,7 +39,7 @@ pub fn put_last<K: Sink>(last: &LastText, sink: &mut K) -> Status
 
 /// Ends the report at the end of the trace.
 pub fn finish<P: Program, K: Sink>(program: &P, sink: &mut K) -> Status
-    ensures ends { EndsRun true (stream_of K.held K.faults sink.old) (stream_of K.held K.faults sink.new) (report_on (ends_so (end_of_trace (P.meaning.ends (P.state program.now))))) result }
+    ensures ends { EndsRun true (sink_change (stream_of K.held K.faults sink.old) (stream_of K.held K.faults sink.new)) (report_on (ends_so (end_of_trace (P.meaning.ends (P.state program.now))))) result }
     ensures later { K.faults sink.old ≤ K.faults sink.new }
 {
     match program.last() {

@@ -2,7 +2,7 @@ ghost use Rattle.std.specs.Prelude.{◌≡◌, ◌≤◌};
 ghost use Rattle.heap_base.specs.declared.limits.TheConstants.{LONGEST_TRACE};
 ghost use Rattle.heap_base.specs.Streams.{stream_of};
 ghost use Rattle.trace_run.specs.Program.{CountsEvents, MayTake, TakesEvents, report_by};
-ghost use Rattle.trace_run.specs.Outcome.{Ended, seen};
+ghost use Rattle.trace_run.specs.Outcome.{Ended, seen, trace_report};
 
 use crate::ending::{finish, refuse};
 use crate::program::Program;
@@ -39,7 +39,7 @@ pub fn run<
     requires counts { CountsEvents P.events T.step }
     ensures { let old = seen (stream_of S.left S.faults source.old) (stream_of K.held K.faults sink.old) in
         let new = seen (stream_of S.left S.faults source.new) (stream_of K.held K.faults sink.new) in
-        Ended limit (report_by P.meaning (P.state program.old)) old new result }
+        Ended (trace_report limit (report_by P.meaning (P.state program.old))) old new result }
 {
     let Ok(mut cutter) = LineCutter::with_ahead(alloc, limit, reader.ahead()) else {
         return Status::NoMemory;
@@ -48,15 +48,8 @@ pub fn run<
     'trace: loop {
         match cutter.next(source) {
             Ok(Some(number)) => {
-                match take_line(
-                    alloc,
-                    reader,
-                    program,
-                    &mut take,
-                    cutter.line(),
-                    lines,
-                    sink,
-                ) {
+                let line = cutter.line();
+                match take_line(alloc, reader, program, &mut take, line, lines, sink) {
                     Flow::GoesOn => {
                         lines = number;
                         reader.look_ahead(cutter.behind());
@@ -66,18 +59,12 @@ pub fn run<
             }
             Ok(None) => return finish(program, sink),
             Err(CutError::ReadFault) => return Status::ReadFault,
-            Err(CutError::LineTooLong) => return refuse(
-                alloc,
-                lines + 1,
-                Refusal::LineTooLong,
-                sink,
-            ),
-            Err(CutError::TraceTooLong) => return refuse(
-                alloc,
-                lines + 1,
-                Refusal::TraceTooLong,
-                sink,
-            ),
+            Err(CutError::LineTooLong) => {
+                return refuse(alloc, lines + 1, Refusal::LineTooLong, sink);
+            }
+            Err(CutError::TraceTooLong) => {
+                return refuse(alloc, lines + 1, Refusal::TraceTooLong, sink);
+            }
         }
     }
 }

@@ -3,7 +3,7 @@ ghost use Rattle.heap_base.specs.declared.limits.TheConstants.{LONGEST_TRACE};
 ghost use Rattle.heap_base.specs.Streams.{stream_of};
 ghost use Rattle.trace_reader.specs.Meaning.{item_of_line};
 ghost use Rattle.trace_run.specs.Program.{CountsEvents, MayTake, TakesEvents, takes_item};
-ghost use Rattle.trace_run.specs.Turn.{TakesLine};
+ghost use Rattle.trace_run.specs.Turn.{TakesLine, line_effect, sink_change};
 
 use crate::ending::{put_last, refuse};
 use crate::program::Program;
@@ -42,7 +42,7 @@ pub fn take_line<
     requires takes { TakesEvents P.meaning P.state T.step }
     requires counts { CountsEvents P.events T.step }
     ensures ready { L.ready reader.new }
-    ensures takes { TakesLine (takes_item P.meaning (P.state program.old) (item_of_line line.now)) lines (P.state program.new) (stream_of K.held K.faults sink.old) (stream_of K.held K.faults sink.new) result }
+    ensures takes { TakesLine (line_effect (takes_item P.meaning (P.state program.old) (item_of_line line.now)) lines (P.state program.new)) (sink_change (stream_of K.held K.faults sink.old) (stream_of K.held K.faults sink.new)) result }
     ensures few { P.events program.new ≤ P.events program.old + 1 }
     ensures later { K.faults sink.old ≤ K.faults sink.new }
 {
@@ -68,7 +68,7 @@ fn take_event<P: Program, T: FnMut(&mut P, &Event) -> Result<Taken, Stop>, K: Si
     requires may_take { MayTake P.events T.pre }
     requires takes { TakesEvents P.meaning P.state T.step }
     requires counts { CountsEvents P.events T.step }
-    ensures takes { TakesLine (P.meaning.takes (P.state program.old) event.now) lines (P.state program.new) (stream_of K.held K.faults sink.old) (stream_of K.held K.faults sink.new) result }
+    ensures takes { TakesLine (line_effect (P.meaning.takes (P.state program.old) event.now) lines (P.state program.new)) (sink_change (stream_of K.held K.faults sink.old) (stream_of K.held K.faults sink.new)) result }
     ensures few { P.events program.new ≤ P.events program.old + 1 }
     ensures later { K.faults sink.old ≤ K.faults sink.new }
 {

@@ -3,10 +3,8 @@ use Rattle.heap_base.specs.Streams.{stream_of}
 use Rattle.generator.specs.declared.plan.GenPlan.{GenPlan}
 use Rattle.generator.specs.Text.{gen_text}
 use Rattle.settings.specs.declared.settings.Settings.{Settings}
-use Rattle.heap_base.specs.declared.limits.TheConstants.{LONGEST_TRACE}
 use Rattle.trace_run.specs.Outcome.{reading, seen}
-use Rattle.audit_program.specs.Audits.{audit_report}
-use Rattle.audit_run.specs.Outcome.{Ended, rules_of}
+use Rattle.audit_run.specs.Outcome.{Ended, report_by_rules, rules_of}
 use Rattle.trace_run.proofs.Endings.{nothing_written}
 use Rattle.audit_run.proofs.Plans.{as_planned}
 use Rattle.audit_run.proofs.top_call.audit.Goals as goal
@@ -16,7 +14,7 @@ returns-in-Err-Usage-clause-refused g c =
     λ _. (refl, c.refuse_words.ensures (stream_of g.S.Source.left g.S.Source.faults c.args.source.now))
 
 pub returns-in-Err-OutOfMemory-clause-taken : goal.returns-in-Err-OutOfMemory-clause-taken
-returns-in-Err-OutOfMemory-clause-taken g c = λ s _ _. nothing_written LONGEST_TRACE (audit_report (rules_of s)) _ _ refl
+returns-in-Err-OutOfMemory-clause-taken g c = λ s _ _. nothing_written (report_by_rules (rules_of s)) _ _ refl
 
 pub returns-in-Some-clause-generated : goal.returns-in-Some-clause-generated
 returns-in-Some-clause-generated g c =

@@ -2,7 +2,7 @@ use Rattle.std.proofs.Common.{refl}
 use Rattle.heap_base.specs.Streams.{stream_of}
 use Rattle.heap_base.specs.declared.limits.TheConstants.{LONGEST_TRACE}
 use Rattle.trace_run.specs.Program.{report_by}
-use Rattle.trace_run.specs.Outcome.{seen}
+use Rattle.trace_run.specs.Outcome.{seen, trace_report}
 use Rattle.trace_run.proofs.Causes.{equal_reports}
 use Rattle.trace_run.proofs.Endings.{nothing_written}
 use Rattle.audit_program.specs.Audits.{audit_meaning, audit_report, rules_by}
@@ -11,7 +11,7 @@ use Rattle.trace_audit.proofs.Collected.{is_reported}
 use Rattle.trace_audit.proofs.auditing.audit_trace.Goals as goal
 
 pub returns-in_default : goal.returns-in_default
-returns-in_default g c = nothing_written LONGEST_TRACE (audit_report (rules_by c.args.plan.paths c.args.plan.react)) _ _ refl
+returns-in_default g c = nothing_written (trace_report LONGEST_TRACE (audit_report (rules_by c.args.plan.paths c.args.plan.react))) _ _ refl
 
 pub returns : goal.returns
 returns g c =

@@ -10,14 +10,14 @@ trace-init g c =
 pub returns-in-Ends : goal.returns-in-Ends
 returns-in-Ends g c =
     let steps = rw c.in-Ok-Some.field-0-is at c.in-Ok-Some.ensures.1 in
-    line_ends g.P.Program.meaning _ _ _ _ _ _ _ _ _ _ _ _ _ c.trace.invariant.0 steps c.line.ensures c.in-Ends.ensures.takes
+    line_ends g.P.Program.meaning _ _ _ _ _ _ _ _ _ _ _ _ _ c.trace.invariant.0 steps c.line-line.ensures c.in-Ends.ensures.takes
 
 pub trace-preserved : goal.trace-preserved
 trace-preserved g c =
     let steps = rw c.in-Ok-Some.field-0-is at c.in-Ok-Some.ensures.1 in
     let taken = c.in-GoesOn.ensures.takes in
-    let within = line_within g.P.Program.meaning _ _ _ _ _ _ _ _ _ _ _ _ c.trace.invariant.0 steps in (
-      line_taken g.P.Program.meaning _ _ _ _ _ _ _ _ _ _ _ _ _ _ c.trace.invariant.0 steps c.line.ensures taken.1 taken.2 c.take_line.ensures.later,
+    let within = line_within g.P.Program.meaning _ _ _ _ _ _ _ _ _ _ _ c.trace.invariant.0 steps in (
+      line_taken g.P.Program.meaning _ _ _ _ _ _ _ _ _ _ _ _ _ _ c.trace.invariant.0 steps c.line-line.ensures taken.1 taken.2 c.take_line.ensures.later,
       (let before = c.trace.invariant.1 in let few = c.take_line.ensures.few in let next = within.1 in omega (arith, before, few, next)),
       c.look_ahead.ensures,
     )
@@ -25,7 +25,7 @@ trace-preserved g c =
 pub trace-smaller : goal.trace-smaller
 trace-smaller g c =
     let steps = rw c.in-Ok-Some.field-0-is at c.in-Ok-Some.ensures.1 in
-    line_leaves_fewer g.P.Program.meaning _ _ _ _ _ _ _ _ _ _ _ _ c.trace.invariant.0 steps
+    line_leaves_fewer g.P.Program.meaning _ _ _ _ _ _ _ _ _ _ _ c.trace.invariant.0 steps
 
 pub returns-in-Ok-None : goal.returns-in-Ok-None
 returns-in-Ok-None g c =
@@ -48,4 +48,4 @@ returns-in-Err-TraceTooLong g c =
     trace_too_long g.P.Program.meaning _ _ _ _ _ _ _ _ _ _ _ c.trace.invariant.0 steps c.refuse-in-Err-TraceTooLong.ensures.ends
 
 pub returns-in_default : goal.returns-in_default
-returns-in_default g c = nothing_written _ _ _ _ refl
+returns-in_default g c = nothing_written _ _ _ refl

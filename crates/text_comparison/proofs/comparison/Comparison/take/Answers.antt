@@ -1,7 +1,7 @@
 use Rattle.std.proofs.Common.{◌≡◌, ◌<◌, ◌+◌, ◌++◌, ◌∷◌, [], ℕ, List, suc, length, take, drop, get_or, sym, ap, subst, ◌∙◌, arith}
 use Rattle.std.proofs.Math.Seq.{drop-cons}
 use Rattle.std.proofs.lemmas.List.{append_assoc, take-append-drop, take_more}
-use Rattle.text_comparison.specs.Comparing.{ComparisonState, DiffersWithin, IsEqualSoFar}
+use Rattle.text_comparison.specs.Comparing.{ComparisonState, DiffersWithin, IsEqualSoFar, comparison_of}
 use Rattle.text_comparison.proofs.Comparisons.{equal-counted, differs-other, differs-end}
 use Rattle.text_comparison.proofs.comparison.Comparison.take.Goals as goal
 use Rattle.text_comparison.proofs.comparison.Comparison.take.Goals.{in_default-via-in-Some+else-other-byte, in_default-via-in_default}
@@ -42,7 +42,7 @@ loop-byte-preserved g c =
       equal = λ start before equal.
           let gives = rw c.in-Some.is at c.in_ok-other.ensures.gives in
           let so_far = c.loop-byte.invariant.equal start before equal in
-          subst (λ (t : List ℕ). IsEqualSoFar start (g.B.Source.left c.next.new.source) c.count.new.self t) (one-more before text i c.loop-byte-test.true)
+          subst (λ (t : List ℕ). IsEqualSoFar (comparison_of start (g.B.Source.left c.next.new.source) c.count.new.self) t) (one-more before text i c.loop-byte-test.true)
           (equal-counted so_far _ c.next.ensures.place c.in_ok-count-in-Some.ensures.counted c.in-Some.other (get_or text i 0) c.if-other-byte.true gives);
       later = let was = c.loop-byte.invariant.later in let now = c.next.ensures.cause.later in omega arith;
     }
