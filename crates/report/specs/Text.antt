@@ -60,15 +60,23 @@ abbrev pub gone_text : Bool → List ℕ
 gone_text true = codes " gone"
 gone_text false = []
 
+-- what a verdict says before its paths
+abbrev pub verdict_head : Verdict → List ℕ
+verdict_head (Dead id kind path) = codes "dead " ++ object_text id kind
+verdict_head (Instances kind limit found path) = codes "instances " ++ kind ++ codes " limit " ++ decimal limit ++ codes " found " ++ decimal found
+verdict_head (Unshared id kind refs first second) = codes "unshared " ++ object_text id kind ++ codes " refs " ++ decimal refs
+verdict_head (OwnedBy id kind owner gone path) = codes "ownedby " ++ object_text id kind ++ codes " owner " ++ decimal owner ++ gone_text gone
+
+-- its paths
+abbrev pub paths_text : Verdict → List ℕ
+paths_text (Dead id kind path) = shown_text path
+paths_text (Instances kind limit found path) = shown_text path
+paths_text (Unshared id kind refs first second) = both_text first second
+paths_text (OwnedBy id kind owner gone path) = shown_text path
+
 -- what a verdict says, after the number of its collection
 abbrev pub verdict_text : Verdict → List ℕ
-verdict_text (Dead id kind path) = codes "dead " ++ object_text id kind ++ codes ": " ++ shown_text path
-verdict_text (Instances kind limit found path) =
-    codes "instances " ++ kind ++ codes " limit " ++ decimal limit ++ codes " found " ++ decimal found ++ codes ": " ++ shown_text path
-verdict_text (Unshared id kind refs first second) =
-    codes "unshared " ++ object_text id kind ++ codes " refs " ++ decimal refs ++ codes ": " ++ both_text first second
-verdict_text (OwnedBy id kind owner gone path) =
-    codes "ownedby " ++ object_text id kind ++ codes " owner " ++ decimal owner ++ gone_text gone ++ codes ": " ++ shown_text path
+verdict_text v = verdict_head v ++ codes ": " ++ paths_text v
 
 -- `gc` and the number of the collection
 abbrev pub gc_text : ℕ → List ℕ

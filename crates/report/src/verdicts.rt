@@ -1,10 +1,10 @@
-ghost use Rattle.std.specs.Prelude.{◌≡◌, ◌++◌, OnOk};
+ghost use Rattle.std.specs.Prelude.{◌≡◌, ◌++◌, OnOk, codes, decimal};
 ghost use Rattle.std.specs.List.{flat_map};
-ghost use Rattle.report.specs.Text.{cleared_line, gc_text, gone_text, summary_line, verdict_line, verdict_text};
+ghost use Rattle.report.specs.Text.{cleared_line, gc_text, gone_text, object_text, paths_text, summary_line, verdict_head, verdict_line, verdict_text};
 
 use crate::parts::{put, put_name, put_number, put_object};
 use crate::paths::{put_both, put_shown};
-use graph_meaning::{Collection, Shown, Verdict, VerdictList};
+use graph_meaning::{Collection, Verdict, VerdictList};
 use heap_base::{Name, OutOfMemory};
 
 /// Appends the line that sums a collection up.
@@ -72,98 +72,90 @@ fn put_gc(text: &mut Vec<u8>, number: u64) -> Result<(), OutOfMemory>
 fn put_verdict(text: &mut Vec<u8>, verdict: &Verdict) -> Result<(), OutOfMemory>
     ensures { OnOk result (text.new.items ≡ text.old.items ++ verdict_text verdict.now) }
 {
+    put_head(text, verdict)?;
+    put(text, b": ")?;
+    put_paths(text, verdict)
+}
+
+/// Appends what a verdict says before its paths.
+fn put_head(text: &mut Vec<u8>, verdict: &Verdict) -> Result<(), OutOfMemory>
+    ensures { OnOk result (text.new.items ≡ text.old.items ++ verdict_head verdict.now) }
+{
     match verdict {
-        Verdict::Dead { id, kind, path } => put_dead(text, *id, kind, path),
+        Verdict::Dead { id, kind, .. } => put_with_object(text, b"dead ", *id, kind),
         Verdict::Instances {
             kind,
             limit,
             found,
-            path,
-        } => put_instances(text, kind, *limit, *found, path),
-        Verdict::Unshared {
-            id,
-            kind,
-            refs,
-            first,
-            second,
-        } => put_unshared(text, *id, kind, *refs, first, second),
+            ..
+        } => put_over_limit(text, kind, *limit, *found),
+        Verdict::Unshared { id, kind, refs, .. } => put_shared(text, *id, kind, *refs),
         Verdict::OwnedBy {
             id,
             kind,
             owner,
             gone,
-            path,
-        } => put_owned_by(text, *id, kind, *owner, *gone, path),
+            ..
+        } => {
+            put_with_object(text, b"ownedby ", *id, kind)?;
+            put_owner(text, *owner, *gone)
+        }
     }
 }
 
-fn put_dead(text: &mut Vec<u8>, id: u32, kind: &Name, path: &Shown) -> Result<(), OutOfMemory>
-    ensures { OnOk result
-        (text.new.items ≡ text.old.items ++ verdict_text (Verdict.Dead id kind.now path.now)) }
+fn put_paths(text: &mut Vec<u8>, verdict: &Verdict) -> Result<(), OutOfMemory>
+    ensures { OnOk result (text.new.items ≡ text.old.items ++ paths_text verdict.now) }
 {
-    put(text, b"dead ")?;
-    put_object(text, id, kind)?;
-    put(text, b": ")?;
-    put_shown(text, path)
+    match verdict {
+        Verdict::Dead { path, .. } => put_shown(text, path),
+        Verdict::Instances { path, .. } => put_shown(text, path),
+        Verdict::Unshared { first, second, .. } => put_both(text, first, second),
+        Verdict::OwnedBy { path, .. } => put_shown(text, path),
+    }
 }
 
-fn put_instances(
+/// Appends a word and an object.
+fn put_with_object(text: &mut Vec<u8>, word: &[u8], id: u32, kind: &Name) -> Result<(), OutOfMemory>
+    ensures { OnOk result (text.new.items ≡ text.old.items ++ word.now ++ object_text id kind.now) }
+{
+    put(text, word)?;
+    put_object(text, id, kind)
+}
+
+/// Appends a type with its limit, and how many of its objects were found.
+fn put_over_limit(
     text: &mut Vec<u8>,
     kind: &Name,
     limit: u32,
     found: u32,
-    path: &Shown,
 ) -> Result<(), OutOfMemory>
     ensures { OnOk result
-        (text.new.items ≡ text.old.items ++ verdict_text (Verdict.Instances kind.now limit found path.now)) }
+        (text.new.items ≡ text.old.items ++ codes "instances " ++ kind.now ++ codes " limit " ++ decimal limit ++ codes " found " ++ decimal found) }
 {
     put(text, b"instances ")?;
     put_name(text, kind)?;
     put(text, b" limit ")?;
     put_number(text, limit as u64)?;
     put(text, b" found ")?;
-    put_number(text, found as u64)?;
-    put(text, b": ")?;
-    put_shown(text, path)
+    put_number(text, found as u64)
 }
 
-fn put_unshared(
-    text: &mut Vec<u8>,
-    id: u32,
-    kind: &Name,
-    refs: u64,
-    first: &Shown,
-    second: &Shown,
-) -> Result<(), OutOfMemory>
+/// Appends an object that was to be unshared, and how many references it has.
+fn put_shared(text: &mut Vec<u8>, id: u32, kind: &Name, refs: u64) -> Result<(), OutOfMemory>
     ensures { OnOk result
-        (text.new.items ≡ text.old.items ++ verdict_text (Verdict.Unshared id kind.now refs first.now second.now)) }
+        (text.new.items ≡ text.old.items ++ codes "unshared " ++ object_text id kind.now ++ codes " refs " ++ decimal refs) }
 {
-    put(text, b"unshared ")?;
-    put_object(text, id, kind)?;
+    put_with_object(text, b"unshared ", id, kind)?;
     put(text, b" refs ")?;
-    put_number(text, refs)?;
-    put(text, b": ")?;
-    put_both(text, first, second)
+    put_number(text, refs)
 }
 
-fn put_owned_by(
-    text: &mut Vec<u8>,
-    id: u32,
-    kind: &Name,
-    owner: u32,
-    gone: bool,
-    path: &Shown,
-) -> Result<(), OutOfMemory>
-    ensures { OnOk result
-        (text.new.items ≡ text.old.items ++ verdict_text (Verdict.OwnedBy id kind.now owner gone path.now)) }
+fn put_owner(text: &mut Vec<u8>, owner: u32, gone: bool) -> Result<(), OutOfMemory>
+    ensures { OnOk result (text.new.items ≡ text.old.items ++ codes " owner " ++ decimal owner ++ gone_text gone) }
 {
-    put(text, b"ownedby ")?;
-    put_object(text, id, kind)?;
     put(text, b" owner ")?;
     put_number(text, owner as u64)?;
-    put_gone(text, gone)?;
-    put(text, b": ")?;
-    put_shown(text, path)
+    put_gone(text, gone)
 }
 
 fn put_gone(text: &mut Vec<u8>, gone: bool) -> Result<(), OutOfMemory>
