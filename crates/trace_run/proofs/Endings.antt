@@ -18,7 +18,7 @@ use Rattle.trace_reader.specs.declared.error.CutError.{CutError}
 use Rattle.trace_reader.specs.declared.error.CutError.TheVariants as cut_error
 use Rattle.trace_reader.specs.Meaning.{Item, item_of_line, refused}
 use Rattle.trace_reader.specs.Items.{pieces, items_from, items_of}
-use Rattle.trace_reader.specs.Cutter.{CutterState, StepsOn, Cuts, with_source}
+use Rattle.trace_reader.specs.Cutter.{CutterState, StepsOn, Cuts, GivesNone, with_source}
 use Rattle.trace_run.specs.Lines.{whole_lines}
 use Rattle.trace_run.specs.Program.{Meaning, Ran, Report, end_of_trace, refused_line, takes_item, by_effect, ends_so, behind, run, report_on, report_by}
 use Rattle.trace_run.specs.Outcome.{Outside, TraceReport, trace_report, of_bytes, IsTrace, ReportsTrace, Ended, AppendsPartOfReport}
@@ -246,25 +246,37 @@ refused_there limit c c' bytes rest r same given pending (more, first) = (
       ∙ ap (λ t. items_from c'.limit c'.given (pieces (t ++ rest))) (sym pending) ∙ first,
 )
 
-pub line_too_long : {State : Type 0} (p : Meaning State) (limit : ℕ) (first : State) (start now now' : Outside) (c c' : CutterState) (s : State) (n : ℕ) (took : List ℕ) (status : Status) →
-    InProgress p limit first start now c s n → StepsOn (with_source c now.source) (with_source c' now'.source) (Err cut_error.LineTooLong) took →
-    EndsRun false (sink_change now.sink now'.sink) (report_on (ends_so (refused_line (n + 1) refusal.LineTooLong))) status → Ended (trace_report limit (report_by p first)) start now' status
-line_too_long p limit first start now now' c c' s n took status progress steps ends =
-    let cut : Cuts (with_source c now.source) (with_source c' now'.source) (c.pending ++ took) (Err cut_error.LineTooLong) = cuts_of c.stopped _ _ progress.so_far.stopped steps.cuts in
-    refused_cut p limit first start now now' c c' s n took refusal.LineTooLong _ status progress steps
-    (λ rest. refused_there limit c c' (c.pending ++ took) rest refusal.LineTooLong (steps.limit ∙ progress.so_far.same_limit) cut.0.given
-    cut.0.pending (items_from-line_too_long c' rest cut.1.too_long)) ends
+module _ {State : Type 0} (p : Meaning State) (limit : ℕ) (first : State) (start now now' : Outside) (c c' : CutterState) (s : State) (n : ℕ) (took : List ℕ) (status : Status)
+    (progress : InProgress p limit first start now c s n) where
+  abbrev Refuses : CutError → Type 0
+  Refuses e = StepsOn (with_source c now.source) (with_source c' now'.source) (Err e) took
 
-pub trace_too_long : {State : Type 0} (p : Meaning State) (limit : ℕ) (first : State) (start now now' : Outside) (c c' : CutterState) (s : State) (n : ℕ) (took : List ℕ) (status : Status) →
-    InProgress p limit first start now c s n → StepsOn (with_source c now.source) (with_source c' now'.source) (Err cut_error.TraceTooLong) took →
-    EndsRun false (sink_change now.sink now'.sink) (report_on (ends_so (refused_line (n + 1) refusal.TraceTooLong))) status → Ended (trace_report limit (report_by p first)) start now' status
-trace_too_long p limit first start now now' c c' s n took status progress steps ends =
-    let cut : Cuts (with_source c now.source) (with_source c' now'.source) (c.pending ++ took) (Err cut_error.TraceTooLong) = cuts_of c.stopped _ _ progress.so_far.stopped steps.cuts in
-    refused_cut p limit first start now now' c c' s n took refusal.TraceTooLong _ status progress steps
-    (λ rest. refused_there limit c c' (c.pending ++ took) rest refusal.TraceTooLong (steps.limit ∙ progress.so_far.same_limit) cut.0.given
-    cut.0.pending (items_from-trace_too_long c' rest
-    (let given = cut.0.given in let within = progress.so_far.within in let kept = steps.limit in let same = progress.so_far.same_limit in omega arith)
-    cut.1.past_limit)) ends
+  abbrev EndsThere : Refusal → Type 0
+  EndsThere r = EndsRun false (sink_change now.sink now'.sink) (report_on (ends_so (refused_line (n + 1) r))) status
+
+  abbrev EndsAll : Type 0
+  EndsAll = Ended (trace_report limit (report_by p first)) start now' status
+
+  cut_at : (e : CutError) → Refuses e → Cuts (with_source c now.source) (with_source c' now'.source) (c.pending ++ took) (Err e)
+  cut_at e steps = cuts_of c.stopped _ _ progress.so_far.stopped steps.cuts
+
+  stays_there : (e : CutError) (r : Refusal) → Refuses e → GivesNone c c' (c.pending ++ took) →
+      ((rest : List ℕ) → (more : List Item) × (items_from c'.limit c'.given (pieces (c'.pending ++ rest)) ≡ refused r ∷ more)) → EndsThere r → EndsAll
+  stays_there e r steps none refuses ends =
+      refused_cut p limit first start now now' c c' s n took r _ status progress steps
+      (λ rest. refused_there limit c c' (c.pending ++ took) rest r (steps.limit ∙ progress.so_far.same_limit) none.given none.pending (refuses rest))
+      ends
+
+  pub line_too_long : Refuses cut_error.LineTooLong → EndsThere refusal.LineTooLong → EndsAll
+  line_too_long steps ends =
+      let cut = cut_at cut_error.LineTooLong steps in
+      stays_there cut_error.LineTooLong refusal.LineTooLong steps cut.0 (λ rest. items_from-line_too_long c' rest cut.1.too_long) ends
+
+  pub trace_too_long : Refuses cut_error.TraceTooLong → EndsThere refusal.TraceTooLong → EndsAll
+  trace_too_long steps ends =
+      let cut = cut_at cut_error.TraceTooLong steps in
+      let within : c'.given ≤ c'.limit = omega (arith, cut.0.given, progress.so_far.within, steps.limit, progress.so_far.same_limit) in
+      stays_there cut_error.TraceTooLong refusal.TraceTooLong steps cut.0 (λ rest. items_from-trace_too_long c' rest within cut.1.past_limit) ends
 
 -- ---- a read that failed
 
