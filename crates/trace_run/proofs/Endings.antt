@@ -48,7 +48,8 @@ pub Rose-earlier : (start before now : ℕ) → start ≤ before → Rose before
 Rose-earlier start before now le rose = omega arith
 
 -- a run that ends ends so where the same is to be reported
-pub EndsRun-at : (at_end : Bool) (sink sink' : Stream) (r r' : Ran) (status : Status) → r' ≡ r → EndsRun at_end (sink_change sink sink') (report_on r) status → EndsRun at_end (sink_change sink sink') (report_on r') status
+pub EndsRun-at : (at_end : Bool) (sink sink' : Stream) (r r' : Ran) (status : Status) → r' ≡ r →
+    EndsRun at_end (sink_change sink sink') (report_on r) status → EndsRun at_end (sink_change sink sink') (report_on r') status
 EndsRun-at at_end sink sink' r r' status same ends = subst (λ (x : Ran). EndsRun at_end (sink_change sink sink') (report_on x) status) (sym same) ends
 
 -- ---- the bytes of the trace

@@ -1,5 +1,6 @@
 -- A run that is under way: what was read, cut and written so far.
-use Rattle.std.proofs.Common.{◌≡◌, ℕ, ◌+◌, ◌-◌, ◌<◌, ◌≤◌, List, [], ◌∷◌, ◌++◌, length, Bool, true, false, IsTrue, Option, Some, None, Result, Ok, MatchOption, IfSome, refl, sym, ◌∙◌, ap, subst, arith, ⊎_elim}
+use Rattle.std.proofs.Common.{◌≡◌, ℕ, ◌+◌, ◌-◌, ◌<◌, ◌≤◌, List, [], ◌∷◌, ◌++◌, length, Bool, true, false, IsTrue, Option, Some, None, Result}
+use Rattle.std.proofs.Common.{Ok, MatchOption, IfSome, refl, sym, ◌∙◌, ap, subst, arith, ⊎_elim}
 use Rattle.std.specs.List.{concat, AllByRecursion}
 use Rattle.std.proofs.lemmas.List.Folds.{concat-append}
 use Rattle.std.specs.Io.KnownBytes.{Appends, Consumes, IsAtEnd}
@@ -114,7 +115,8 @@ whole_piece new piece bytes next e =
     ⊎_elim (λ p. (new.line, next.one_line, p)) (λ p. absurd (false≢true (sym e ∙ p.3))) next.ended
 
 -- the items of one piece more
-items_so_far-push : (limit : ℕ) (done : List (List ℕ)) (given : ℕ) (line piece : List ℕ) → given ≡ length (concat done) → item_of limit given piece ≡ item_of_line line → items_so_far limit (done ++ piece ∷ []) ≡ items_so_far limit done ++ item_of_line line ∷ []
+items_so_far-push : (limit : ℕ) (done : List (List ℕ)) (given : ℕ) (line piece : List ℕ) → given ≡ length (concat done) → item_of limit given piece ≡ item_of_line line →
+    items_so_far limit (done ++ piece ∷ []) ≡ items_so_far limit done ++ item_of_line line ∷ []
 unfolding items_from
 items_so_far-push limit done given line piece count item =
     items_from-append limit 0 done (piece ∷ [])
@@ -122,7 +124,8 @@ items_so_far-push limit done given line piece count item =
     ∙ ap (λ is. items_from limit 0 done ++ is) (items_from-cons limit given piece [] ∙ ap (λ i. i ∷ items_from limit (given + length piece) []) item)
 
 -- where the end was read, it stays read while nothing is taken
-end_stays : (start before after : Option (List ℕ)) (taken took : List ℕ) → Consumes start before taken → IfSome start (λ bytes. IsAtEnd before) → took ≡ [] → Consumes before after took → IfSome start (λ bytes. IsAtEnd after)
+end_stays : (start before after : Option (List ℕ)) (taken took : List ℕ) → Consumes start before taken → IfSome start (λ bytes. IsAtEnd before) → took ≡ [] →
+    Consumes before after took → IfSome start (λ bytes. IsAtEnd after)
 end_stays None before after taken took consumed end nothing more = tt
 end_stays (Some bytes) None after taken took consumed end nothing more = absurd consumed
 end_stays (Some bytes) (Some xs) None taken took consumed end nothing more = absurd more
@@ -133,7 +136,8 @@ end_for None after end = tt
 end_for (Some bytes) after end = end
 
 -- where the end has been read, the source is at its end
-pub end_now : {State : Type 0} (p : Meaning State) (limit : ℕ) (first : State) (start now now' : Outside) (c c' : CutterState) (s : State) (n : ℕ) (taken took : List ℕ) (done : List (List ℕ)) (text : List ℕ) (result : Result (Option ℕ) CutError) →
+pub end_now : {State : Type 0} (p : Meaning State) (limit : ℕ) (first : State) (start now now' : Outside) (c c' : CutterState) (s : State) (n : ℕ)
+    (taken took : List ℕ) (done : List (List ℕ)) (text : List ℕ) (result : Result (Option ℕ) CutError) →
     Progress p limit first start now c s n taken done text → StepsOn (with_source c now.source) (with_source c' now'.source) result took →
     IsTrue c'.at_end → IfSome start.source.bytes (λ bytes. IsAtEnd now'.source.bytes)
 end_now p limit first start now now' c c' s n taken took done text result so_far steps t =
@@ -165,7 +169,8 @@ line_taken_by p limit first start now now' c c' s s' n number took more progress
       text = progress.text ++ more;
       so_far = record {
         consumed = Consumes-trans _ _ _ _ _ so_far.consumed steps.consumes;
-        split = ap (λ t. t ++ took) so_far.split ∙ append_assoc (concat progress.done) c.pending took ∙ ap (λ t. concat progress.done ++ t) line.next.split ∙ sym (append_assoc (concat progress.done) piece c'.pending) ∙ ap (λ t. t ++ c'.pending) (sym concat_now);
+        split = ap (λ t. t ++ took) so_far.split ∙ append_assoc (concat progress.done) c.pending took ∙ ap (λ t. concat progress.done ++ t) line.next.split
+            ∙ sym (append_assoc (concat progress.done) piece c'.pending) ∙ ap (λ t. t ++ c'.pending) (sym concat_now);
         cut = cut_on c c' progress.taken took number progress.done so_far.cut steps.stays_at_end line;
         whole = λ e. whole-push progress.done piece (so_far.whole (still_at_end c.at_end c'.at_end took (Unit {0}) steps.stays_at_end e)) (whole_piece _ _ _ line.next e);
         ran = subst (λ (m : ℕ). LeadsTo p first (items_so_far limit (progress.done ++ piece ∷ [])) (progress.text ++ more) s' m) next_number
