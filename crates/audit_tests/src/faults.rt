@@ -34,19 +34,34 @@ const ROOMY: Writes<'static> = Writes {
     fails: &[],
 };
 
-/// Audits bytes in memory.
+/// A run over bytes in memory: the words of its command line, its trace, and how the source and the sink serve it.
+#[derive(Clone, Copy)]
+struct Run<'a> {
+    words: &'a [&'a str],
+    trace: &'a [u8],
+    reads: Reads<'a>,
+    writes: Writes<'a>,
+}
+
+const DAY_RUN: Run<'static> = Run {
+    words: &["gcaudit"],
+    trace: DAY,
+    reads: WHOLE,
+    writes: ROOMY,
+};
+
+/// The status of a run, and what it wrote.
 fn audited<R: Threads + Abort + Sync>(
     rt: &R,
     alloc: Global,
-    words: &[&str],
-    trace: &[u8],
-    reads: &Reads<'_>,
-    writes: &Writes<'_>,
+    run: &Run<'_>,
 ) -> Result<(Status, MemSink), OutOfMemory> {
+    let reads = run.reads;
+    let writes = run.writes;
     assert!(rt; reads.piece > 0 && writes.piece > 0);
-    let mut source = MemSource::make(alloc, trace, reads.piece, reads.fails)?;
+    let mut source = MemSource::make(alloc, run.trace, reads.piece, reads.fails)?;
     let mut sink = MemSink::make(alloc, writes.room, writes.piece, writes.fails)?;
-    let status = audit(rt, alloc, words, &mut source, &mut sink, &OpenGate);
+    let status = audit(rt, alloc, run.words, &mut source, &mut sink, &OpenGate);
     Ok((status, sink))
 }
 
@@ -66,7 +81,8 @@ fn each_read_fails_in_turn(rt: HostRuntime) -> Result<(), Fail> {
                 piece: 40,
                 fails: &[read],
             };
-            let (status, sink) = audited(&rt, rt.alloc(), &["gcaudit"], DAY, &reads, &ROOMY)?;
+            let run = Run { reads, ..DAY_RUN };
+            let (status, sink) = audited(&rt, rt.alloc(), &run)?;
             assert_eq!(rt; status, want, "read {read}");
             assert_eq!(rt; sink.bytes(), &REPORT[..due], "read {read}");
         }
@@ -80,7 +96,8 @@ fn a_source_of_single_bytes(rt: HostRuntime) -> Result<(), Fail> {
         piece: 1,
         fails: &[],
     };
-    let (status, sink) = audited(&rt, rt.alloc(), &["gcaudit"], DAY, &reads, &ROOMY)?;
+    let run = Run { reads, ..DAY_RUN };
+    let (status, sink) = audited(&rt, rt.alloc(), &run)?;
     assert_eq!(rt; status, Status::Violated);
     assert_eq!(rt; sink.bytes(), REPORT);
     Ok(())
@@ -98,7 +115,8 @@ fn each_write_fails_in_turn(rt: HostRuntime) -> Result<(), Fail> {
                 piece: 7,
                 fails: &[write],
             };
-            let (status, sink) = audited(&rt, rt.alloc(), &["gcaudit"], DAY, &WHOLE, &writes)?;
+            let run = Run { writes, ..DAY_RUN };
+            let (status, sink) = audited(&rt, rt.alloc(), &run)?;
             assert_eq!(rt; status, Status::WriteFault, "write {write}");
             assert_eq!(rt; sink.bytes(), &REPORT[..held.min(257)], "write {write}");
             held = held.saturating_add(7);
@@ -109,7 +127,8 @@ fn each_write_fails_in_turn(rt: HostRuntime) -> Result<(), Fail> {
         piece: 7,
         fails: &[41],
     };
-    let (status, sink) = audited(&rt, rt.alloc(), &["gcaudit"], DAY, &WHOLE, &writes)?;
+    let run = Run { writes, ..DAY_RUN };
+    let (status, sink) = audited(&rt, rt.alloc(), &run)?;
     assert_eq!(rt; status, Status::Violated);
     assert_eq!(rt; sink.bytes(), REPORT);
     Ok(())
@@ -123,7 +142,8 @@ fn a_sink_that_is_full_fails(rt: HostRuntime) -> Result<(), Fail> {
             piece: 4096,
             fails: &[],
         };
-        let (status, sink) = audited(&rt, rt.alloc(), &["gcaudit"], DAY, &WHOLE, &writes)?;
+        let run = Run { writes, ..DAY_RUN };
+        let (status, sink) = audited(&rt, rt.alloc(), &run)?;
         let want = if room < 257 {
             Status::WriteFault
         } else {
@@ -166,33 +186,32 @@ fn a_run_halts_before_the_end(rt: HostRuntime) -> Result<(), Fail> {
             piece: 4096,
             fails: &[],
         };
-        let words = ["gcaudit", "--react", "halt"];
-        let (status, sink) = audited(&rt, rt.alloc(), &words, HALTS, &reads, &writes)?;
+        let run = Run {
+            words: &["gcaudit", "--react", "halt"],
+            trace: HALTS,
+            reads,
+            writes,
+        };
+        let (status, sink) = audited(&rt, rt.alloc(), &run)?;
         assert_eq!(rt; status, want, "read {read}, room {room}");
         assert_eq!(rt; sink.bytes(), &HALTED[..held]);
     }
     Ok(())
 }
 
-/// Two collections, whose lines have 17 bytes each, in pieces of so many bytes and with calls that fail.
+/// Two collections, whose lines have 17 bytes each, and the report on them.
+const COLLECTS: &[u8] = b"{\"op\":\"collect\"}\n{\"op\":\"collect\"}\n";
+
+const COLLECTED: &[u8] = b"gc 1 live 0 traced 0 freed 0\ngc 2 live 0 traced 0 freed 0\n";
+
+/// In pieces of so many bytes, and with calls that fail.
 #[test]
 fn worked_faults(rt: HostRuntime) -> Result<(), Fail> {
-    let trace = b"{\"op\":\"collect\"}\n{\"op\":\"collect\"}\n";
     let none: &[u64] = &[];
     for (reads, writes, held, want) in [
-        (
-            [3].as_slice(),
-            none,
-            "gc 1 live 0 traced 0 freed 0\ngc 2 live 0 traced 0 freed 0\n",
-            Status::ReadFault,
-        ),
-        (
-            [2].as_slice(),
-            none,
-            "gc 1 live 0 traced 0 freed 0\n",
-            Status::ReadFault,
-        ),
-        (none, [2].as_slice(), "gc 1 live ", Status::WriteFault),
+        ([3].as_slice(), none, 58, Status::ReadFault),
+        ([2].as_slice(), none, 29, Status::ReadFault),
+        (none, [2].as_slice(), 10, Status::WriteFault),
     ] {
         let reads = Reads {
             piece: 17,
@@ -203,8 +222,14 @@ fn worked_faults(rt: HostRuntime) -> Result<(), Fail> {
             piece: 10,
             fails: writes,
         };
-        let (status, sink) = audited(&rt, rt.alloc(), &["gcaudit"], trace, &reads, &writes)?;
-        assert_eq!(rt; sink.bytes(), held.as_bytes());
+        let run = Run {
+            trace: COLLECTS,
+            reads,
+            writes,
+            ..DAY_RUN
+        };
+        let (status, sink) = audited(&rt, rt.alloc(), &run)?;
+        assert_eq!(rt; sink.bytes(), &COLLECTED[..held]);
         assert_eq!(rt; status, want);
     }
     Ok(())

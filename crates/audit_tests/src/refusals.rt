@@ -12,21 +12,6 @@ fn a_fault_line_names_its_refusal(rt: HostRuntime) -> Result<(), Fail> {
         (1, Refusal::NotJson, "fault line 1: NotJson\n"),
         (1, Refusal::NotObject, "fault line 1: NotObject\n"),
         (1, Refusal::UnknownOp, "fault line 1: UnknownOp\n"),
-        (
-            1,
-            Refusal::MissingField(FieldName::OpField),
-            "fault line 1: MissingField op\n",
-        ),
-        (
-            1,
-            Refusal::BadField(FieldName::ThreadField),
-            "fault line 1: BadField thread\n",
-        ),
-        (
-            1,
-            Refusal::BadField(FieldName::WeakField),
-            "fault line 1: BadField weak\n",
-        ),
         (2, Refusal::IdNotRising(4), "fault line 2: IdNotRising 4\n"),
         (9, Refusal::TooManyObjects, "fault line 9: TooManyObjects\n"),
         (9, Refusal::TooManySlots, "fault line 9: TooManySlots\n"),
@@ -40,6 +25,22 @@ fn a_fault_line_names_its_refusal(rt: HostRuntime) -> Result<(), Fail> {
     ];
     for (line, refusal, want) in cases {
         let text = fault_text(rt.alloc(), line, &refusal)?;
+        assert_eq!(rt; text.as_slice(), want.as_bytes(), "{want}");
+    }
+    Ok(())
+}
+
+#[test]
+fn a_fault_line_names_the_field(rt: HostRuntime) -> Result<(), Fail> {
+    let missing = Refusal::MissingField(FieldName::OpField);
+    let bad = Refusal::BadField(FieldName::ThreadField);
+    let bad_weak = Refusal::BadField(FieldName::WeakField);
+    for (refusal, want) in [
+        (missing, "fault line 1: MissingField op\n"),
+        (bad, "fault line 1: BadField thread\n"),
+        (bad_weak, "fault line 1: BadField weak\n"),
+    ] {
+        let text = fault_text(rt.alloc(), 1, &refusal)?;
         assert_eq!(rt; text.as_slice(), want.as_bytes(), "{want}");
     }
     Ok(())

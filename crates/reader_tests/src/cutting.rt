@@ -7,24 +7,29 @@ use std::process::Abort;
 use std::test::Fail;
 use trace_reader::{CutError, LineCutter};
 
-// Asserts the next line, and its number.
-fn gives(
-    rt: &impl Abort,
-    cutter: &mut LineCutter,
-    source: &mut MemSource,
+// A line of a trace by its number, and its bytes.
+#[derive(Drop)]
+struct CutLine<'a> {
     number: u64,
-    line: &[u8],
-) {
-    assert_eq!(rt; cutter.next(source), Ok(Some(number)));
-    assert_eq!(rt; cutter.line(), line);
+    bytes: &'a [u8],
+}
+
+fn line(number: u64, bytes: &[u8]) -> CutLine<'_> {
+    CutLine { number, bytes }
+}
+
+// Asserts the next line.
+fn gives(rt: &impl Abort, cutter: &mut LineCutter, source: &mut MemSource, want: CutLine<'_>) {
+    assert_eq!(rt; cutter.next(source), Ok(Some(want.number)));
+    assert_eq!(rt; cutter.line(), want.bytes);
 }
 
 #[test]
 fn a_trace_may_have_as_many_bytes_as_its_limit(rt: HostRuntime) -> Result<(), Fail> {
     let mut cutter = LineCutter::make(rt.alloc(), 10)?;
     let mut source = MemSource::make(rt.alloc(), b"abc\ndefgh\n", 100, &[])?;
-    gives(&rt, &mut cutter, &mut source, 1, b"abc");
-    gives(&rt, &mut cutter, &mut source, 2, b"defgh");
+    gives(&rt, &mut cutter, &mut source, line(1, b"abc"));
+    gives(&rt, &mut cutter, &mut source, line(2, b"defgh"));
     assert_eq!(rt; cutter.next(&mut source), Ok(None));
     assert_eq!(rt; cutter.next(&mut source), Ok(None));
     Ok(())
@@ -34,7 +39,7 @@ fn a_trace_may_have_as_many_bytes_as_its_limit(rt: HostRuntime) -> Result<(), Fa
 fn a_trace_may_not_have_one_byte_more(rt: HostRuntime) -> Result<(), Fail> {
     let mut cutter = LineCutter::make(rt.alloc(), 10)?;
     let mut source = MemSource::make(rt.alloc(), b"abc\ndefghij", 100, &[])?;
-    gives(&rt, &mut cutter, &mut source, 1, b"abc");
+    gives(&rt, &mut cutter, &mut source, line(1, b"abc"));
     assert_eq!(rt; cutter.next(&mut source), Err(CutError::TraceTooLong));
     assert_eq!(rt; cutter.next(&mut source), Err(CutError::TraceTooLong));
     Ok(())
@@ -46,9 +51,19 @@ fn lines_end_at_newlines_in_whatever_pieces_they_come(rt: HostRuntime) -> Result
     for piece in [1, 7, 100] {
         let mut cutter = LineCutter::make(rt.alloc(), LONGEST_TRACE)?;
         let mut source = MemSource::make(rt.alloc(), trace, piece, &[])?;
-        gives(&rt, &mut cutter, &mut source, 1, b"{\"op\":\"collect\"}\r");
-        gives(&rt, &mut cutter, &mut source, 2, b"");
-        gives(&rt, &mut cutter, &mut source, 3, b"{\"op\":\"collect\"}");
+        gives(
+            &rt,
+            &mut cutter,
+            &mut source,
+            line(1, b"{\"op\":\"collect\"}\r"),
+        );
+        gives(&rt, &mut cutter, &mut source, line(2, b""));
+        gives(
+            &rt,
+            &mut cutter,
+            &mut source,
+            line(3, b"{\"op\":\"collect\"}"),
+        );
         assert_eq!(rt; cutter.next(&mut source), Ok(None));
     }
     Ok(())
@@ -59,9 +74,9 @@ fn a_failed_read_loses_no_byte(rt: HostRuntime) -> Result<(), Fail> {
     let mut cutter = LineCutter::make(rt.alloc(), LONGEST_TRACE)?;
     let mut source = MemSource::make(rt.alloc(), b"abcdefgh\nij\n", 5, &[2, 4])?;
     assert_eq!(rt; cutter.next(&mut source), Err(CutError::ReadFault));
-    gives(&rt, &mut cutter, &mut source, 1, b"abcdefgh");
+    gives(&rt, &mut cutter, &mut source, line(1, b"abcdefgh"));
     assert_eq!(rt; cutter.next(&mut source), Err(CutError::ReadFault));
-    gives(&rt, &mut cutter, &mut source, 2, b"ij");
+    gives(&rt, &mut cutter, &mut source, line(2, b"ij"));
     assert_eq!(rt; cutter.next(&mut source), Ok(None));
     Ok(())
 }
@@ -114,9 +129,14 @@ fn a_long_trace_is_cut_to_its_end(rt: HostRuntime) -> Result<(), Fail> {
     let mut cutter = LineCutter::make(rt.alloc(), LONGEST_TRACE)?;
     let mut source = MemSource::make(rt.alloc(), trace.as_bytes(), 50_001, &[])?;
     for turn in 0..20_000u64 {
-        gives(&rt, &mut cutter, &mut source, 3 * turn + 1, b"0123456789");
-        gives(&rt, &mut cutter, &mut source, 3 * turn + 2, b"abc");
-        gives(&rt, &mut cutter, &mut source, 3 * turn + 3, b"");
+        gives(
+            &rt,
+            &mut cutter,
+            &mut source,
+            line(3 * turn + 1, b"0123456789"),
+        );
+        gives(&rt, &mut cutter, &mut source, line(3 * turn + 2, b"abc"));
+        gives(&rt, &mut cutter, &mut source, line(3 * turn + 3, b""));
     }
     assert_eq!(rt; cutter.next(&mut source), Ok(None));
     Ok(())
