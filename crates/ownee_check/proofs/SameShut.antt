@@ -95,7 +95,8 @@ levels-same p s other l agree are = record {
   arrives = λ cell id held. go (arrival_in l.arrivals cell) id (arrival_in l.arrivals cell).level (are.arrives cell id held);
 }
   where
-    go : (a : Arrival) (id n : ℕ) → AtLevel n (ArrivesFirst p s a id) (ArrivesNext p s a id) → AtLevel n (ArrivesFirst p (shutting s other) a id) (ArrivesNext p (shutting s other) a id)
+    go : (a : Arrival) (id n : ℕ) → AtLevel n (ArrivesFirst p s a id) (ArrivesNext (record { placed = p; search = s }) a id) →
+        AtLevel n (ArrivesFirst p (shutting s other) a id) (ArrivesNext (record { placed = p; search = shutting s other }) a id)
     go a id zero at = at
     go a id (suc zero) at = record { way = at.way; first = at.first; by = at.by; leads = at.leads }
     go a id (suc (suc n)) at = record {

@@ -30,7 +30,7 @@ pub ancestor-next : (arrivals : List Arrival) (cell : ℕ) (ancestor : Option �
 ancestor-next arrivals cell ancestor beyond before p s start id g levels held is =
     let a = arrival_in arrivals cell in
     let two : (arrival_in arrivals cell).level ≡ suc (suc ((arrival_in arrivals cell).level - 2)) = omega arith in
-    let arrives = subst (λ k. AtLevel k (ArrivesFirst p s a id) (ArrivesNext p s a id)) two (levels.arrives cell id held) in
+    let arrives = subst (λ k. AtLevel k (ArrivesFirst p s a id) (ArrivesNext (record { placed = p; search = s }) a id)) two (levels.arrives cell id held) in
     let level = level-before p s (record { start = start; arrivals = arrivals }) levels (a.level - 2) id arrives.before a.from arrives.least arrives.held in
     let known = before p s start arrives.before g levels arrives.held is in
     let above = known.above in

@@ -37,7 +37,8 @@ find-here ways w =
     find-append (λ v. v.to == w.to) ways (w ∷ []) ∙ ap (λ b. option_or (find (λ v. v.to == w.to) ways) (cond b (Some w) None)) (eq-eqb w.to w.to refl)
 
 -- one source reference more, to another object
-comes-other : (p : Placed) (start : Start) (ways : List Way) (w : Way) (a : Arrival) (id : ℕ) → w.to ≢ id → ComesFirst p start ways a id → ComesFirst p start (ways ++ w ∷ []) a id
+comes-other : (p : Placed) (start : Start) (ways : List Way) (w : Way) (a : Arrival) (id : ℕ) → w.to ≢ id →
+    ComesFirst p (record { start = start; ways = ways }) a id → ComesFirst p (record { start = start; ways = ways ++ w ∷ [] }) a id
 comes-other p start ways w a id other comes = record {
   level = comes.level;
   none = λ is. find-other ways w id other ∙ comes.none is;
@@ -67,7 +68,8 @@ pub taken-nothing : (p : Placed) (start : Start) (cells : ℕ) (f : Front) → c
 taken-nothing p start cells f many are = record {
   each = ap length are ∙ length-replicate cells NOWHERE ∙ many;
   arrivals = λ cell id held.
-      subst (λ (a : Arrival). ComesFirst p start [] a id) (sym (nothing-arrived cells f are cell)) (record { level = omega arith; none = λ is. refl; some = λ is. absurd (omega arith) });
+      subst (λ (a : Arrival). ComesFirst p (record { start = start; ways = [] }) a id) (sym (nothing-arrived cells f are cell))
+      (record { level = omega arith; none = λ is. refl; some = λ is. absurd (omega arith) });
   low = λ cell. subst (λ (a : Arrival). a.level ≤ 1) (sym (nothing-arrived cells f are cell)) (omega arith);
 }
 
@@ -94,7 +96,7 @@ module _ (p : Placed) (placed : IsPlaced p) (start : Start) (ways : List Way) (f
   kept_level true new = first
   kept_level false new = one_from_low known.level (taken.low cell) new
 
-  here : (b : Bool) → is_new known ≡ b → ComesFirst p start (ways ++ w ∷ []) (cond b a known) w.to
+  here : (b : Bool) → is_new known ≡ b → ComesFirst p (record { start = start; ways = ways ++ w ∷ [] }) (cond b a known) w.to
   here true new =
       let none = (taken.arrivals cell w.to held).none (eqb-true known.level 0 new) in
       record {
@@ -114,8 +116,8 @@ module _ (p : Placed) (placed : IsPlaced p) (start : Start) (ways : List Way) (f
   pub first-taken : HasTaken p start (ways ++ w ∷ []) next_first
   first-taken = record {
     each = length-set f.arrivals cell kept ∙ taken.each;
-    arrivals = at-each (λ c b. (id : ℕ) → id_in p c ≡ Some id → ComesFirst p start (ways ++ w ∷ []) b id) f cell kept first-within
-        (λ id at. subst (λ n. ComesFirst p start (ways ++ w ∷ []) kept n) (same_Some (sym held ∙ at)) (here (is_new known) refl))
+    arrivals = at-each (λ c b. (id : ℕ) → id_in p c ≡ Some id → ComesFirst p (record { start = start; ways = ways ++ w ∷ [] }) b id) f cell kept first-within
+        (λ id at. subst (λ n. ComesFirst p (record { start = start; ways = ways ++ w ∷ [] }) kept n) (same_Some (sym held ∙ at)) (here (is_new known) refl))
         (λ c other id at. comes-other p start ways w (arrival_in f.arrivals c) id (λ same. other (placed.once c cell id at (held ∙ ap Some same))) (taken.arrivals c id at));
     low = at-each (λ c b. b.level ≤ 1) f cell kept first-within (let one = kept_level (is_new known) refl in omega arith) (λ c other. taken.low c);
   }

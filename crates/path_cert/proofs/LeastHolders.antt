@@ -1,7 +1,6 @@
 -- Which object of a level the path comes by, after the edges of some of its objects.
 use Rattle.std.proofs.Common.{◌≡◌, ℕ, ◌<◌, ◌≤◌, Bool, true, false, ◌&&◌, ◌||◌, cond, ⊎_elim, ◌⊎◌, inl, inr, List, [], ◌∷◌, ◌++◌, get_or, sym, refl}
 use Rattle.std.proofs.Common.{ap, subst, ◌∙◌, arith, eqb-true, eq-eqb, ◌==◌, IsTrue, Option, None, Some, ltb, append_assoc, append-nil}
-use Rattle.std.specs.Prelude.{find}
 use Rattle.std.specs.Option.{is_some, option_map_or}
 use Rattle.std.proofs.lemmas.Bool.{cases_lt, or_cases, or_left, or_right, false≢true, false_from_ne_true, lt-ltb, le-ltb}
 use Rattle.graph_meaning.specs.Heap.{edges}
@@ -10,11 +9,11 @@ use Rattle.graph_meaning.specs.Roles.{id_at}
 use Rattle.graph_meaning.proofs.Membership.{has_id-append}
 use Rattle.path_cert.specs.declared.arrival.Arrival.{Arrival}
 use Rattle.path_cert.proofs.Rounds.{find-passes}
-use Rattle.path_cert.specs.Frontiers.{Round, better, by_edge, by_object, by_objects}
+use Rattle.path_cert.specs.Frontiers.{Round, better, by_edge, first_edge, by_object, by_objects}
 
 -- the first edge of the object in a cell to the object of an id
 abbrev pub edge_to : Round → ℕ → ℕ → Option (ℕ × ℕ)
-edge_to r x id = find (λ e. e.1 == id) (edges r.placed.table (id_at r.placed.cells x))
+edge_to r x id = first_edge (edges r.placed.table (id_at r.placed.cells x)) id
 
 abbrev pub is_open : Round → ℕ → Type 0
 is_open r x = get_or r.shut x false ≡ false
@@ -70,17 +69,22 @@ module _ (r : Round) (positive : 0 < r.level) (id : ℕ) where
     edge_is : edge_to r x id ≡ Some (e.0, id)
     edge_is = edge ∙ ap (λ y. Some (e.0, y)) to
 
-    -- it is the first that has an edge
-    first : (a : Arrival) → NoneHolds r xs a id → Held (xs ++ x ∷ []) (better r.placed a by)
-    first a h = subst (λ (b : Arrival). Held (xs ++ x ∷ []) b) (sym taken) (inr (record {
+    -- the path comes by it where none of the others that have an edge has a lesser id
+    by_least : ((y : ℕ) → IsTrue (has_id xs y) → is_open r y → IsTrue (is_some (edge_to r y id)) → id_at r.placed.cells x ≤ id_at r.placed.cells y) → Held (xs ++ x ∷ []) by
+    by_least low = inr (record {
       level = refl;
       among = last xs x;
       opens = opened;
       edge = edge_is;
       least =
-          among-more xs x (λ y. is_open r y → IsTrue (is_some (edge_to r y id)) → id_at r.placed.cells x ≤ id_at r.placed.cells y)
-          (λ y at y_open some. absurd (false≢true (sym (ap is_some (h.none y at y_open)) ∙ some))) (λ y_open some. omega arith);
-    }))
+          among-more xs x (λ y. is_open r y → IsTrue (is_some (edge_to r y id)) → id_at r.placed.cells x ≤ id_at r.placed.cells y) low
+          (λ y_open some. omega arith);
+    })
+
+    -- it is the first that has an edge
+    first : (a : Arrival) → NoneHolds r xs a id → Held (xs ++ x ∷ []) (better r.placed a by)
+    first a h = subst (λ (b : Arrival). Held (xs ++ x ∷ []) b) (sym taken) (by_least
+        (λ y at y_open some. absurd (false≢true (sym (ap is_some (h.none y at y_open)) ∙ some))))
       where
         taken : better r.placed a by ≡ by
         taken = ap (λ n. cond ((n == 0) || ((a.level == r.level) && ltb (id_at r.placed.cells x) (id_at r.placed.cells a.from))) by a) h.level
@@ -95,15 +99,8 @@ module _ (r : Round) (positive : 0 < r.level) (id : ℕ) where
             (λ i. cond (old i || ((eq-eqb a.level r.level h.level) i && is i)) by a)
 
         lower : id_at r.placed.cells x < id_at r.placed.cells a.from → Held (xs ++ x ∷ []) (better r.placed a by)
-        lower less = subst (λ (b : Arrival). Held (xs ++ x ∷ []) b) (sym (test true (lt-ltb (id_at r.placed.cells x) (id_at r.placed.cells a.from) less))) (inr (record {
-          level = refl;
-          among = last xs x;
-          opens = opened;
-          edge = edge_is;
-          least =
-              among-more xs x (λ y. is_open r y → IsTrue (is_some (edge_to r y id)) → id_at r.placed.cells x ≤ id_at r.placed.cells y)
-              (λ y at y_open some. let low = h.least y at y_open some in omega arith) (λ y_open some. omega arith);
-        }))
+        lower less = subst (λ (b : Arrival). Held (xs ++ x ∷ []) b) (sym (test true (lt-ltb (id_at r.placed.cells x) (id_at r.placed.cells a.from) less)))
+            (by_least (λ y at y_open some. let low = h.least y at y_open some in omega arith))
 
         higher : id_at r.placed.cells a.from ≤ id_at r.placed.cells x → Held (xs ++ x ∷ []) (better r.placed a by)
         higher low = subst (λ (b : Arrival). Held (xs ++ x ∷ []) b) (sym (test false (le-ltb (id_at r.placed.cells x) (id_at r.placed.cells a.from) low))) (inr (record {

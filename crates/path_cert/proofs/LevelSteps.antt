@@ -16,10 +16,9 @@ use Rattle.graph_meaning.proofs.Membership.{has_id-append, has_id-filter, list_a
 use Rattle.object_table.specs.Placed.{Placed, id_in, IsPlaced}
 use Rattle.path_cert.specs.declared.arrival.Arrival.{Arrival}
 use Rattle.path_cert.specs.Levels.{Search, graph_of, ends_of, arrival_in, is_new, some_level, AtLevel, ArrivesFirst, ArrivesNext, AreLevelsOf}
-use Rattle.path_cert.specs.Frontiers.{Front, level_at, Grows, HasTaken, Round, by_objects, GoesUpTo, IsSettled, ShutByCell, IsAtLevel}
+use Rattle.path_cert.specs.Frontiers.{Front, level_at, Grows, HasTaken, Round, by_objects, AreByObjects, GoesUpTo, IsSettled, ShutByCell, IsAtLevel}
 use Rattle.path_cert.proofs.HeldObjects.{held-id, id-held}
 use Rattle.path_cert.proofs.LeastHolders.{edge_to, is_open, NoneHolds, LeastHolds, by_objects-least, by_objects-stays}
-use Rattle.path_cert.proofs.NextLevel.{AreByObjects}
 use Rattle.path_cert.proofs.Rounds.{find-least, within-node, level-within, level-first, level-from, level-last, level-distance, no-distance, level-rises}
 
 not_equal : (a b : ℕ) → a ≢ b → (a == b) ≡ false
@@ -62,7 +61,7 @@ module _ (p : Placed) (placed : IsPlaced p) (rising : AllPairs (λ a b. a < b) (
 
   -- ---- where a level is settled
 
-  module _ (n : ℕ) (f : Front) (place : ℕ) (now : IsAtLevel p s n f place) where
+  module _ (n : ℕ) (f : Front) (place : ℕ) (now : IsAtLevel (record { placed = p; search = s }) n f place) where
     level-of : (cell id : ℕ) → id_in p cell ≡ Some id → IsTrue (has_id (level g ends n) id) → level_at f cell ≡ suc n
     level-of cell id held at = go (level_at f cell) refl
       where
@@ -97,7 +96,8 @@ module _ (p : Placed) (placed : IsPlaced p) (rising : AllPairs (λ a b. a < b) (
 
   -- ---- one level more
 
-  module _ (shut : List Bool) (by_cell : ShutByCell p s shut) (n most : ℕ) (two : most ≡ suc (suc n)) (f : Front) (place : ℕ) (now : IsAtLevel p s n f place) (up_to : GoesUpTo p (suc n) f) where
+  module _ (shut : List Bool) (by_cell : ShutByCell p s shut) (n most : ℕ) (two : most ≡ suc (suc n)) (f : Front) (place : ℕ)
+      (now : IsAtLevel (record { placed = p; search = s }) n f place) (up_to : GoesUpTo p (suc n) f) where
     abbrev r : Round
     r = record { placed = p; shut = shut; level = most }
 
@@ -120,17 +120,17 @@ module _ (p : Placed) (placed : IsPlaced p) (rising : AllPairs (λ a b. a < b) (
         )
 
     module _ (id : ℕ) (node : IsTrue (has_id g.nodes id)) (new : has_id (within g ends n) id ≡ false) (a : Arrival) where
-      settled-none : NoneHolds r xs a id → IsSettled p s (suc n) a id
+      settled-none : NoneHolds r xs a id → IsSettled (record { placed = p; search = s }) (suc n) a id
       settled-none h = record {
         none = λ is. false_from_ne_true _ (λ there.
             let last = level-last g ends n id there new in
             let cell = among last.0 id last.1 last.2 last.3 in
             false≢true (sym (ap is_some (h.none cell.0 cell.2 cell.3)) ∙ cell.4));
         some = λ m is. absurd (let e = h.level in omega arith);
-        arrives = subst (λ k. AtLevel k (ArrivesFirst p s a id) (ArrivesNext p s a id)) (sym h.level) tt;
+        arrives = subst (λ k. AtLevel k (ArrivesFirst p s a id) (ArrivesNext (record { placed = p; search = s }) a id)) (sym h.level) tt;
       }
 
-      settled-some : LeastHolds r xs a id → IsSettled p s (suc n) a id
+      settled-some : LeastHolds r xs a id → IsSettled (record { placed = p; search = s }) (suc n) a id
       unfolding predecessor
       settled-some h =
           let held = held-id p a.from (up_to.held a.from (has_id-drop place f.order a.from h.among)) in
@@ -146,7 +146,7 @@ module _ (p : Placed) (placed : IsPlaced p) (rising : AllPairs (λ a b. a < b) (
             some = λ m is.
                 let same : suc n ≡ m = omega arith in
                 (omega arith, subst (λ k. IsTrue (has_id (level g ends k) id)) same (level-from g ends n id there new));
-            arrives = subst (λ k. AtLevel k (ArrivesFirst p s a id) (ArrivesNext p s a id)) (sym this_level) (record {
+            arrives = subst (λ k. AtLevel k (ArrivesFirst p s a id) (ArrivesNext (record { placed = p; search = s }) a id)) (sym this_level) (record {
               before = x;
               held = held;
               least = find-least (λ z. g.passable z && has_id (g.targets z) id) (level g ends n) x (level-rises g ends rising n) at (and_from _ _ passes target)
@@ -160,7 +160,7 @@ module _ (p : Placed) (placed : IsPlaced p) (rising : AllPairs (λ a b. a < b) (
             });
           }
 
-    settled-old : (a : Arrival) (id : ℕ) → 0 < a.level → IsSettled p s n a id → IsSettled p s (suc n) a id
+    settled-old : (a : Arrival) (id : ℕ) → 0 < a.level → IsSettled (record { placed = p; search = s }) n a id → IsSettled (record { placed = p; search = s }) (suc n) a id
     settled-old a id old was = record {
       none = λ is. absurd (omega arith);
       some = λ m is. (let had = was.some m is in let few = had.0 in (omega arith, had.1));
@@ -168,10 +168,10 @@ module _ (p : Placed) (placed : IsPlaced p) (rising : AllPairs (λ a b. a < b) (
     }
 
     module _ (h : Front) (are : AreByObjects r xs f.arrivals h.arrivals) (grows : Grows p f h) where
-      settled-next : (cell id : ℕ) → id_in p cell ≡ Some id → IsSettled p s (suc n) (arrival_in h.arrivals cell) id
-      settled-next cell id held = subst (λ b. IsSettled p s (suc n) b id) (sym (are cell id held)) (go (level_at f cell) refl)
+      settled-next : (cell id : ℕ) → id_in p cell ≡ Some id → IsSettled (record { placed = p; search = s }) (suc n) (arrival_in h.arrivals cell) id
+      settled-next cell id held = subst (λ b. IsSettled (record { placed = p; search = s }) (suc n) b id) (sym (are cell id held)) (go (level_at f cell) refl)
         where
-          go : (k : ℕ) → level_at f cell ≡ k → IsSettled p s (suc n) (by_objects r xs (arrival_in f.arrivals cell) id) id
+          go : (k : ℕ) → level_at f cell ≡ k → IsSettled (record { placed = p; search = s }) (suc n) (by_objects r xs (arrival_in f.arrivals cell) id) id
           go zero is =
               let new = (now.settled cell id held).none is in
               let node = cell-node cell id held in
@@ -180,7 +180,7 @@ module _ (p : Placed) (placed : IsPlaced p) (rising : AllPairs (λ a b. a < b) (
           go (suc m) is =
               let old : 0 < level_at f cell = omega arith in
               let low : level_at f cell < most = let l = up_to.low cell in omega arith in
-              subst (λ b. IsSettled p s (suc n) b id) (sym (by_objects-stays r positive id xs (arrival_in f.arrivals cell) old low))
+              subst (λ b. IsSettled (record { placed = p; search = s }) (suc n) b id) (sym (by_objects-stays r positive id xs (arrival_in f.arrivals cell) old low))
               (settled-old (arrival_in f.arrivals cell) id old (now.settled cell id held))
 
       -- what got this level is what is new in the order
@@ -212,7 +212,7 @@ module _ (p : Placed) (placed : IsPlaced p) (rising : AllPairs (λ a b. a < b) (
               ap (λ b. b && not (is_new (by_objects r xs (arrival_in f.arrivals cell) id))) (not_equal (level_at f cell) 0 (λ same. omega arith))
               ∙ sym (ap (λ (b : Arrival). b.level == suc (suc n)) stays ∙ not_equal (level_at f cell) (suc (suc n)) (λ same. omega arith))
 
-      pub at-next : IsAtLevel p s (suc n) h (length f.order)
+      pub at-next : IsAtLevel (record { placed = p; search = s }) (suc n) h (length f.order)
       at-next = record {
         settled = settled-next;
         last = λ cell id held.
@@ -236,7 +236,7 @@ module _ (p : Placed) (placed : IsPlaced p) (rising : AllPairs (λ a b. a < b) (
         and_true true = refl
         and_true false = refl
 
-    settled-first : (cell id : ℕ) → id_in p cell ≡ Some id → IsSettled p s 0 (arrival_in f.arrivals cell) id
+    settled-first : (cell id : ℕ) → id_in p cell ≡ Some id → IsSettled (record { placed = p; search = s }) 0 (arrival_in f.arrivals cell) id
     settled-first cell id held =
         let comes = taken.arrivals cell id held in
         let node = cell-node cell id held in
@@ -253,14 +253,14 @@ module _ (p : Placed) (placed : IsPlaced p) (rising : AllPairs (λ a b. a < b) (
         }
       where
         go : (k : ℕ) → (arrival_in f.arrivals cell).level ≡ k →
-            AtLevel (arrival_in f.arrivals cell).level (ArrivesFirst p s (arrival_in f.arrivals cell) id) (ArrivesNext p s (arrival_in f.arrivals cell) id)
-        go zero is = subst (λ k. AtLevel k (ArrivesFirst p s (arrival_in f.arrivals cell) id) (ArrivesNext p s (arrival_in f.arrivals cell) id)) (sym is) tt
+            AtLevel (arrival_in f.arrivals cell).level (ArrivesFirst p s (arrival_in f.arrivals cell) id) (ArrivesNext (record { placed = p; search = s }) (arrival_in f.arrivals cell) id)
+        go zero is = subst (λ k. AtLevel k (ArrivesFirst p s (arrival_in f.arrivals cell) id) (ArrivesNext (record { placed = p; search = s }) (arrival_in f.arrivals cell) id)) (sym is) tt
         go (suc zero) is =
-            subst (λ k. AtLevel k (ArrivesFirst p s (arrival_in f.arrivals cell) id) (ArrivesNext p s (arrival_in f.arrivals cell) id)) (sym is)
+            subst (λ k. AtLevel k (ArrivesFirst p s (arrival_in f.arrivals cell) id) (ArrivesNext (record { placed = p; search = s }) (arrival_in f.arrivals cell) id)) (sym is)
             (let by = (taken.arrivals cell id held).some is in record { way = by.0; first = by.1; by = by.2; leads = by.3 })
         go (suc (suc k)) is = absurd (let few = (taken.arrivals cell id held).level in omega arith)
 
-    pub at-first : IsAtLevel p s 0 f 0
+    pub at-first : IsAtLevel (record { placed = p; search = s }) 0 f 0
     at-first = record {
       settled = settled-first;
       last = λ cell id held.

@@ -14,7 +14,7 @@ use Rattle.graph_meaning.proofs.Membership.{All-has_id}
 use Rattle.object_table.specs.Placed.{Placed, id_in, IsPlaced}
 use Rattle.path_cert.specs.declared.arrival.Arrival.{Arrival}
 use Rattle.path_cert.specs.Levels.{arrival_in, is_new}
-use Rattle.path_cert.specs.Frontiers.{Front, Grows, Round, better, by_edge, by_edges, by_object, by_objects, GoesUpTo, IsUnderWay}
+use Rattle.path_cert.specs.Frontiers.{Front, Grows, Round, better, by_edge, by_some_edge, first_edge, by_object, by_objects, AreByObjects, GoesUpTo, IsUnderWay}
 use Rattle.path_cert.proofs.Growing.{with_arrival, at-each, Grows-arrival, order-grown}
 
 -- ---- which arrival is kept
@@ -66,7 +66,7 @@ module _ (r : Round) (x : ℕ) (positive : 0 < r.level) where
       go false left = ap (λ b. cond b (record { level = r.level; from = x; slot = d.0 }) known) left
 
   -- one edge more, to another object
-  by_edges-other : (es : List (ℕ × ℕ)) (e : ℕ × ℕ) (known : Arrival) (id : ℕ) → e.1 ≢ id → by_edges r x (es ++ e ∷ []) known id ≡ by_edges r x es known id
+  by_edges-other : (es : List (ℕ × ℕ)) (e : ℕ × ℕ) (known : Arrival) (id : ℕ) → e.1 ≢ id → by_some_edge r x known (first_edge (es ++ e ∷ []) id) ≡ by_some_edge r x known (first_edge es id)
   by_edges-other es e known id other =
       let last : (e.1 == id) ≡ false = false_from_ne_true (e.1 == id) (λ same. other (eqb-true e.1 id same)) in
       ap (λ o. option_map_or (by_edge r x known) o known)
@@ -78,7 +78,7 @@ module _ (r : Round) (x : ℕ) (positive : 0 < r.level) where
       or_none (Some d) = refl
 
   -- one edge more, to this object
-  by_edges-here : (es : List (ℕ × ℕ)) (e : ℕ × ℕ) (known : Arrival) → by_edges r x (es ++ e ∷ []) known e.1 ≡ by_edge r x (by_edges r x es known e.1) e
+  by_edges-here : (es : List (ℕ × ℕ)) (e : ℕ × ℕ) (known : Arrival) → by_some_edge r x known (first_edge (es ++ e ∷ []) e.1) ≡ by_edge r x (by_some_edge r x known (first_edge es e.1)) e
   by_edges-here es e known =
       ap (λ o. option_map_or (by_edge r x known) o known) (find-append (λ d. d.1 == e.1) es (e ∷ []) ∙ ap (λ b. option_or (find (λ d. d.1 == e.1) es) (cond b (Some e) None)) (eq-eqb e.1 e.1 refl))
       ∙ go (find (λ d. d.1 == e.1) es)
@@ -91,7 +91,7 @@ module _ (r : Round) (x : ℕ) (positive : 0 < r.level) where
 
 -- the arrivals after some edges of the object in the cell x, from those before
 abbrev pub AreBy : Round → ℕ → List (ℕ × ℕ) → List Arrival → List Arrival → Type 0
-AreBy r x es before after = (to id : ℕ) → id_in r.placed to ≡ Some id → arrival_in after to ≡ by_edges r x es (arrival_in before to) id
+AreBy r x es before after = (to id : ℕ) → id_in r.placed to ≡ Some id → arrival_in after to ≡ by_some_edge r x (arrival_in before to) (first_edge es id)
 
 module _ (r : Round) (placed : IsPlaced r.placed) (x : ℕ) (positive : 0 < r.level) (held : IsSome (id_in r.placed x)) (f : Front)
     (target y slot : ℕ) (at_target : id_in r.placed target ≡ Some y) (under_way : IsUnderWay r.placed r.level f) where
@@ -129,10 +129,10 @@ module _ (r : Round) (placed : IsPlaced r.placed) (x : ℕ) (positive : 0 < r.le
 
     pub next-by : (es : List (ℕ × ℕ)) (before : List Arrival) → AreBy r x es before f.arrivals → AreBy r x (es ++ (slot, y) ∷ []) before next.arrivals
     next-by es before are to id at_to =
-        at-each (λ c a. (n : ℕ) → id_in r.placed c ≡ Some n → a ≡ by_edges r x (es ++ (slot, y) ∷ []) (arrival_in before c) n) f target kept within
+        at-each (λ c a. (n : ℕ) → id_in r.placed c ≡ Some n → a ≡ by_some_edge r x (arrival_in before c) (first_edge (es ++ (slot, y) ∷ []) n)) f target kept within
         (λ n at_n.
         let same : y ≡ n = same_Some (sym at_target ∙ at_n) in
-        subst (λ n. kept ≡ by_edges r x (es ++ (slot, y) ∷ []) (arrival_in before target) n) same
+        subst (λ n. kept ≡ by_some_edge r x (arrival_in before target) (first_edge (es ++ (slot, y) ∷ []) n)) same
         (ap (λ a. by_edge r x a (slot, y)) (are target y at_target) ∙ sym (by_edges-here r x positive es (slot, y) (arrival_in before target))))
         (λ c other n at_n. are c n at_n ∙ sym (by_edges-other r x positive es (slot, y) (arrival_in before c) n (λ same. other (placed.once c target n at_n (at_target ∙ ap Some same)))))
         to id at_to
@@ -156,9 +156,6 @@ by_objects-snoc : (r : Round) (xs : List ℕ) (x : ℕ) (known : Arrival) (id : 
     by_objects r (xs ++ x ∷ []) known id ≡ cond (get_or r.shut x false) (by_objects r xs known id) (by_object r x (by_objects r xs known id) id)
 by_objects-snoc r [] x known id = refl
 by_objects-snoc r (z ∷ xs) x known id = by_objects-snoc r xs x (cond (get_or r.shut z false) known (by_object r z known id)) id
-
-abbrev pub AreByObjects : Round → List ℕ → List Arrival → List Arrival → Type 0
-AreByObjects r xs before after = (cell id : ℕ) → id_in r.placed cell ≡ Some id → arrival_in after cell ≡ by_objects r xs (arrival_in before cell) id
 
 module _ (r : Round) (xs : List ℕ) (x : ℕ) (before now : List Arrival) (are : AreByObjects r xs before now) where
   pub by_objects-shut : get_or r.shut x false ≡ true → AreByObjects r (xs ++ x ∷ []) before now

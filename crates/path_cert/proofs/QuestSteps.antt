@@ -71,7 +71,7 @@ MeetsAll-more r cells cell a b c first next = record {
 same_Some : {x y : ℕ} → Some x ≡ Some y → x ≡ y
 same_Some e = cc
 
-pub Reaches-none : (p : Placed) (r : RoleTable) (s : Sought) → Reaches p r [] s s
+pub Reaches-none : (p : Placed) (r : RoleTable) (s : Sought) → Reaches (record { placed = p; roles = r }) [] s s
 Reaches-none p r s = record {
   cells = [];
   are = λ cell id at. refl;
@@ -79,8 +79,8 @@ Reaches-none p r s = record {
   meets = MeetsAll-none r s;
 }
 
-pub Reaches-more : (p : Placed) → IsPlaced p → (r : RoleTable) (ids : List ℕ) (cell id : ℕ) (a b c : Sought) → Reaches p r ids a b →
-    id_in p cell ≡ Some id → MeetsAll r (cell ∷ []) b c → Reaches p r (ids ++ id ∷ []) a c
+pub Reaches-more : (p : Placed) → IsPlaced p → (r : RoleTable) (ids : List ℕ) (cell id : ℕ) (a b c : Sought) → Reaches (record { placed = p; roles = r }) ids a b →
+    id_in p cell ≡ Some id → MeetsAll r (cell ∷ []) b c → Reaches (record { placed = p; roles = r }) (ids ++ id ∷ []) a c
 Reaches-more p placed r ids cell id a b c first held next = record {
   cells = first.cells ++ cell ∷ [];
   are = λ x y at.
@@ -142,7 +142,8 @@ module _ (q : Quest) (placed : IsPlaced q.placed) where
       let edge = subst (λ y. IsTrue (has_id (targets p.table y) id)) (id-held p cell x.0 x.1) at in
       (reached_nodes-closed g sources).along_edges x.0 id x.2 passes (edge, there)
 
-  module _ (cell : ℕ) (s t : Sought) (now : IsSearchingBut q cell s) (leads : LeadsToFound q cell) (reaches : Reaches p q.roles (targets p.table (id_at p.cells cell)) s t) where
+  module _ (cell : ℕ) (s t : Sought) (now : IsSearchingBut q cell s) (leads : LeadsToFound q cell)
+      (reaches : Reaches (record { placed = p; roles = q.roles }) (targets p.table (id_at p.cells cell)) s t) where
     still : (x : ℕ) → IsTrue (s.met x) → IsTrue (t.met x)
     still x met = reaches.meets.met x ∙ or_left _ _ met
 
@@ -254,7 +255,7 @@ searching-held q s now x at =
     (let is = some-id (IsFound q) (id_in q.placed x) (now.sound x (now.waiting x at).0) in subst IsSome (sym is.1) refl)
 
 -- what is on the worklist holds an object
-pub work-held : (p : Placed) (r : RoleTable) (ids : List ℕ) (s t : Sought) (cell : ℕ) (work : List ℕ) → Reaches p r ids s t →
+pub work-held : (p : Placed) (r : RoleTable) (ids : List ℕ) (s t : Sought) (cell : ℕ) (work : List ℕ) → Reaches (record { placed = p; roles = r }) ids s t →
     work ≡ s.work ++ cell ∷ [] → ((x : ℕ) → IsTrue (has_id work x) → IsSome (id_in p x)) → (x : ℕ) → IsTrue (has_id t.work x) → IsSome (id_in p x)
 work-held p r ids s t cell work reaches taken held x at =
     let fresh = (t.met x && not (s.met x)) && not (is_border_cell r x) in

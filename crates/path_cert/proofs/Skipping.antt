@@ -1,15 +1,17 @@
 -- A walk back that goes back over hidden steps at once.
 use Rattle.std.proofs.Common.{◌≡◌, ℕ, zero, suc, ◌+◌, ◌-◌, ◌<◌, ◌≤◌, Bool, false, ◌||◌, cond, ⊎_elim, [], ◌∷◌, ◌++◌, sym, refl, ap, subst, ◌∙◌, arith, None, Some, add-zero}
+use Rattle.std.specs.Prelude.{IsSome}
 use Rattle.std.proofs.lemmas.Bool.{le-ltb, lt-leb}
 use Rattle.heap_base.specs.declared.limits.TheConstants.{END_STEPS}
 use Rattle.graph_meaning.specs.Roles.{id_at}
+use Rattle.object_table.specs.Placed.{id_in}
 use Rattle.path_cert.specs.declared.start.Start.{Start}
 use Rattle.path_cert.specs.declared.start.Start.TheVariants.{Roots, Owners}
 use Rattle.path_cert.specs.declared.level_table.Waypoint.{Waypoint}
 use Rattle.path_cert.specs.declared.trail.Trail.{Trail}
 use Rattle.path_cert.specs.Levels.{LevelTable, arrival_in, AreLevelsOf}
 use Rattle.path_cert.specs.Ancestors.{back}
-use Rattle.path_cert.specs.Skips.{HasSkipped}
+use Rattle.path_cert.specs.Skips.{HasSkipped, Skips}
 use Rattle.path_cert.specs.Steps.{is_shown}
 use Rattle.path_cert.specs.Trails.{path_steps}
 use Rattle.path_cert.proofs.ShownSteps.{HasShown-more}
@@ -71,6 +73,12 @@ module _ (k : Walk) (t : Trail) (levels : AreLevelsOf k.placed k.search k.levels
       let early = hidden.1 in
       walk-hidden skips.skipped after.left before.cell late (omega arith) (subst (λ m. HasWalked k t m before.cell) (sym left) now))
       skips.hidden)
+
+  -- it stands at an object
+  pub skipped-held : (before after : Waypoint) → Skips k.levels t.total before after → HasWalked k t before.left before.cell → (id : ℕ) × (id_in k.placed after.cell ≡ Some id)
+  skipped-held before after skips now =
+      let skipped = skips k.placed k.search levels (subst IsSome (sym now.leads.held) refl) in
+      let there = walk-skipped before after skipped now in (there.way.to, there.leads.held)
 
 -- where steps were left, some are left still
 pub skipped-some : (l : LevelTable) (total : ℕ) (before after : Waypoint) → HasSkipped l total before after → 0 < before.left → 0 < after.left

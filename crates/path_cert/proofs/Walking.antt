@@ -118,7 +118,7 @@ module _ (p : Placed) (s : Search) (l : LevelTable) (levels : AreLevelsOf p s l)
         × (edge_at p.table before.to a.slot ≡ Some id)
     unfolding way_at
     next-back n w to this_level found =
-        let arrives = subst (λ k. AtLevel k (ArrivesFirst p s a id) (ArrivesNext p s a id)) this_level (levels.arrives cell id held) in
+        let arrives = subst (λ k. AtLevel k (ArrivesFirst p s a id) (ArrivesNext (record { placed = p; search = s }) a id)) this_level (levels.arrives cell id held) in
         let known = sym (ap (λ o. option_and_then (way_on_to p.table id) (option_and_then (way_at p.table g s.sources n) o)) arrives.least) ∙ found in
         option_and_then_some (way_on_to p.table id) (way_at p.table g s.sources n arrives.before) w known
         (λ v at last.
@@ -137,7 +137,7 @@ module _ (p : Placed) (s : Search) (l : LevelTable) (levels : AreLevelsOf p s l)
         (o : ℕ) × (id_in p a.from ≡ Some o) × (w ≡ way_by_edge p.table (owner_way p.table o) (a.slot, id)) × (edge_at p.table o a.slot ≡ Some id)
     unfolding way_at
     owner-back w start first_level found =
-        let arrives = subst (λ k. AtLevel k (ArrivesFirst p s a id) (ArrivesNext p s a id)) first_level (levels.arrives cell id held) in
+        let arrives = subst (λ k. AtLevel k (ArrivesFirst p s a id) (ArrivesNext (record { placed = p; search = s }) a id)) first_level (levels.arrives cell id held) in
         let same = same_Some (sym found ∙ arrives.first) in
         let leads = subst (IsWay p.table) (sym same) arrives.leads in
         go (id_in p a.from) refl (sym (ap (λ (st : Start). source_way p st a id) start) ∙ arrives.by ∙ ap Some (sym same)) leads
@@ -155,7 +155,7 @@ module _ (p : Placed) (s : Search) (l : LevelTable) (levels : AreLevelsOf p s l)
         (r : List ℕ × ℕ) × (slice_get p.table.roots a.from ≡ Some r) × (w ≡ root_way p.table r)
     unfolding way_at
     root-back w start first_level found =
-        let arrives = subst (λ k. AtLevel k (ArrivesFirst p s a id) (ArrivesNext p s a id)) first_level (levels.arrives cell id held) in
+        let arrives = subst (λ k. AtLevel k (ArrivesFirst p s a id) (ArrivesNext (record { placed = p; search = s }) a id)) first_level (levels.arrives cell id held) in
         let same = same_Some (sym found ∙ arrives.first) in
         go (slice_get p.table.roots a.from) refl (sym (ap (λ (st : Start). source_way p st a id) start) ∙ arrives.by ∙ ap Some (sym same))
       where

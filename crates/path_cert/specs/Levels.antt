@@ -21,6 +21,11 @@ pub record Search : Type 0 where
   pub sources : List Way
   pub is_shut : ℕ → Bool
 
+-- A search in a table.
+pub record TableSearch : Type 0 where
+  pub placed : Placed
+  pub search : Search
+
 -- the roots by name, or the edges of the owners by the owner's id and then the slot
 abbrev pub sources_of : Placed → RoleTable → Start → List Way
 sources_of p r Roots = root_ways p.table
@@ -84,11 +89,11 @@ pub record ArrivesFirst (p : Placed) (s : Search) (a : Arrival) (id : ℕ) : Typ
 
 -- The path to the object of an id, so many steps and one beyond a source reference, comes by the least slot of its
 -- predecessor.
-pub record ArrivesNext (p : Placed) (s : Search) (a : Arrival) (id steps : ℕ) : Type 0 where
+pub record ArrivesNext (t : TableSearch) (a : Arrival) (id steps : ℕ) : Type 0 where
   pub before : ℕ
-  pub held : id_in p a.from ≡ Some before
-  pub least : predecessor (graph_of p s) (ends_of s) steps id ≡ Some before
-  pub edge : find (λ e. e.1 == id) (edges p.table before) ≡ Some (a.slot, id)
+  pub held : id_in t.placed a.from ≡ Some before
+  pub least : predecessor (graph_of t.placed t.search) (ends_of t.search) steps id ≡ Some before
+  pub edge : find (λ e. e.1 == id) (edges t.placed.table before) ≡ Some (a.slot, id)
 
 -- by its level: nothing is said of an object without one
 abbrev pub AtLevel : ℕ → Type 0 → (ℕ → Type 0) → Type 0
@@ -97,7 +102,7 @@ AtLevel (suc zero) first next = first
 AtLevel (suc (suc n)) first next = next n
 
 abbrev pub Arrives : Placed → Search → Arrival → ℕ → Type 0
-Arrives p s a id = AtLevel a.level (ArrivesFirst p s a id) (ArrivesNext p s a id)
+Arrives p s a id = AtLevel a.level (ArrivesFirst p s a id) (ArrivesNext (record { placed = p; search = s }) a id)
 
 -- The levels of a search in a table. The level of an object is one more than the least number of steps that lead to it
 -- from what a source reference leads to.

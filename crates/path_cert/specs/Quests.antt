@@ -21,12 +21,17 @@ pub record MeetsAll (r : RoleTable) (cells : List ℕ) (before after : Sought) :
   pub met : (x : ℕ) → after.met x ≡ (before.met x || has_id cells x)
   pub work : (x : ℕ) → has_id after.work x ≡ (has_id before.work x || ((after.met x && not (before.met x)) && not (is_border_cell r x)))
 
+-- A table and its roles.
+pub record RoledTable : Type 0 where
+  pub placed : Placed
+  pub roles : RoleTable
+
 -- The cells of the objects with these ids were met.
-pub record Reaches (p : Placed) (r : RoleTable) (ids : List ℕ) (before after : Sought) : Type 0 where
+pub record Reaches (t : RoledTable) (ids : List ℕ) (before after : Sought) : Type 0 where
   pub cells : List ℕ
-  pub are : (cell id : ℕ) → id_in p cell ≡ Some id → has_id cells cell ≡ has_id ids id
-  pub held : (cell : ℕ) → IsTrue (has_id cells cell) → IsSome (id_in p cell)
-  pub meets : MeetsAll r cells before after
+  pub are : (cell id : ℕ) → id_in t.placed cell ≡ Some id → has_id cells cell ≡ has_id ids id
+  pub held : (cell : ℕ) → IsTrue (has_id cells cell) → IsSome (id_in t.placed cell)
+  pub meets : MeetsAll t.roles cells before after
 
 -- The search of an owner in a table with roles.
 pub record Quest : Type 0 where

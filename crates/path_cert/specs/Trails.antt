@@ -1,11 +1,11 @@
 -- The way back over a path, from its end.
-use Rattle.std.specs.Prelude.{◌≡◌, ◌<◌, ℕ, zero, suc, ◌+◌, List, length, reverse, Option, None, Some, IsSome, IfSome, slice_get}
+use Rattle.std.specs.Prelude.{◌≡◌, ◌<◌, ℕ, zero, suc, ◌+◌, List, ◌++◌, length, reverse, Option, None, Some, IsSome, IfSome, slice_get}
 use Rattle.graph_meaning.specs.declared.paths.PathFrom.{PathFrom}
 use Rattle.graph_meaning.specs.declared.paths.PathStep.{PathStep}
 use Rattle.path_cert.specs.declared.start.Start.{Start}
 use Rattle.path_cert.specs.declared.start.Start.TheVariants.{Roots, Owners}
 use Rattle.path_cert.specs.declared.trail.Trail.{Trail}
-use Rattle.graph_meaning.specs.Paths.{root_way, owner_way}
+use Rattle.graph_meaning.specs.Paths.{Way, root_way, owner_way}
 use Rattle.graph_meaning.specs.Roles.{id_at}
 use Rattle.object_table.specs.Placed.{Placed, id_in}
 use Rattle.path_cert.specs.Levels.{LevelTable, arrival_in}
@@ -22,6 +22,10 @@ path_steps Owners (suc n) = Some (suc n)
 pub record HasShown (t : Trail) (number : ℕ) (after : List PathStep) : Type 0 where
   pub total : t.total ≡ number + length after
   pub shown : t.shown.items ≡ reverse (shown_from t.total number after)
+
+-- the way with these steps after its own
+abbrev pub with_steps : Way → List PathStep → Way
+with_steps w after = record { from = w.from; steps = w.steps ++ after; to = w.to }
 
 -- the one or the other, by where levels start
 abbrev pub ByStart : Start → Type 0 → Type 0 → Type 0

@@ -178,7 +178,7 @@ impl Search {
         requires roles { cells_of roles.now ≡ length table.now.cells }
         requires cell { IsSome (id_in table.now cell) }
         ensures each { length self.new.met_in.items ≡ length self.old.met_in.items }
-        ensures reaches { OnOk result (Reaches table.now roles.now (targets table.now.table (id_at table.now.cells cell)) (sought_in self.old) (sought_in self.new)) }
+        ensures reaches { OnOk result (Reaches (record { placed = table.now; roles = roles.now }) (targets table.now.table (id_at table.now.cells cell)) (sought_in self.old) (sought_in self.new)) }
         ensures remaining { OnOk result (remaining (length table.now.cells) (sought_in self.new) ≤ remaining (length table.now.cells) (sought_in self.old)) }
     {
         for slot in 0..table.slots_at(cell) {

@@ -1,5 +1,5 @@
 //! What levels say of each object.
-ghost use Rattle.std.specs.Prelude.{◌≡◌, ◌≤◌, ◌<◌, ◌*◌, ◌^◌, ◌++◌, List, length, Some, IsTrue, IfOk, IsSome, IfSome, option_map, option_and_then};
+ghost use Rattle.std.specs.Prelude.{◌≡◌, ◌≤◌, ◌<◌, ◌*◌, ◌^◌, List, length, Some, IsTrue, IfOk, IsSome, IfSome, option_map, option_and_then};
 ghost use Rattle.heap_base.specs.declared.limits.TheConstants.{END_STEPS};
 ghost use Rattle.graph_meaning.specs.Heap.{edge_of};
 ghost use Rattle.graph_meaning.specs.Paths.{view_of};
@@ -7,7 +7,7 @@ ghost use Rattle.graph_meaning.specs.Views.{heap_view, is_path};
 ghost use Rattle.object_table.specs.Placed.{id_in, slots_in, slot_in};
 ghost use Rattle.graph_meaning.specs.declared.paths.PathStep.{PathStep};
 ghost use Rattle.path_cert.specs.Levels.{Search, arrival_in, level_in, way_in, AreLevelsOf, AreLevelsIn};
-ghost use Rattle.path_cert.specs.Trails.{path_steps, HasShown, MayStart, IsStart};
+ghost use Rattle.path_cert.specs.Trails.{path_steps, HasShown, with_steps, MayStart, IsStart};
 ghost use Rattle.path_cert.specs.Steps.{way_by_slot};
 ghost use Rattle.path_cert.specs.Ancestors.{AreAncestors, AncestorOf};
 
@@ -156,7 +156,7 @@ impl Levels {
         requires steps { path_steps self.now.start (arrival_in self.now.arrivals to).level ≡ Some steps }
         requires shown { (after : List PathStep) × HasShown trail steps after }
         requires total { trail.total ≤ 2 ^ 32 }
-        ensures path { IfOk result (λ v. (s : Search) → (after : List PathStep) → AreLevelsOf table.now s self.now → HasShown trail steps after → IfSome (way_in table.now s to) (λ w. v ≡ view_of (record { from = w.from; steps = w.steps ++ after; to = w.to }))) }
+        ensures path { IfOk result (λ v. (s : Search) → (after : List PathStep) → AreLevelsOf table.now s self.now → HasShown trail steps after → IfSome (way_in table.now s to) (λ w. v ≡ view_of (with_steps w after))) }
         ensures few { IfOk result (λ v. length v.steps ≤ 2 * END_STEPS) }
     {
         let mut cell = to;

@@ -6,7 +6,7 @@ ghost use Rattle.graph_meaning.specs.Roles.{AreRolesOf, id_at};
 ghost use Rattle.object_table.specs.Placed.{id_in, IsPlaced, IsSound};
 ghost use Rattle.path_cert.specs.declared.start.Start.TheVariants.{Roots, Owners};
 ghost use Rattle.path_cert.specs.Levels.{Search, search_of, arrival_in, AreLevelsOf};
-ghost use Rattle.path_cert.specs.Frontiers.{Grows, HasTaken, Round, by_object, by_objects, GoesUpTo, IsUnderWay, IsAtLevel, ShutByCell};
+ghost use Rattle.path_cert.specs.Frontiers.{Grows, HasTaken, Round, by_object, AreByObjects, GoesUpTo, IsUnderWay, IsAtFirstLevel, ShutByCell, levels_by};
 ghost use Rattle.path_cert.specs.Fronts.{front_of};
 
 use crate::ancestors::ancestors_of;
@@ -100,7 +100,7 @@ impl Frontier {
         requires sound { IsSound table.now.table }
         requires shut { length shut.now ≡ length table.now.cells }
         requires low { GoesUpTo table.now 1 (front_of self.old) }
-        ensures levels { (s : Search) → ShutByCell table.now s shut.now → IsAtLevel table.now s 0 (front_of self.old) 0 → AreLevelsOf table.now s (record { start = s.start; arrivals = self.new.arrivals.items }) }
+        ensures levels { (s : Search) → ShutByCell table.now s shut.now → IsAtFirstLevel (record { placed = table.now; search = s }) (front_of self.old) → AreLevelsOf table.now s (levels_by s (front_of self.new)) }
     {
         let mut level = 1;
         let mut from = 0;
@@ -120,7 +120,7 @@ impl Frontier {
         requires from { from ≤ length self.old.order.items }
         requires safe { IsUnderWay table.now level (front_of self.old) }
         ensures safe { IsUnderWay table.now level (front_of self.new) }
-        ensures arrivals { (cell : ℕ) → (id : ℕ) → id_in table.now cell ≡ Some id → arrival_in self.new.arrivals.items cell ≡ by_objects (record { placed = table.now; shut = shut.now; level = level }) (drop from self.old.order.items) (arrival_in self.old.arrivals.items cell) id }
+        ensures arrivals { AreByObjects (record { placed = table.now; shut = shut.now; level = level }) (drop from self.old.order.items) self.old.arrivals.items self.new.arrivals.items }
         ensures grows { Grows table.now (front_of self.old) (front_of self.new) }
     {
         for place in from..self.order.len() {

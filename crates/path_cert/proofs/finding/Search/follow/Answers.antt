@@ -36,14 +36,14 @@ loop-slot-preserved c =
           let fewer = subst (λ n. remaining n (sought_in w.meet.new.self) ≤ remaining n now) c.requires.roles w.in_ok-meet.ensures.remaining in
           rw w.self-is (record {
             each = w.meet.ensures.each ∙ was.each;
-            reaches = subst (λ ys. Reaches p r ys begun (sought_in w.meet.new.self)) (sym edges_more) more;
+            reaches = subst (λ ys. Reaches (record { placed = p; roles = r }) ys begun (sought_in w.meet.new.self)) (sym edges_more) more;
             fewer = omega (arith, fewer, was.fewer);
           })
       | in_default w ↦
           let none = no-edge (edge_of (slot_in p c.args.cell slot)) (sym (sym (ap is_some w.in_default.is) ∙ c.slot_at.ensures.in_a_cell)) in
           rw w.self-is (record {
             each = was.each;
-            reaches = subst (λ es. Reaches p r (ends es) begun now) (sym (edges-none slots slot slot_within none)) was.reaches;
+            reaches = subst (λ es. Reaches (record { placed = p; roles = r }) (ends es) begun now) (sym (edges-none slots slot slot_within none)) was.reaches;
             fewer = was.fewer;
           })
     ]
@@ -53,4 +53,5 @@ returns-clause-reaches c =
     let p = c.args.table.now in
     let slots = slots_in c.args.table.now c.args.cell in
     let all = edges-all slots c.loop-slot.slot (omega arith) ∙ sym (edges-cell p c.args.cell (id_at p.cells c.args.cell) (held-id p c.args.cell c.requires.cell)) in
-    subst (λ (es : List (ℕ × ℕ)). Reaches p c.args.roles.now (map (λ e. e.1) es) (sought_in c.args.self.now) (sought_in c.loop-slot.self)) all c.loop-slot.invariant.reaches
+    subst (λ (es : List (ℕ × ℕ)). Reaches (record { placed = p; roles = c.args.roles.now }) (map (λ e. e.1) es) (sought_in c.args.self.now) (sought_in c.loop-slot.self)) all
+    c.loop-slot.invariant.reaches

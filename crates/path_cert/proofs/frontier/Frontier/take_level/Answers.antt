@@ -1,11 +1,11 @@
 use Rattle.std.proofs.Common.{◌-◌, ◌<◌, ◌∷◌, ◌++◌, [], length, take, drop, sym, ap, subst, ◌∙◌, arith}
 use Rattle.std.proofs.lemmas.List.{take_all, length-drop}
 use Rattle.graph_meaning.specs.Roles.{id_at}
-use Rattle.path_cert.specs.Frontiers.{Round}
+use Rattle.path_cert.specs.Frontiers.{Round, AreByObjects}
 use Rattle.path_cert.specs.Fronts.{front_of}
 use Rattle.path_cert.proofs.Growing.{Grows-trans}
 use Rattle.path_cert.proofs.HeldObjects.{held-id, held-within}
-use Rattle.path_cert.proofs.NextLevel.{AreByObjects, by_objects-shut, by_objects-open, take-drop-more, order-at, order-held, order-within}
+use Rattle.path_cert.proofs.NextLevel.{by_objects-shut, by_objects-open, take-drop-more, order-at, order-held, order-within}
 use Rattle.path_cert.proofs.frontier.Frontier.take_level.Goals as goal
 use Rattle.path_cert.proofs.frontier.Frontier.take_level.Goals.{then-not-shut-cell, else-not-shut-cell}
 

@@ -1,7 +1,6 @@
 use Rattle.std.proofs.Common.{◌-◌, take, drop}
-use Rattle.path_cert.specs.Frontiers.{Grows, IsUnderWay}
+use Rattle.path_cert.specs.Frontiers.{Grows, AreByObjects, IsUnderWay}
 use Rattle.path_cert.specs.Fronts.{front_of}
-use Rattle.path_cert.proofs.NextLevel.{AreByObjects}
 use Rattle.path_cert.proofs.frontier.Frontier.take_level.Given as goal
 
 abbrev pub invariant-loop-place : goal.invariant-loop-place

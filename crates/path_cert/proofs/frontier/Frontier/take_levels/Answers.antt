@@ -32,7 +32,8 @@ loop-from-preserved c =
           let then =
           at-next p c.requires.placed c.requires.sound.ids.rising s c.args.shut.now by_cell (c.loop-from.level - 1) (c.loop-from.level + 1) two
           f c.loop-from.from (was.levels s by_cell begun) up_to h c.take_level.ensures.arrivals c.take_level.ensures.grows in
-          subst (λ place. IsAtLevel p s ((c.loop-from.level + 1) - 1) h place) to (subst (λ n. IsAtLevel p s n h (length f.order)) next then);
+          subst (λ place. IsAtLevel (record { placed = p; search = s }) ((c.loop-from.level + 1) - 1) h place) to
+          (subst (λ n. IsAtLevel (record { placed = p; search = s }) n h (length f.order)) next then);
     }
 
 pub returns : goal.returns

@@ -3,7 +3,7 @@ use Rattle.std.specs.Option.{is_some}
 use Rattle.graph_meaning.specs.Heap.{edges_of, edge_of}
 use Rattle.graph_meaning.specs.Roles.{id_at}
 use Rattle.object_table.specs.Placed.{slots_in, slot_in}
-use Rattle.path_cert.specs.Frontiers.{Round, by_edges}
+use Rattle.path_cert.specs.Frontiers.{Round, by_some_edge, first_edge}
 use Rattle.path_cert.specs.Levels.{arrival_in}
 use Rattle.path_cert.specs.Fronts.{front_of}
 use Rattle.graph_meaning.proofs.EdgesOfSlots.{edges-edge, edges-none, edges-all}
@@ -63,4 +63,4 @@ returns-clause-arrivals c to id at_to =
     let r : Round = record { placed = c.args.table.now; shut = []; level = c.args.level } in
     let known = arrival_in c.args.self.now.arrivals.items to in
     let all = edges-all slots c.loop-slot.slot (omega arith) ∙ sym (edges-cell p c.args.cell (id_at p.cells c.args.cell) (held-id p c.args.cell c.requires.cell)) in
-    c.loop-slot.invariant.arrivals to id at_to ∙ ap (λ es. by_edges r c.args.cell es known id) all
+    c.loop-slot.invariant.arrivals to id at_to ∙ ap (λ es. by_some_edge r c.args.cell known (first_edge es id)) all

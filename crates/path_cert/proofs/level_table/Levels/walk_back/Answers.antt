@@ -13,9 +13,9 @@ use Rattle.path_cert.specs.declared.arrival.TheConstants.{NOWHERE}
 use Rattle.path_cert.specs.declared.level_table.Waypoint.{Waypoint}
 use Rattle.path_cert.specs.Steps.{step_to}
 use Rattle.path_cert.specs.Levels.{Search, LevelTable, arrival_in, way_in, AreLevelsOf}
-use Rattle.path_cert.specs.Trails.{HasShown}
+use Rattle.path_cert.specs.Trails.{HasShown, with_steps}
 use Rattle.path_cert.proofs.HeldObjects.{held-within}
-use Rattle.path_cert.proofs.Skipping.{steps-left, walk-skipped, skipped-some}
+use Rattle.path_cert.proofs.Skipping.{steps-left, walk-skipped, skipped-held, skipped-some}
 use Rattle.path_cert.proofs.Walking.{Walk, HasWalked, walk-begins, walk-back, may-start, walk-ends}
 use Rattle.path_cert.proofs.level_table.Levels.walk_back.Goals as goal
 
@@ -59,30 +59,23 @@ loop-left-smaller c =
 
 pub index-arrival-requires : goal.index-arrival-requires
 index-arrival-requires c =
-    let p = c.args.table.now in
-    let s = c.requires.table.0 in
     let levels = c.requires.table.1 in
     let k : Walk = record { placed = c.args.table.now; search = c.requires.table.0; levels = c.args.self.now; to = c.args.to; after = c.requires.shown.0 } in
-    let now = c.loop-left.invariant.walked s c.requires.shown.0 levels c.requires.shown.1 in
     let before : Waypoint = record { cell = c.loop-left.cell; left = c.loop-left.left } in
-    let skips = c.skip_hidden-waypoint.ensures p s levels (subst IsSome (sym now.leads.held) refl) in
-    let there = walk-skipped k c.loop-left.trail levels before c.skip_hidden-waypoint.result skips now in
-    let within : c.skip_hidden-waypoint.result.cell < length c.args.table.now.cells = held-within p c.skip_hidden-waypoint.result.cell there.way.to there.leads.held in
+    let now = c.loop-left.invariant.walked c.requires.table.0 c.requires.shown.0 levels c.requires.shown.1 in
+    let held = skipped-held k c.loop-left.trail levels before c.skip_hidden-waypoint.result c.skip_hidden-waypoint.ensures now in
+    let within : c.skip_hidden-waypoint.result.cell < length c.args.table.now.cells = held-within c.args.table.now c.skip_hidden-waypoint.result.cell held.0 held.1 in
     let each = levels.each in
     let many = ap (λ (l : LevelTable). length l.arrivals) c.self.view_is in
     omega (arith, within, each, many)
 
 pub take-requires : goal.take-requires
 take-requires c =
-    let p = c.args.table.now in
-    let s = c.requires.table.0 in
-    let levels = c.requires.table.1 in
     let k : Walk = record { placed = c.args.table.now; search = c.requires.table.0; levels = c.args.self.now; to = c.args.to; after = c.requires.shown.0 } in
-    let now = c.loop-left.invariant.walked s c.requires.shown.0 levels c.requires.shown.1 in
     let before : Waypoint = record { cell = c.loop-left.cell; left = c.loop-left.left } in
-    let skips = c.skip_hidden-waypoint.ensures p s levels (subst IsSome (sym now.leads.held) refl) in
-    let there = walk-skipped k c.loop-left.trail levels before c.skip_hidden-waypoint.result skips now in
-    subst IsSome (sym there.leads.held) refl
+    let now = c.loop-left.invariant.walked c.requires.table.0 c.requires.shown.0 c.requires.table.1 c.requires.shown.1 in
+    let held = skipped-held k c.loop-left.trail c.requires.table.1 before c.skip_hidden-waypoint.result c.skip_hidden-waypoint.ensures now in
+    subst IsSome (sym held.1) refl
 
 pub loop-left-preserved : goal.loop-left-preserved
 loop-left-preserved c =
@@ -149,7 +142,7 @@ returns-clause-path c = go c.into_view.result c.into_view.ensures.view
         IfOk result (λ v. (w : Way) → w.from ≡ c.in_ok-from.from → HasShown c.loop-left.trail 0 w.steps → v ≡ view_of w) →
         IfOk result
         (λ v. (s : Search) (after : List PathStep) → AreLevelsOf c.args.table.now s c.args.self.now → HasShown c.args.trail c.args.steps after →
-        IfSome (way_in c.args.table.now s c.args.to) (λ w. v ≡ view_of (record { from = w.from; steps = w.steps ++ after; to = w.to })))
+        IfSome (way_in c.args.table.now s c.args.to) (λ w. v ≡ view_of (with_steps w after)))
     go (Err e) view = view
     go (Ok v) view = λ s after levels has.
         let k : Walk = record { placed = c.args.table.now; search = s; levels = c.args.self.now; to = c.args.to; after = after } in
