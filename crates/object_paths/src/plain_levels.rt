@@ -2,14 +2,14 @@
 ghost use Rattle.std.specs.Prelude.{◌≡◌, ◌<◌, ◌≤◌, ◌*◌, ℕ, length, Some, IsTrue, IfOk, IsSome, IfSome};
 ghost use Rattle.heap_base.specs.declared.limits.TheConstants.{END_STEPS};
 ghost use Rattle.std.specs.Option.{option_map};
+ghost use Rattle.graph_meaning.specs.Assertions.{by_slot};
 ghost use Rattle.graph_meaning.specs.Heap.{Heap, edge_of};
-ghost use Rattle.graph_meaning.specs.Paths.{plain_way, holder_way, reference_way, way_by_edge, view_of};
+ghost use Rattle.graph_meaning.specs.Paths.{plain_way, reference_way, view_of};
 ghost use Rattle.graph_meaning.specs.Roles.{RoleTable, AreRolesOf, id_at};
 ghost use Rattle.graph_meaning.specs.Views.{heap_view, is_path};
 ghost use Rattle.object_table.specs.Placed.{id_in, slots_in, slot_in};
-ghost use Rattle.assert_registry.specs.Laws.{StandFor};
 ghost use Rattle.reference_search.specs.References.{reference_of, RefersTo};
-ghost use Rattle.object_paths.specs.PlainPaths.{ArePlainLevels};
+ghost use Rattle.object_paths.specs.PlainPaths.{ArePlainLevels, WhereLevelsOf};
 
 use graph_meaning::{PathView, Roles};
 use heap_base::OutOfMemory;
@@ -61,7 +61,7 @@ impl PlainLevels {
     pub fn path(&self, table: &ObjectTable, cell: u32) -> Result<Option<PathView>, OutOfMemory>
         requires levels { (r : RoleTable) × ArePlainLevels table.now r self.now }
         requires cell { IsSome (id_in table.now cell) }
-        ensures path { IfOk result (λ v. (h : Heap) (r : RoleTable) → ArePlainLevels table.now r self.now → StandFor table.now r h → v ≡ option_map view_of (plain_way h (id_at table.now.cells cell))) }
+        ensures path { IfOk result (λ v. (h : Heap) → WhereLevelsOf table.now h self.now (v ≡ option_map view_of (plain_way h (id_at table.now.cells cell)))) }
         ensures is_path { IfOk result (λ v. IfSome v (λ path. IsTrue (is_path (heap_view table.now.table) path))) }
         ensures few { IfOk result (λ v. IfSome v (λ path. length path.steps ≤ 2 * END_STEPS)) }
     {
@@ -80,7 +80,7 @@ impl PlainLevels {
     ) -> Result<PathView, OutOfMemory>
         requires levels { (r : RoleTable) × ArePlainLevels table.now r self.now }
         requires refers { (id : ℕ) × RefersTo table.now reference id }
-        ensures path { IfOk result (λ v. (h : Heap) (r : RoleTable) (id : ℕ) → ArePlainLevels table.now r self.now → StandFor table.now r h → RefersTo table.now reference id → v ≡ view_of (reference_way h id (reference_of table.now reference))) }
+        ensures path { IfOk result (λ v. (h : Heap) → WhereLevelsOf table.now h self.now ((id : ℕ) → RefersTo table.now reference id → v ≡ view_of (reference_way h id (reference_of table.now reference)))) }
         ensures is_path { IfOk result (λ v. IsTrue (is_path (heap_view table.now.table) v)) }
         ensures few { IfOk result (λ v. length v.steps ≤ 2 * END_STEPS) }
     {
@@ -100,7 +100,7 @@ impl PlainLevels {
         requires levels { (r : RoleTable) × ArePlainLevels table.now r self.now }
         requires a_slot { slot < length (slots_in table.now holder) }
         requires an_edge { IsSome (edge_of (slot_in table.now holder slot)) }
-        ensures path { IfOk result (λ v. (h : Heap) (r : RoleTable) (id : ℕ) → ArePlainLevels table.now r self.now → StandFor table.now r h → edge_of (slot_in table.now holder slot) ≡ Some id → v ≡ view_of (way_by_edge h.table (holder_way h (id_at table.now.cells holder)) (slot, id))) }
+        ensures path { IfOk result (λ v. (h : Heap) → WhereLevelsOf table.now h self.now ((id : ℕ) → edge_of (slot_in table.now holder slot) ≡ Some id → v ≡ view_of (reference_way h id (by_slot (id_at table.now.cells holder) slot)))) }
         ensures is_path { IfOk result (λ v. IsTrue (is_path (heap_view table.now.table) v)) }
         ensures few { IfOk result (λ v. length v.steps ≤ 2 * END_STEPS) }
     {

@@ -9,7 +9,8 @@ use Rattle.graph_meaning.specs.Assertions.{Reference}
 use Rattle.graph_meaning.specs.Roles.{id_at}
 use Rattle.object_table.specs.Placed.{Placed, id_in, IsPlaced}
 use Rattle.reference_search.specs.declared.cell_reference.FirstReferences.{FirstReferences}
-use Rattle.reference_search.specs.Prefixes.{Finding, FindsFirst, StartList, IsOneMore}
+use Rattle.reference_search.specs.References.{StartList}
+use Rattle.reference_search.specs.Prefixes.{Finding, FindsFirst, IsOneMore}
 use Rattle.object_table.proofs.ObjectsByCell.{held-id, id-held}
 
 -- a list of another object

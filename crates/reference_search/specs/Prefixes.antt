@@ -1,23 +1,13 @@
 -- What a search for first references has found so far.
-use Rattle.std.specs.Prelude.{◌≡◌, ℕ, ◌==◌, ◌||◌, List, [], ◌∷◌, ◌++◌, length, Bool, false, if◌then◌else◌, Option, None, Some, IsSome, IfSome, slice_get, slice_index_or}
-use Rattle.std.specs.Option.{option_map}
-use Rattle.graph_meaning.specs.Assertions.{Reference}
+use Rattle.std.specs.Prelude.{◌≡◌, ℕ, ◌==◌, ◌||◌, List, [], ◌∷◌, ◌++◌, length, filter, Bool, false, if◌then◌else◌, Option, None, Some, IsSome, slice_get, slice_index_or}
+use Rattle.std.specs.List.{flat_map}
+use Rattle.graph_meaning.specs.Assertions.{Reference, slots_to}
+use Rattle.graph_meaning.specs.Heap.{Table, ids}
 use Rattle.graph_meaning.specs.Reach.{has_id}
 use Rattle.graph_meaning.specs.Roles.{RoleTable, id_at}
 use Rattle.object_table.specs.Placed.{Placed, id_in}
-use Rattle.reference_search.specs.declared.cell_reference.CellReference.{CellReference}
 use Rattle.reference_search.specs.declared.cell_reference.FirstReferences.{FirstReferences}
-use Rattle.reference_search.specs.References.{reference_of, RefersTo}
-
--- This is the wanted reference to the object with this id, and nothing where none is wanted.
-pub record IsWanted (p : Placed) (id : ℕ) (wanted : Option Reference) (r : Option CellReference) : Type 0 where
-  pub is : option_map (reference_of p) r ≡ wanted
-  pub refers : IfSome r (λ r. RefersTo p r id)
-
--- The list of references to the object with this id starts with these two, or has fewer.
-pub record StartList (p : Placed) (id : ℕ) (references : List Reference) (found : FirstReferences) : Type 0 where
-  pub first : IsWanted p id (slice_get references 0) found.first
-  pub second : IsWanted p id (slice_get references 1) found.second
+use Rattle.reference_search.specs.References.{StartList}
 
 -- For each cell the place of its object among the asked ones, if it is one; and for each of these the first references so far.
 pub record Finding : Type 0 where
@@ -36,9 +26,22 @@ pub record FindsFirst (p : Placed) (asked : List ℕ) (lists : ℕ → List Refe
   pub are : AreAsked p asked f
   pub first : (n cell : ℕ) (r : FirstReferences) → slice_get asked n ≡ Some cell → slice_get f.found n ≡ Some r → StartList p (id_at p.cells cell) (lists (id_at p.cells cell)) r
 
+-- this reference alone, to the object with this id
+abbrev pub only_to : ℕ → Reference → ℕ → List Reference
+only_to id r x = if id == x then r ∷ [] else []
+
 -- The lists after are those before, with this reference more in the list of the object with this id.
 abbrev pub IsOneMore : ℕ → Reference → (ℕ → List Reference) → (ℕ → List Reference) → Type 0
-IsOneMore id r before after = (x : ℕ) → after x ≡ before x ++ (if id == x then r ∷ [] else [])
+IsOneMore id r before after = (x : ℕ) → after x ≡ before x ++ only_to id r x
+
+-- Whatever lists the search found the first references of, it finds those of the same lists with these references after them.
+abbrev pub FindsMore : Placed → (ℕ → List Reference) → Finding → Finding → Type 0
+FindsMore p more before after =
+    (asked : List ℕ) (lists : ℕ → List Reference) → FindsFirst p asked lists before → FindsFirst p asked (λ id. lists id ++ more id) after
+
+-- the references to an object by the slots of the objects that are scanned
+abbrev pub scanned_slots : Table → (ℕ → Bool) → ℕ → List Reference
+scanned_slots t is_scanned id = flat_map (slots_to t id) (filter is_scanned (ids t))
 
 -- It is said by cell which objects are scanned: those that are kept, and the owners.
 abbrev pub ScannedByCell : Placed → RoleTable → List Bool → (ℕ → Bool) → Type 0

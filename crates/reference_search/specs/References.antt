@@ -23,12 +23,21 @@ RefersTo p (Slot holder slot) id = (slot < length (slots_in p holder)) × (edge_
 abbrev pub KeepsTraced : Placed → Heap → List Bool → Type 0
 KeepsTraced p h kept = (cell id : ℕ) → id_in p cell ≡ Some id → slice_index_or kept cell false ≡ is_traced h id
 
--- This is the reference with the number n, from 0, to the object with this id, and nothing where there are no more.
-pub record IsReference (p : Placed) (h : Heap) (id n : ℕ) (r : Option CellReference) : Type 0 where
-  pub is : option_map (reference_of p) r ≡ slice_get (references h id) n
+-- This is the reference, to the object with this id; and nothing where there is none.
+pub record IsReference (p : Placed) (id : ℕ) (reference : Option Reference) (r : Option CellReference) : Type 0 where
+  pub is : option_map (reference_of p) r ≡ reference
   pub refers : IfSome r (λ r. RefersTo p r id)
 
--- These are the first two references to the object with this id.
-pub record AreFirst (p : Placed) (h : Heap) (id : ℕ) (found : FirstReferences) : Type 0 where
-  pub first : IsReference p h id 0 found.first
-  pub second : IsReference p h id 1 found.second
+-- The list of references to the object with this id starts with these two, or has fewer.
+pub record StartList (p : Placed) (id : ℕ) (references : List Reference) (found : FirstReferences) : Type 0 where
+  pub first : IsReference p id (slice_get references 0) found.first
+  pub second : IsReference p id (slice_get references 1) found.second
+
+-- these are the first two references to the object with this id
+abbrev pub AreFirst : Placed → Heap → ℕ → FirstReferences → Type 0
+AreFirst p h id found = StartList p id (references h id) found
+
+-- these are the first two references to the object in each of the first of these cells
+abbrev pub AreFirstOf : Placed → Heap → List ℕ → List FirstReferences → Type 0
+AreFirstOf p h cells found =
+    (n cell : ℕ) (f : FirstReferences) → slice_get cells n ≡ Some cell → slice_get found n ≡ Some f → AreFirst p h (id_at p.cells cell) f

@@ -2,8 +2,7 @@
 ghost use Rattle.std.specs.Prelude.{ℕ, List, ◌++◌, ◌∷◌, []};
 ghost use Rattle.graph_meaning.specs.Assertions.{Reference};
 ghost use Rattle.object_table.specs.Placed.{Placed};
-ghost use Rattle.reference_search.specs.References.{reference_of, RefersTo};
-ghost use Rattle.reference_search.specs.Prefixes.{StartList};
+ghost use Rattle.reference_search.specs.References.{reference_of, RefersTo, StartList};
 
 /// A reference to an object.
 #[derive(Clone, Copy, Debug, PartialEq, Eq)]

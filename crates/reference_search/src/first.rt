@@ -1,12 +1,11 @@
 //! The search for the first two references.
-ghost use Rattle.std.specs.Prelude.{◌≡◌, ℕ, length, All, IfOk, IsSome, Some, slice_get};
+ghost use Rattle.std.specs.Prelude.{◌≡◌, length, All, IfOk, IsSome};
 ghost use Rattle.heap_base.specs.Counting.{IsOnce};
 ghost use Rattle.graph_meaning.specs.Heap.{Heap};
-ghost use Rattle.graph_meaning.specs.Roles.{AreRolesOf, id_at};
+ghost use Rattle.graph_meaning.specs.Roles.{AreRolesOf};
 ghost use Rattle.object_table.specs.Placed.{id_in};
 ghost use Rattle.assert_registry.specs.Laws.{StandFor};
-ghost use Rattle.reference_search.specs.declared.cell_reference.FirstReferences.{FirstReferences};
-ghost use Rattle.reference_search.specs.References.{KeepsTraced, AreFirst};
+ghost use Rattle.reference_search.specs.References.{KeepsTraced, AreFirstOf};
 
 use crate::cell_reference::FirstReferences;
 use crate::search::Search;
@@ -30,7 +29,7 @@ pub fn first_references(
     requires asked { All (λ cell. IsSome (id_in table.now cell)) asked.now }
     requires once { IsOnce asked.now }
     ensures each { IfOk result (λ found. length found.items ≡ length asked.now) }
-    ensures first { IfOk result (λ found. (h : Heap) → StandFor table.now roles.now h → KeepsTraced table.now h kept.now → (n cell : ℕ) (f : FirstReferences) → slice_get asked.now n ≡ Some cell → slice_get found.items n ≡ Some f → AreFirst table.now h (id_at table.now.cells cell) f) }
+    ensures first { IfOk result (λ found. (h : Heap) → StandFor table.now roles.now h → KeepsTraced table.now h kept.now → AreFirstOf table.now h asked.now found.items) }
 {
     let mut search = Search::begin(alloc, table.cells(), asked)?;
     search.take_roots(table);

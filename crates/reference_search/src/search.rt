@@ -1,14 +1,12 @@
 //! The search for first references under way.
-ghost use Rattle.std.specs.Prelude.{◌≡◌, ◌<◌, ◌||◌, ◌++◌, ◌∷◌, [], ℕ, List, Bool, false, length, filter, All, IfOk, IsSome, IfSome, None, Some, slice_get, slice_index_or};
-ghost use Rattle.std.specs.List.{flat_map};
+ghost use Rattle.std.specs.Prelude.{◌≡◌, ◌<◌, ◌||◌, [], ℕ, List, Bool, false, length, All, IfOk, IsSome, None, Some, slice_get, slice_index_or};
 ghost use Rattle.heap_base.specs.Counting.{IsOnce};
-ghost use Rattle.graph_meaning.specs.Assertions.{Reference, roots_to, slots_to};
-ghost use Rattle.graph_meaning.specs.Heap.{ids};
+ghost use Rattle.graph_meaning.specs.Assertions.{roots_to, slots_to};
 ghost use Rattle.graph_meaning.specs.Reach.{has_id};
 ghost use Rattle.graph_meaning.specs.Roles.{cells_of, id_at};
 ghost use Rattle.object_table.specs.Placed.{Placed, id_in, IsPlaced};
 ghost use Rattle.reference_search.specs.References.{reference_of, RefersTo};
-ghost use Rattle.reference_search.specs.Prefixes.{FindsFirst, IsOneMore, ScannedByCell};
+ghost use Rattle.reference_search.specs.Prefixes.{FindsFirst, FindsMore, only_to, scanned_slots, ScannedByCell};
 ghost use Rattle.reference_search.specs.Findings.{finding_in};
 
 use crate::cell_reference::{CellReference, FirstReferences, NO_REFERENCES};
@@ -54,7 +52,7 @@ impl Search {
         requires roles { cells_of roles.now ≡ length table.now.cells }
         requires kept { length kept.now ≡ length table.now.cells }
         ensures count { length self.new.found.items ≡ length self.old.found.items }
-        ensures finds { (asked : List ℕ) → (before : ℕ → List Reference) → (is_scanned : ℕ → Bool) → ScannedByCell table.now roles.now kept.now is_scanned → FindsFirst table.now asked before (finding_in self.old) → FindsFirst table.now asked (λ id. before id ++ flat_map (slots_to table.now.table id) (filter is_scanned (ids table.now.table))) (finding_in self.new) }
+        ensures finds { (is_scanned : ℕ → Bool) → ScannedByCell table.now roles.now kept.now is_scanned → FindsMore table.now (scanned_slots table.now.table is_scanned) (finding_in self.old) (finding_in self.new) }
     {
         for number in 0..table.live() {
             let cell = table.nth_cell(number);
@@ -69,7 +67,7 @@ impl Search {
         requires placed { IsPlaced table.now }
         requires holder { IsSome (id_in table.now holder) }
         ensures count { length self.new.found.items ≡ length self.old.found.items }
-        ensures finds { (asked : List ℕ) → (before : ℕ → List Reference) → FindsFirst table.now asked before (finding_in self.old) → FindsFirst table.now asked (λ id. before id ++ slots_to table.now.table id (id_at table.now.cells holder)) (finding_in self.new) }
+        ensures finds { FindsMore table.now (λ id. slots_to table.now.table id (id_at table.now.cells holder)) (finding_in self.old) (finding_in self.new) }
     {
         for slot in 0..table.slots_at(holder) {
             if let Some(target) = table.slot_at(holder, slot) {
@@ -81,7 +79,7 @@ impl Search {
     // Puts a reference to the object in a cell after those that were found, if the object was asked for.
     fn put(&mut self, cell: u32, reference: CellReference)
         ensures count { length self.new.found.items ≡ length self.old.found.items }
-        ensures finds { (p : Placed) → (asked : List ℕ) → (before : ℕ → List Reference) → (after : ℕ → List Reference) → (id : ℕ) → IsPlaced p → id_in p cell ≡ Some id → RefersTo p reference id → IsOneMore id (reference_of p reference) before after → FindsFirst p asked before (finding_in self.old) → FindsFirst p asked after (finding_in self.new) }
+        ensures finds { (p : Placed) → (id : ℕ) → IsPlaced p → id_in p cell ≡ Some id → RefersTo p reference id → FindsMore p (only_to id (reference_of p reference)) (finding_in self.old) (finding_in self.new) }
     {
         let Some(place) = self.place_of(cell) else {
             return;
@@ -107,7 +105,7 @@ impl Search {
     }
 }
 
-// Whether the slots of the object in a cell count.
+// Whether the slots of the object in a cell count: those of traced objects and of owners do.
 fn is_scanned(roles: &Roles, kept: &[bool], cell: u32) -> bool
     requires roles { cell < cells_of roles.now }
     requires kept { cell < length kept.now }

@@ -13,8 +13,8 @@ use Rattle.graph_meaning.specs.Heap.{Heap}
 use Rattle.graph_meaning.specs.Roles.{id_at}
 use Rattle.object_table.specs.Placed.{Placed}
 use Rattle.reference_search.specs.declared.cell_reference.FirstReferences.{FirstReferences}
-use Rattle.reference_search.specs.References.{AreFirst}
-use Rattle.verdict_list.specs.Listed.{verdict_if, GoesOn, AreFirstOf}
+use Rattle.reference_search.specs.References.{AreFirst, AreFirstOf}
+use Rattle.verdict_list.specs.Listed.{verdict_if, GoesOn}
 use Rattle.verdict_list.proofs.ByIds.{drop_next}
 
 without_more : (vs : List Verdict) (v : Verdict) → map without_paths (vs ++ v ∷ []) ≡ map without_paths vs ++ without_paths v ∷ []

@@ -1,5 +1,5 @@
 -- The types over their limit, by their numbers.
-use Rattle.std.specs.Prelude.{◌≡◌, ◌==◌, ℕ, ◌<◌, List, [], length, Bool, true, false, Option, None, Some, IsSome, IfSome, nat_lt, if◌then◌else◌}
+use Rattle.std.specs.Prelude.{◌≡◌, ◌==◌, ℕ, ◌<◌, List, [], length, All, Bool, true, false, Option, None, Some, IsSome, IfSome, nat_lt, if◌then◌else◌}
 use Rattle.std.specs.Prelude.{unwrap_or, slice_get, slice_index, slice_index_or, option_and_then}
 use Rattle.std.specs.Option.{option_map_or}
 use Rattle.graph_meaning.specs.Collecting.{instances}
@@ -67,3 +67,8 @@ SaysOf p h c = c.found ≡ length (instances h (name_of p c.kind))
 -- There is a first object past the limit, and it is in this cell.
 abbrev pub HasFirst : Placed → Heap → KindCount → Type 0
 HasFirst p h c = (id : ℕ) × (option_and_then (id_in p) c.first ≡ Some id) × (slice_get (instances h (name_of p c.kind)) c.limit ≡ Some id)
+
+-- The counts tell how many objects of each type are traced, and which is the first past the limit where that is asked for.
+pub record TellOf (p : Placed) (h : Heap) (asked : Type 0) (counts : List KindCount) : Type 0 where
+  pub says : All (SaysOf p h) counts
+  pub first : asked → All (HasFirst p h) counts

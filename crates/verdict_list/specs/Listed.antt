@@ -1,18 +1,21 @@
 -- How a list of verdicts goes on, and by what its paths are shown.
-use Rattle.std.specs.Prelude.{◌≡◌, ℕ, ◌+◌, ◌*◌, List, ◌++◌, map, Bool, true, false, Option, Some, IfSome, unwrap_or, slice_get}
+use Rattle.std.specs.Prelude.{◌≡◌, ℕ, ◌+◌, ◌*◌, List, ◌++◌, map, Bool, true, false, Option, Some, IfSome, unwrap_or, slice_get, option_map}
 use Rattle.heap_base.specs.declared.limits.TheConstants.{MOST_OBJECTS, MOST_KINDS}
 use Rattle.graph_meaning.specs.declared.collection.Verdict.{Verdict}
 use Rattle.graph_meaning.specs.declared.paths.Shown.{Shown}
 use Rattle.graph_meaning.specs.declared.paths.Shown.TheVariants.{LeftOut}
 use Rattle.graph_meaning.specs.Collecting.{without_paths, first_with_paths, violating_dead, violating_kinds, violating_unshared, dead_verdict, instances_verdict, unshared_verdict}
 use Rattle.graph_meaning.specs.Heap.{Heap}
+use Rattle.graph_meaning.specs.Assertions.{references}
+use Rattle.graph_meaning.specs.Paths.{reference_way, shown_path}
 use Rattle.graph_meaning.specs.Roles.{RoleTable, id_at}
 use Rattle.object_table.specs.Placed.{Placed}
 use Rattle.assert_registry.specs.Assertions.{owner_of}
 use Rattle.assert_registry.specs.Laws.{StandFor}
 use Rattle.object_paths.specs.PlainPaths.{PlainTable, ArePlainLevels}
-use Rattle.reference_search.specs.declared.cell_reference.FirstReferences.{FirstReferences}
-use Rattle.reference_search.specs.References.{AreFirst}
+use Rattle.verdict_list.specs.declared.instances.KindCount.{KindCount}
+use Rattle.verdict_list.specs.Counts.{CountTable, counted_in}
+use Rattle.verdict_list.specs.Kinds.{named_count}
 
 -- there is one verdict at most of each object for each of three assertions, and of each type
 abbrev pub most_verdicts : ℕ
@@ -47,7 +50,14 @@ pub record ShowsPaths (p : Placed) (h : Heap) (levels : Option PlainTable) : Typ
 abbrev pub owned_pair : Placed → Heap → ℕ → ℕ × ℕ
 owned_pair p h cell = (id_at p.cells cell, unwrap_or (owner_of h.owners (id_at p.cells cell)) 0)
 
--- These are the first references to the first of the objects in these cells.
-abbrev pub AreFirstOf : Placed → Heap → List ℕ → List FirstReferences → Type 0
-AreFirstOf p h cells references =
-    (n cell : ℕ) (f : FirstReferences) → slice_get cells n ≡ Some cell → slice_get references n ≡ Some f → AreFirst p h (id_at p.cells cell) f
+-- the path by the reference with the number n, from 0, to the object with this id, if there is one
+abbrev pub reference_path : Heap → ℕ → ℕ → Shown
+reference_path h id n = shown_path (option_map (reference_way h id) (slice_get (references h id) n))
+
+-- the verdict on a type, by its count
+abbrev pub instances_in : Placed → Heap → KindCount → Verdict
+instances_in p h c = instances_verdict h (named_count p c)
+
+-- the verdict on the object in a cell, with what was counted
+abbrev pub unshared_in : Placed → CountTable → Heap → ℕ → Verdict
+unshared_in p t h cell = unshared_verdict (counted_in p t) h (id_at p.cells cell)

@@ -1,6 +1,5 @@
 //! The verdicts on types over their limit.
 ghost use Rattle.std.specs.Prelude.{◌≡◌, ◌<◌, ◌+◌, ◌^◌, ℕ, true, None, Some, length, map, All, IsSome, IfSome, IfOk, OnOk, option_and_then, slice_index, slice_index_or};
-ghost use Rattle.graph_meaning.specs.Collecting.{instances_verdict};
 ghost use Rattle.graph_meaning.specs.Heap.{Heap};
 ghost use Rattle.graph_meaning.specs.Paths.{plain_way, shown_path};
 ghost use Rattle.graph_meaning.specs.Roles.{AreRolesOf, RoleTable};
@@ -8,8 +7,8 @@ ghost use Rattle.object_table.specs.Placed.{id_in};
 ghost use Rattle.object_paths.specs.PlainPaths.{ArePlainLevels};
 ghost use Rattle.assert_registry.specs.Laws.{StandFor};
 ghost use Rattle.verdict_list.specs.Counts.{AreCountsOf};
-ghost use Rattle.verdict_list.specs.Kinds.{IsOverLimit, IsCountedBy, IsSeenIn, named_count, SaysOf, HasFirst};
-ghost use Rattle.verdict_list.specs.Listed.{path_if, verdict_if, GoesOn, ShowsPaths};
+ghost use Rattle.verdict_list.specs.Kinds.{IsOverLimit, IsCountedBy, IsSeenIn, SaysOf, HasFirst, TellOf};
+ghost use Rattle.verdict_list.specs.Listed.{instances_in, path_if, verdict_if, GoesOn, ShowsPaths};
 
 use crate::counts::HeapCounts;
 use crate::shown_paths::plain_path;
@@ -127,7 +126,7 @@ fn instances_verdict(
     requires count { IsSeenIn table.now count }
     requires levels { (r : RoleTable) × IfSome levels.now (ArePlainLevels table.now r) }
     requires there { is_shown ≡ true → IsSome levels.now }
-    ensures { IfOk result (λ v. (h : Heap) → ShowsPaths table.now h levels.now → SaysOf table.now h count → (is_shown ≡ true → HasFirst table.now h count) → v ≡ verdict_if is_shown (instances_verdict h (named_count table.now count))) }
+    ensures { IfOk result (λ v. (h : Heap) → ShowsPaths table.now h levels.now → SaysOf table.now h count → (is_shown ≡ true → HasFirst table.now h count) → v ≡ verdict_if is_shown (instances_in table.now h count)) }
 {
     let path = first_path(table, levels, count.first, is_shown)?;
     let kind = table.kind_name(count.kind).copy()?;
@@ -152,7 +151,7 @@ pub(crate) fn push_instances(
     requires levels { (r : RoleTable) × IfSome levels.now (ArePlainLevels table.now r) }
     requires there { length list.old < paths → 0 < length counts.now → IsSome levels.now }
     ensures length { OnOk result (length list.new ≡ length list.old + length counts.now) }
-    ensures verdicts { OnOk result ((h : Heap) → ShowsPaths table.now h levels.now → All (SaysOf table.now h) counts.now → (length list.old < paths → All (HasFirst table.now h) counts.now) → GoesOn paths list.old (map (λ c. instances_verdict h (named_count table.now c)) counts.now) list.new) }
+    ensures verdicts { OnOk result ((h : Heap) → ShowsPaths table.now h levels.now → TellOf table.now h (length list.old < paths) counts.now → GoesOn paths list.old (map (instances_in table.now h) counts.now) list.new) }
 {
     for count in counts {
         let is_shown = list.len() < paths;

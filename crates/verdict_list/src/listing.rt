@@ -7,10 +7,10 @@ ghost use Rattle.heap_base.specs.Counting.{IsOnce};
 ghost use Rattle.object_table.specs.Placed.{id_in};
 ghost use Rattle.assert_registry.specs.Laws.{StandFor};
 ghost use Rattle.object_paths.specs.PlainPaths.{ArePlainLevels};
-ghost use Rattle.reference_search.specs.References.{KeepsTraced};
+ghost use Rattle.reference_search.specs.References.{AreFirstOf, KeepsTraced};
 ghost use Rattle.verdict_list.specs.Counts.{AreCountsOf, counted_in, most_first_verdicts};
 ghost use Rattle.verdict_list.specs.Kinds.{ArePastLimits};
-ghost use Rattle.verdict_list.specs.Listed.{AreFirstOf, first_verdicts};
+ghost use Rattle.verdict_list.specs.Listed.{first_verdicts};
 
 use crate::counts::HeapCounts;
 use crate::dead::push_dead;

@@ -38,23 +38,25 @@ fn no_places(alloc: Global, kinds: usize) -> Result<Vec<Option<u32>>, OutOfMemor
     Ok(places)
 }
 
-// Counts an object of a type, and notes its cell where it is the first past the limit.
-fn count_one(
-    counts: &mut Vec<u32>,
-    places: &mut Vec<Option<u32>>,
+// The number of a type, and its limit, if it has one.
+#[derive(Clone, Copy)]
+struct LimitedKind {
+    number: u32,
     limit: Option<u32>,
-    kind: u32,
-    cell: u32,
-)
-    requires counts { kind < length counts.old.items }
-    requires places { kind < length places.old.items }
-    requires small { slice_index counts.old.items kind < 2 ^ 32 - 1 }
-    ensures counts { counts.new.items ≡ slice_set counts.old.items kind (slice_index counts.old.items kind + 1) }
-    ensures places { places.new.items ≡ slice_set places.old.items kind (first_after limit (slice_index counts.old.items kind) (slice_index_or places.old.items kind None) cell) }
+}
+
+// Counts an object of a type, and notes its cell where it is the first past the limit.
+fn count_one(counts: &mut Vec<u32>, places: &mut Vec<Option<u32>>, kind: LimitedKind, cell: u32)
+    requires counts { kind.number < length counts.old.items }
+    requires places { kind.number < length places.old.items }
+    requires small { slice_index counts.old.items kind.number < 2 ^ 32 - 1 }
+    ensures counts { counts.new.items ≡ slice_set counts.old.items kind.number (slice_index counts.old.items kind.number + 1) }
+    ensures places { places.new.items ≡ slice_set places.old.items kind.number (first_after kind.limit (slice_index counts.old.items kind.number) (slice_index_or places.old.items kind.number None) cell) }
 {
-    let count = counts[kind as usize];
-    places[kind as usize] = first_after(limit, count, places[kind as usize], cell);
-    counts[kind as usize] = count + 1;
+    let number = kind.number as usize;
+    let count = counts[number];
+    places[number] = first_after(kind.limit, count, places[number], cell);
+    counts[number] = count + 1;
 }
 
 /// For each type with a limit the cell of its first traced object past the limit, by id. It goes once over the objects.
@@ -80,7 +82,11 @@ pub(crate) fn first_past_limits(
         let cell = table.nth_cell(number);
         if kept[cell as usize] {
             let kind = table.kind_at(cell);
-            count_one(&mut counts, &mut places, roles.limit(kind), kind, cell);
+            let limited = LimitedKind {
+                number: kind,
+                limit: roles.limit(kind),
+            };
+            count_one(&mut counts, &mut places, limited, cell);
         }
     }
     Ok(places)

@@ -1,16 +1,12 @@
 //! The verdicts on objects that are asserted unshared.
 ghost use Rattle.std.specs.Prelude.{◌≡◌, ◌<◌, ◌+◌, ◌-◌, ◌^◌, ℕ, Some, length, map, min, All, IsSome, IfSome, IfOk, OnOk, is_some, slice_get};
-ghost use Rattle.std.specs.Option.{option_map};
 ghost use Rattle.graph_meaning.specs.Assertions.{references};
-ghost use Rattle.graph_meaning.specs.Collecting.{unshared_verdict};
 ghost use Rattle.graph_meaning.specs.Heap.{Heap};
-ghost use Rattle.graph_meaning.specs.Paths.{shown_path, reference_way};
 ghost use Rattle.graph_meaning.specs.Roles.{RoleTable, id_at};
 ghost use Rattle.object_table.specs.Placed.{id_in};
 ghost use Rattle.object_paths.specs.PlainPaths.{ArePlainLevels};
-ghost use Rattle.reference_search.specs.References.{IsReference, AreFirst};
-ghost use Rattle.verdict_list.specs.Counts.{counted_in};
-ghost use Rattle.verdict_list.specs.Listed.{path_if, verdict_if, GoesOn, ShowsPaths, AreFirstOf};
+ghost use Rattle.reference_search.specs.References.{IsReference, AreFirst, AreFirstOf};
+ghost use Rattle.verdict_list.specs.Listed.{path_if, reference_path, unshared_in, verdict_if, GoesOn, ShowsPaths};
 
 use crate::counts::HeapCounts;
 use graph_meaning::{Shown, Verdict, VerdictList};
@@ -26,10 +22,10 @@ fn reference_path(
     levels: &Option<PlainLevels>,
     reference: Option<CellReference>,
 ) -> Result<Shown, OutOfMemory>
-    requires reference { (h : Heap) × (id : ℕ) × (n : ℕ) × IsReference table.now h id n reference }
+    requires reference { (h : Heap) × (id : ℕ) × (n : ℕ) × IsReference table.now id (slice_get (references h id) n) reference }
     requires levels { (r : RoleTable) × IfSome levels.now (ArePlainLevels table.now r) }
     requires there { IsSome levels.now }
-    ensures { IfOk result (λ s. (h : Heap) (id n : ℕ) → ShowsPaths table.now h levels.now → IsReference table.now h id n reference → s ≡ shown_path (option_map (reference_way h id) (slice_get (references h id) n))) }
+    ensures { IfOk result (λ s. (h : Heap) (id n : ℕ) → ShowsPaths table.now h levels.now → IsReference table.now id (slice_get (references h id) n) reference → s ≡ reference_path h id n) }
 {
     match (reference, levels) {
         (Some(reference), Some(levels)) => {
@@ -49,8 +45,8 @@ fn reference_paths(
     requires found { IfSome found (λ f. (h : Heap) × (id : ℕ) × AreFirst table.now h id f) }
     requires levels { (r : RoleTable) × IfSome levels.now (ArePlainLevels table.now r) }
     requires there { IsSome found → IsSome levels.now }
-    ensures first { IfOk result (λ s. (h : Heap) (id : ℕ) → ShowsPaths table.now h levels.now → IfSome found (AreFirst table.now h id) → s.0 ≡ path_if (is_some found) (shown_path (option_map (reference_way h id) (slice_get (references h id) 0)))) }
-    ensures second { IfOk result (λ s. (h : Heap) (id : ℕ) → ShowsPaths table.now h levels.now → IfSome found (AreFirst table.now h id) → s.1 ≡ path_if (is_some found) (shown_path (option_map (reference_way h id) (slice_get (references h id) 1)))) }
+    ensures first { IfOk result (λ s. (h : Heap) (id : ℕ) → ShowsPaths table.now h levels.now → IfSome found (AreFirst table.now h id) → s.0 ≡ path_if (is_some found) (reference_path h id 0)) }
+    ensures second { IfOk result (λ s. (h : Heap) (id : ℕ) → ShowsPaths table.now h levels.now → IfSome found (AreFirst table.now h id) → s.1 ≡ path_if (is_some found) (reference_path h id 1)) }
 {
     match found {
         Some(found) => {
@@ -75,7 +71,7 @@ fn unshared_verdict<T: HeapCounts>(
     requires found { IfSome found (λ f. (h : Heap) × (id : ℕ) × AreFirst table.now h id f) }
     requires levels { (r : RoleTable) × IfSome levels.now (ArePlainLevels table.now r) }
     requires there { IsSome found → IsSome levels.now }
-    ensures { IfOk result (λ v. (h : Heap) → ShowsPaths table.now h levels.now → IfSome found (AreFirst table.now h (id_at table.now.cells cell)) → v ≡ verdict_if (is_some found) (unshared_verdict (counted_in table.now (T.counts traced.now)) h (id_at table.now.cells cell))) }
+    ensures { IfOk result (λ v. (h : Heap) → ShowsPaths table.now h levels.now → IfSome found (AreFirst table.now h (id_at table.now.cells cell)) → v ≡ verdict_if (is_some found) (unshared_in table.now (T.counts traced.now) h cell)) }
 {
     // what is true of every table
     let cells = table.cells();
@@ -121,7 +117,7 @@ pub(crate) fn push_unshared<T: HeapCounts>(
     requires levels { (r : RoleTable) × IfSome levels.now (ArePlainLevels table.now r) }
     requires there { 0 < length references.now → IsSome levels.now }
     ensures length { OnOk result (length list.new ≡ length list.old + length cells.now) }
-    ensures verdicts { OnOk result ((h : Heap) → ShowsPaths table.now h levels.now → AreFirstOf table.now h cells.now references.now → GoesOn paths list.old (map (λ cell. unshared_verdict (counted_in table.now (T.counts traced.now)) h (id_at table.now.cells cell)) cells.now) list.new) }
+    ensures verdicts { OnOk result ((h : Heap) → ShowsPaths table.now h levels.now → AreFirstOf table.now h cells.now references.now → GoesOn paths list.old (map (unshared_in table.now (T.counts traced.now) h) cells.now) list.new) }
 {
     for place in 0..cells.len() {
         let found = at_place(references, place);

@@ -1,16 +1,14 @@
 use Rattle.std.proofs.Common.{◌≡◌, ◌<◌, ◌+◌, length, drop}
-use Rattle.std.specs.List.{All}
 use Rattle.graph_meaning.specs.Collecting.{instances_verdict}
 use Rattle.graph_meaning.specs.Heap.{Heap}
-use Rattle.verdict_list.specs.Kinds.{named_count, SaysOf, HasFirst}
+use Rattle.verdict_list.specs.Kinds.{named_count, TellOf}
 use Rattle.verdict_list.specs.Listed.{ShowsPaths}
 use Rattle.verdict_list.proofs.GoingOn.{HasGoneOn}
 use Rattle.verdict_list.proofs.instances.push_instances.Given as goal
 
 abbrev pub invariant-loop-count : goal.invariant-loop-count
 invariant-loop-count l = record {
-  gone : (h : Heap) → ShowsPaths l.table h l.levels → All (SaysOf l.table h) l.counts →
-      (length l.fn.list < l.paths → All (HasFirst l.table h) l.counts) →
+  gone : (h : Heap) → ShowsPaths l.table h l.levels → TellOf l.table h (length l.fn.list < l.paths) l.counts →
       HasGoneOn l.paths (λ c. instances_verdict h (named_count l.table c)) l.fn.list l.list (drop l.count-index l.counts) l.counts;
   number : length l.list ≡ length l.fn.list + l.count-index;
 }

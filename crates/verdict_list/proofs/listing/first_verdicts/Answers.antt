@@ -61,7 +61,10 @@ returns-clause-verdicts g c h stand trace =
     subst (λ vs. GoesOn n c.push_dead.new.list vs c.push_instances.new.list)
     (map_pairs (instances_verdict h) (named_count p) c.deref-5.result.now (violating_kinds h)
     (ap (map (named_count p)) c.deref-5.ensures.value ∙ kinds-are p r t places h counts kinds each same (c.in_ok-kinds.ensures.over h stand trace)))
-    (c.in_ok-push_instances.ensures.verdicts h shows (subst (All (SaysOf p h)) (sym c.deref-5.ensures.value) says) (λ less. subst (All (HasFirst p h)) (sym c.deref-5.ensures.value) (first less))) in
+    (c.in_ok-push_instances.ensures.verdicts h shows (record {
+      says = subst (All (SaysOf p h)) (sym c.deref-5.ensures.value) says;
+      first = λ less. subst (All (HasFirst p h)) (sym c.deref-5.ensures.value) (first less);
+    })) in
     let unshared : GoesOn n c.push_instances.new.list (map (unshared_verdict count h) (violating_unshared h)) c.push_unshared.new.list =
     subst (λ vs. GoesOn n c.push_instances.new.list vs c.push_unshared.new.list)
     (map_held (id_in p) (unshared_verdict count h) c.deref-6.result.now (violating_unshared h)

@@ -2,7 +2,8 @@ use Rattle.std.proofs.Common.{◌≡◌, ◌+◌, length, drop}
 use Rattle.graph_meaning.specs.Collecting.{unshared_verdict}
 use Rattle.graph_meaning.specs.Heap.{Heap}
 use Rattle.graph_meaning.specs.Roles.{id_at}
-use Rattle.verdict_list.specs.Listed.{ShowsPaths, AreFirstOf}
+use Rattle.reference_search.specs.References.{AreFirstOf}
+use Rattle.verdict_list.specs.Listed.{ShowsPaths}
 use Rattle.verdict_list.specs.Counts.{counted_in}
 use Rattle.verdict_list.proofs.GoingOn.{HasGoneOn}
 use Rattle.verdict_list.proofs.unshared.push_unshared.Given as goal

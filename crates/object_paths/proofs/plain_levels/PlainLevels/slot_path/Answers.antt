@@ -3,20 +3,20 @@ use Rattle.std.specs.Prelude.{Result, Ok, Err, IfOk}
 use Rattle.std.specs.Option.{option_map}
 use Rattle.heap_base.specs.declared.errors.OutOfMemory.{OutOfMemory}
 use Rattle.graph_meaning.specs.declared.paths.PathView.{PathView}
+use Rattle.graph_meaning.specs.Assertions.{by_slot}
 use Rattle.graph_meaning.specs.Heap.{Heap, edge_of}
-use Rattle.graph_meaning.specs.Paths.{way_by_edge, owner_way, holder_way, view_of}
-use Rattle.graph_meaning.specs.Roles.{RoleTable, id_at}
+use Rattle.graph_meaning.specs.Paths.{owner_way, reference_way, view_of}
+use Rattle.graph_meaning.specs.Roles.{id_at}
 use Rattle.object_table.specs.Placed.{slot_in}
-use Rattle.assert_registry.specs.Laws.{StandFor}
 use Rattle.path_cert.specs.declared.start.Start.TheVariants.{Roots, Owners}
 use Rattle.path_cert.specs.Levels.{LevelTable, AreLevelsOf, search_of, way_in}
 use Rattle.path_cert.specs.Steps.{way_by_slot}
-use Rattle.object_paths.specs.PlainPaths.{PlainTable, ArePlainLevels, none_shut}
+use Rattle.object_paths.specs.PlainPaths.{PlainTable, WhereLevelsOf, none_shut}
 use Rattle.object_paths.proofs.PlainWays.{by-first, no-first, by-second, by-start, by-holder, few-shown}
 use Rattle.object_paths.proofs.plain_levels.PlainLevels.slot_path.Goals as goal
 
 pub returns-in-Some-clause-path : goal.returns-in-Some-clause-path
-returns-in-Some-clause-path c h r id levels stand leads =
+returns-in-Some-clause-path c h r levels stand id leads =
     let p = c.args.table.now in
     let roots = search_of c.args.table.now r Roots (none_shut c.args.table.now) in
     let owners = search_of c.args.table.now r Owners (none_shut c.args.table.now) in
@@ -27,7 +27,7 @@ returns-in-Some-clause-path c h r id levels stand leads =
     ∙ by-holder p r h stand c.args.holder (c.args.slot, id)
 
 pub returns-in-Some-2-clause-path : goal.returns-in-Some-2-clause-path
-returns-in-Some-2-clause-path c h r id levels stand leads =
+returns-in-Some-2-clause-path c h r levels stand id leads =
     let p = c.args.table.now in
     let edge = edge_of (slot_in p c.args.holder c.args.slot) in
     let roots = search_of c.args.table.now r Roots (none_shut c.args.table.now) in
@@ -46,11 +46,10 @@ returns-in-None-clause-path c = go c.owner_step.result c.owner_step.ensures.path
     go : (result : Result PathView OutOfMemory) →
         IfOk result (λ v. Some v ≡ option_map view_of (way_by_slot c.args.table.now (owner_way c.args.table.now.table (id_at c.args.table.now.cells c.args.holder)) c.args.holder c.args.slot)) →
         IfOk result
-        (λ v. (h : Heap) (r : RoleTable) (id : ℕ) → ArePlainLevels c.args.table.now r c.args.self.now → StandFor c.args.table.now r h →
-        edge_of (slot_in c.args.table.now c.args.holder c.args.slot) ≡ Some id →
-        v ≡ view_of (way_by_edge h.table (holder_way h (id_at c.args.table.now.cells c.args.holder)) (c.args.slot, id)))
+        (λ v. (h : Heap) → WhereLevelsOf c.args.table.now h c.args.self.now ((id : ℕ) → edge_of (slot_in c.args.table.now c.args.holder c.args.slot) ≡ Some id →
+        v ≡ view_of (reference_way h id (by_slot (id_at c.args.table.now.cells c.args.holder) c.args.slot))))
     go (Err e) found = found
-    go (Ok v) found = λ h r id levels stand leads.
+    go (Ok v) found = λ h r levels stand id leads.
         let p = c.args.table.now in
         let edge = edge_of (slot_in p c.args.holder c.args.slot) in
         let roots = search_of c.args.table.now r Roots (none_shut c.args.table.now) in

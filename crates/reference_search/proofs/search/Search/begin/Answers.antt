@@ -7,7 +7,7 @@ use Rattle.graph_meaning.specs.Roles.{id_at}
 use Rattle.object_table.specs.Placed.{Placed, id_in}
 use Rattle.reference_search.specs.declared.cell_reference.FirstReferences.{FirstReferences}
 use Rattle.reference_search.specs.declared.cell_reference.TheConstants.{NO_REFERENCES}
-use Rattle.reference_search.specs.Prefixes.{StartList}
+use Rattle.reference_search.specs.References.{StartList}
 use Rattle.reference_search.proofs.search.Search.begin.Goals as goal
 
 starts-empty : (p : Placed) (id : ℕ) → StartList p id [] NO_REFERENCES
