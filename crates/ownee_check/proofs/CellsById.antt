@@ -1,10 +1,10 @@
 -- The cells of all objects, by the ids of the objects.
-use Rattle.std.proofs.Common.{◌≡◌, ℕ, ◌<◌, Bool, true, false, cond, List, [], ◌∷◌, length, get_or, map, IsTrue, Some, ap, sym, refl, ◌∙◌, arith}
+use Rattle.std.proofs.Common.{◌≡◌, ℕ, ◌+◌, ◌<◌, Bool, true, false, cond, List, [], ◌∷◌, ◌++◌, length, take, get_or, map, IsTrue, Some, ap, sym, refl, ◌∙◌, arith}
 use Rattle.std.specs.Prelude.{◌==◌, IsSome, unwrap_or}
 use Rattle.std.specs.List.{All, filter, slice_get}
 use Rattle.std.proofs.lemmas.Bool.{or_right}
 use Rattle.std.proofs.lemmas.List.{get_or-map, length-map}
-use Rattle.std.proofs.lemmas.List.Elements.{All-cons}
+use Rattle.std.proofs.lemmas.List.Elements.{All-cons, filter_more}
 use Rattle.std.proofs.lemmas.Option.{slice_get-get_or}
 use Rattle.graph_meaning.specs.Heap.{Object, ids, is_live}
 use Rattle.graph_meaning.specs.Reach.{has_id}
@@ -70,3 +70,10 @@ module _ (p : Placed) (placed : IsPlaced p) where
 
   pub count-cells : length (cells_by_id p) ≡ length p.table.objects
   count-cells = length-map (ids p.table) at_id ∙ length-map p.table.objects (λ (o : Object). o.id)
+
+  -- one object more, if its cell passes a test
+  pub cells-more : (test : ℕ → Bool) (n cell : ℕ) → n < length p.table.objects → id_in p cell ≡ slice_get (ids p.table) n →
+      filter test (take (n + 1) (cells_by_id p)) ≡ filter test (take n (cells_by_id p)) ++ cond (test cell) (cell ∷ []) []
+  cells-more test n cell within held =
+      filter_more test (cells_by_id p) n 0 (omega (arith, within, count-cells))
+      ∙ ap (λ x. filter test (take n (cells_by_id p)) ++ cond (test x) (x ∷ []) []) (nth-cell n cell within held)
