@@ -12,23 +12,6 @@ use std::alloc::Global;
 use std::test::Fail;
 use test_support::{SampleHeap, cell, roles_in, table_of};
 
-// Which of two objects the owner finds, where it is asked for both.
-fn found_of_two(
-    alloc: Global,
-    table: &ObjectTable,
-    roles: &Roles,
-    owner: u32,
-    ownees: (u32, u32),
-) -> Option<(bool, bool)>
-    requires { AreRolesOf table.now.cells (length table.now.table.kinds) roles.now }
-{
-    let owner = cell(table, owner)?;
-    let first = cell(table, ownees.0)?;
-    let second = cell(table, ownees.1)?;
-    let found = finds(alloc, table, roles, owner, &[first, second]).ok()?;
-    Some((*found.first()?, *found.get(1)?))
-}
-
 // An owner of a heap that is asked for two objects, and which of them it finds.
 struct Case {
     heap: SampleHeap<'static>,
@@ -100,31 +83,27 @@ const CASES: [Case; 10] = [
     },
 ];
 
-fn found_in(
-    alloc: Global,
-    table: &ObjectTable,
-    heap: SampleHeap<'_>,
-    owner: u32,
-    ownees: (u32, u32),
-) -> Result<Option<(bool, bool)>, Fail> {
-    let roles = roles_in(alloc, table, heap)?;
-    Ok(found_of_two(alloc, table, &roles, owner, ownees))
+// Which of the two objects the owner finds, where it is asked for both.
+fn found_by(alloc: Global, table: &ObjectTable, roles: &Roles, case: &Case) -> Option<(bool, bool)>
+    requires { AreRolesOf table.now.cells (length table.now.table.kinds) roles.now }
+{
+    let owner = cell(table, case.owner)?;
+    let first = cell(table, case.ownees.0)?;
+    let second = cell(table, case.ownees.1)?;
+    let found = finds(alloc, table, roles, owner, &[first, second]).ok()?;
+    Some((*found.first()?, *found.get(1)?))
 }
 
-fn found_in_heap(
-    alloc: Global,
-    heap: SampleHeap<'_>,
-    owner: u32,
-    ownees: (u32, u32),
-) -> Result<Option<(bool, bool)>, Fail> {
-    let table = table_of(alloc, heap)?;
-    found_in(alloc, &table, heap, owner, ownees)
+fn found_in(alloc: Global, case: &Case) -> Result<Option<(bool, bool)>, Fail> {
+    let table = table_of(alloc, case.heap)?;
+    let roles = roles_in(alloc, &table, case.heap)?;
+    Ok(found_by(alloc, &table, &roles, case))
 }
 
 #[test]
 fn an_owner_finds_up_to_owners_and_ownees(rt: HostRuntime) -> Result<(), Fail> {
     for case in &CASES {
-        let found = found_in_heap(rt.alloc(), case.heap, case.owner, case.ownees)?;
+        let found = found_in(rt.alloc(), case)?;
         assert_eq!(rt;
             found,
             Some(case.found),

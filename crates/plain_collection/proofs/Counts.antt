@@ -2,21 +2,19 @@
 use Rattle.std.proofs.Common.{◌≡◌, ◌≢◌, ℕ, ◌+◌, ◌<◌, ◌≤◌, Bool, ◌||◌, cond, ⊎_elim, List, [], ◌∷◌, ◌++◌, length, filter, get_or, replicate, set}
 use Rattle.std.proofs.Common.{Option, Some, sym, ap, ◌∙◌, arith, append-nil, eqb-true, eq-eqb}
 use Rattle.std.specs.Prelude.{◌==◌}
-use Rattle.std.specs.List.{flat_map, slice_get}
+use Rattle.std.specs.List.{slice_get}
 use Rattle.std.specs.Str.{bytes_eq}
 use Rattle.std.proofs.lemmas.Bool.{cases_eq, false_from_ne_true}
 use Rattle.std.proofs.lemmas.List.{get_or-set_same, get_or-set_other, length-append, length-map, take_all}
 use Rattle.std.proofs.lemmas.Option.{slice_get_within, get_or_from_slice_get}
-use Rattle.graph_meaning.specs.Assertions.{Reference, references, reference_count, roots_to, slots_to, is_traced, traced_ids, is_owner}
+use Rattle.graph_meaning.specs.Assertions.{Reference, reference_count, roots_to, is_traced, traced_ids, is_owner}
 use Rattle.graph_meaning.specs.Collecting.{instances}
 use Rattle.graph_meaning.specs.Heap.{Table, Heap, ids, kind_at}
 use Rattle.graph_meaning.specs.Roles.{RoleTable}
 use Rattle.object_table.specs.Placed.{Placed, IsPlaced, id_in}
-use Rattle.assert_registry.specs.Laws.{StandFor}
-use Rattle.assert_registry.proofs.ByHeap.{roles_say_of_heap}
 use Rattle.assert_registry.proofs.Marking.{get_or-replicate_same}
-use Rattle.reference_search.specs.Prefixes.{IsOneMore, ScannedByCell}
-use Rattle.reference_search.specs.References.{KeepsTraced}
+use Rattle.reference_search.specs.Prefixes.{IsOneMore, scanned_slots}
+use Rattle.reference_search.proofs.Listing.{references-are}
 use Rattle.verdict_list.proofs.Counting.{AreCounted, seen}
 use Rattle.plain_collection.specs.Counting.{CountsLists, AtMost}
 
@@ -77,20 +75,9 @@ most-none cells counts are cell =
 
 -- ---- at the end
 
--- the references are those by roots and those by slots
-references-are : (h : Heap) (t : Table) (id : ℕ) → h.table ≡ t → roots_to t id ++ flat_map (slots_to t id) (filter (λ x. is_traced h x || is_owner h x) (ids t)) ≡ references h id
-unfolding references
-references-are h t id same =
-    ap (λ (u : Table). roots_to u id ++ flat_map (slots_to u id) (filter (λ x. is_traced h x || is_owner h x) (ids u))) (sym same)
-
--- what is scanned by cell are the traced objects and the owners
-pub scanned-by_cell : (p : Placed) (r : RoleTable) (h : Heap) (kept : List Bool) → IsPlaced p → StandFor p r h → KeepsTraced p h kept → ScannedByCell p r kept (λ x. is_traced h x || is_owner h x)
-scanned-by_cell p r h kept placed stand keeps x id held =
-    let says = roles_say_of_heap h p r placed stand in (λ i. (sym (keeps x id held) i) || (sym (says.owners x id held) i))
-
 -- the counts are the numbers of references
 pub counts-references : (p : Placed) (h : Heap) (counts : List ℕ) → h.table ≡ p.table →
-    CountsLists p (λ id. roots_to p.table id ++ flat_map (slots_to p.table id) (filter (λ x. is_traced h x || is_owner h x) (ids p.table))) counts →
+    CountsLists p (λ id. roots_to p.table id ++ scanned_slots p.table (λ x. is_traced h x || is_owner h x) id) counts →
     (cell id : ℕ) → id_in p cell ≡ Some id → get_or counts cell 0 ≡ reference_count h id
 counts-references p h counts same are cell id held = are cell id held ∙ ap length (references-are h p.table id same)
 

@@ -5,7 +5,6 @@ ghost use Rattle.verdict_list.specs.Listed.{most_verdicts};
 ghost use Rattle.plain_collection.specs.Verdicts.{plain_rules};
 
 use crate::plain_trace::PlainTrace;
-use crate::verdicts::verdicts;
 use graph_meaning::Collection;
 use heap_base::OutOfMemory;
 use heap_parts::HeapParts;
@@ -27,7 +26,7 @@ pub fn collect(
     let roles = parts.roles()?;
     let table = parts.table();
     let trace = PlainTrace::make(alloc, table, &roles)?;
-    let verdicts = verdicts(alloc, table, &roles, &trace, paths)?;
+    let verdicts = trace.verdicts(alloc, table, &roles, paths)?;
     let live = table.live();
     let swept = parts.finish(trace.kept.as_slice(), None);
     Ok(Collection {

@@ -1,19 +1,18 @@
 //! How many references there are to each object.
-ghost use Rattle.std.specs.Prelude.{◌≡◌, ◌+◌, ◌-◌, ◌*◌, ◌^◌, ◌<◌, ◌≤◌, ◌||◌, ◌++◌, ℕ, List, Bool, false, [], length, filter, Some, IsSome, IfOk, replicate, slice_index, slice_index_or, slice_set};
-ghost use Rattle.std.specs.List.{flat_map};
+ghost use Rattle.std.specs.Prelude.{◌≡◌, ◌+◌, ◌-◌, ◌*◌, ◌^◌, ◌<◌, ◌≤◌, ℕ, Bool, [], length, Some, IsSome, IfOk, replicate, slice_index, slice_set};
 ghost use Rattle.assert_registry.specs.Laws.{StandFor};
-ghost use Rattle.graph_meaning.specs.Assertions.{Reference, roots_to, slots_to, reference_count};
-ghost use Rattle.graph_meaning.specs.Heap.{Heap, ids};
-ghost use Rattle.graph_meaning.specs.Reach.{has_id};
+ghost use Rattle.graph_meaning.specs.Assertions.{roots_to, slots_to, reference_count};
+ghost use Rattle.graph_meaning.specs.Heap.{Heap};
 ghost use Rattle.graph_meaning.specs.Roles.{AreRolesOf, cells_of, id_at};
 ghost use Rattle.object_table.specs.Placed.{id_in, IsPlaced, IsSound};
-ghost use Rattle.reference_search.specs.Prefixes.{ScannedByCell};
+ghost use Rattle.reference_search.specs.Prefixes.{ScannedByCell, scanned_slots};
 ghost use Rattle.reference_search.specs.References.{KeepsTraced};
-ghost use Rattle.plain_collection.specs.Counting.{AtMost, CountsLists};
+ghost use Rattle.plain_collection.specs.Counting.{AtMost, CountsLists, CountsMore};
 
 use graph_meaning::Roles;
 use heap_base::OutOfMemory;
 use object_table::ObjectTable;
+use reference_search::is_scanned;
 use std::alloc::Global;
 
 /// For each cell how many references there are to its object: by roots, and by slots of traced objects and of owners. It goes once over
@@ -65,7 +64,7 @@ fn count_objects(table: &ObjectTable, roles: &Roles, kept: &[bool], counts: &mut
     requires kept { length kept.now ≡ length table.now.cells }
     requires each { length counts.old.items ≡ length table.now.cells }
     requires few { AtMost (2 ^ 32) counts.old.items }
-    ensures counts { (before : ℕ → List Reference) → (is_scanned : ℕ → Bool) → ScannedByCell table.now roles.now kept.now is_scanned → CountsLists table.now before counts.old.items → CountsLists table.now (λ id. before id ++ flat_map (slots_to table.now.table id) (filter is_scanned (ids table.now.table))) counts.new.items }
+    ensures counts { (is_scanned : ℕ → Bool) → ScannedByCell table.now roles.now kept.now is_scanned → CountsMore table.now (scanned_slots table.now.table is_scanned) counts.old.items counts.new.items }
     ensures each { length counts.new.items ≡ length counts.old.items }
 {
     for number in 0..table.live() {
@@ -82,7 +81,7 @@ fn count_slots(table: &ObjectTable, holder: u32, counts: &mut Vec<u64>)
     requires holder { IsSome (id_in table.now holder) }
     requires each { length counts.old.items ≡ length table.now.cells }
     requires few { AtMost (2 ^ 63) counts.old.items }
-    ensures counts { (before : ℕ → List Reference) → CountsLists table.now before counts.old.items → CountsLists table.now (λ id. before id ++ slots_to table.now.table id (id_at table.now.cells holder)) counts.new.items }
+    ensures counts { CountsMore table.now (λ id. slots_to table.now.table id (id_at table.now.cells holder)) counts.old.items counts.new.items }
     ensures few { (most : ℕ) → AtMost most counts.old.items → AtMost (most + 2 ^ 32) counts.new.items }
     ensures each { length counts.new.items ≡ length counts.old.items }
 {
@@ -100,13 +99,4 @@ fn count_one(counts: &mut Vec<u64>, cell: u32)
     ensures { counts.new.items ≡ slice_set counts.old.items cell (slice_index counts.old.items cell + 1) }
 {
     counts[cell as usize] += 1;
-}
-
-// Whether the slots of the object in a cell count.
-fn is_scanned(roles: &Roles, kept: &[bool], cell: u32) -> bool
-    requires roles { cell < cells_of roles.now }
-    requires kept { cell < length kept.now }
-    ensures { result ≡ (slice_index_or kept.now cell false || has_id roles.now.owners cell) }
-{
-    kept[cell as usize] || roles.is_owner(cell)
 }

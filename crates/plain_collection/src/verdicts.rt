@@ -17,26 +17,28 @@ use ownee_check::check_ownees;
 use std::alloc::Global;
 use verdict_list::{first_verdicts, push_ownees};
 
-/// The violated assertions of a heap that was traced, in order: what is asserted dead, by id; the types over their limit, by name; what
-/// is asserted unshared, by id; and the ownees, by id. So many of the first carry their paths.
-pub(crate) fn verdicts(
-    alloc: Global,
-    table: &ObjectTable,
-    roles: &Roles,
-    trace: &PlainTrace,
-    paths: u32,
-) -> Result<VerdictList, OutOfMemory>
-    requires roles { AreRolesOf table.now.cells (length table.now.table.kinds) roles.now }
-    requires trace { (h : Heap) × StandFor table.now roles.now h × IsPlainTraceOf table.now h trace.now }
-    ensures verdicts { IfOk result (λ v. (h : Heap) → StandFor table.now roles.now h → IsPlainTraceOf table.now h trace.now → v ≡ first_with_paths paths (all_verdicts (reference_count h) h)) }
-    ensures few { IfOk result (λ v. length v ≤ most_verdicts) }
-{
-    // what is true of every table
-    let cells = table.cells();
-    prove!(cells < u32::MAX);
-    let ownees = ownees_of(alloc, table, roles)?;
-    let check = check_ownees(alloc, table, roles, ownees)?;
-    let mut list = first_verdicts(alloc, table, roles, trace, paths)?;
-    push_ownees(&mut list, table, roles, &check, paths)?;
-    Ok(list)
+impl PlainTrace {
+    /// The violated assertions of the heap that was traced, in order: what is asserted dead, by id; the types over their limit, by
+    /// name; what is asserted unshared, by id; and the ownees, by id. So many of the first carry their paths.
+    pub(crate) fn verdicts(
+        &self,
+        alloc: Global,
+        table: &ObjectTable,
+        roles: &Roles,
+        paths: u32,
+    ) -> Result<VerdictList, OutOfMemory>
+        requires roles { AreRolesOf table.now.cells (length table.now.table.kinds) roles.now }
+        requires trace { (h : Heap) × StandFor table.now roles.now h × IsPlainTraceOf table.now h self.now }
+        ensures verdicts { IfOk result (λ v. (h : Heap) → StandFor table.now roles.now h → IsPlainTraceOf table.now h self.now → v ≡ first_with_paths paths (all_verdicts (reference_count h) h)) }
+        ensures few { IfOk result (λ v. length v ≤ most_verdicts) }
+    {
+        // what is true of every table
+        let cells = table.cells();
+        prove!(cells < u32::MAX);
+        let ownees = ownees_of(alloc, table, roles)?;
+        let check = check_ownees(alloc, table, roles, ownees)?;
+        let mut list = first_verdicts(alloc, table, roles, self, paths)?;
+        push_ownees(&mut list, table, roles, &check, paths)?;
+        Ok(list)
+    }
 }

@@ -7,3 +7,4 @@ mod search;
 
 pub use cell_reference::{CellReference, FirstReferences};
 pub use first::first_references;
+pub use search::is_scanned;

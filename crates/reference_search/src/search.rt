@@ -105,8 +105,8 @@ impl Search {
     }
 }
 
-// Whether the slots of the object in a cell count: those of traced objects and of owners do.
-fn is_scanned(roles: &Roles, kept: &[bool], cell: u32) -> bool
+/// Whether the slots of the object in a cell count: those of traced objects and of owners do.
+pub fn is_scanned(roles: &Roles, kept: &[bool], cell: u32) -> bool
     requires roles { cell < cells_of roles.now }
     requires kept { cell < length kept.now }
     ensures { result ≡ (slice_index_or kept.now cell false || has_id roles.now.owners cell) }

@@ -6,3 +6,4 @@ pub mod Showing
 pub mod WholeLists
 pub mod OwnedPairs
 pub mod WithOwnees
+pub mod Collected

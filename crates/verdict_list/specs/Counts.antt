@@ -15,6 +15,10 @@ pub record CountTable : Type 0 where
   pub instances : List ℕ
   pub kept : List Bool
 
+-- for each type the number of its traced objects
+abbrev pub CountsInstances : Placed → Heap → List ℕ → Type 0
+CountsInstances p h counts = (kind : ℕ) (name : List ℕ) → slice_get p.table.kinds kind ≡ Some name → slice_index counts kind ≡ length (instances h name)
+
 -- The counts are those of the heap whose table is placed so. The numbers of references need not be right: they tell what is
 -- referred to more than once.
 -- kept: a cell is kept exactly where its object is traced
@@ -26,7 +30,7 @@ pub record AreCountsOf (p : Placed) (h : Heap) (t : CountTable) : Type 0 where
   pub kinds : length t.instances ≡ length p.table.kinds
   pub kept : (cell id : ℕ) → id_in p cell ≡ Some id → slice_index_or t.kept cell false ≡ is_traced h id
   pub many : (cell id : ℕ) → id_in p cell ≡ Some id → nat_le 2 (t.references cell) ≡ nat_le 2 (reference_count h id)
-  pub instances : (kind : ℕ) (name : List ℕ) → slice_get p.table.kinds kind ≡ Some name → slice_index t.instances kind ≡ length (instances h name)
+  pub instances : CountsInstances p h t.instances
 
 -- the count in the cell of the object with this id
 abbrev pub counted_in : Placed → CountTable → ℕ → ℕ

@@ -1,9 +1,11 @@
 use Rattle.std.proofs.Common.{◌≡◌, length, sym, ap, subst, ◌∙◌, refl, arith}
+use Rattle.graph_meaning.specs.Assertions.{reference_count}
 use Rattle.object_table.specs.Placed.{Placed}
 use Rattle.assert_registry.specs.Laws.{StandFor}
 use Rattle.heap_parts.specs.Parts.{placed_in}
 use Rattle.plain_collection.specs.Verdicts.{plain_rules}
-use Rattle.plain_collection.proofs.Found.{found-by, traced-few}
+use Rattle.verdict_list.proofs.Collected.{found_by}
+use Rattle.plain_collection.proofs.Found.{traced-few}
 use Rattle.plain_collection.proofs.collecting.collect.Goals as goal
 
 pub returns-clause-found : goal.returns-clause-found
@@ -17,5 +19,5 @@ returns-clause-found c =
     let live : c.live-live.result ≡ length c.args.parts.now.heap.table.objects = c.live-live.ensures.count ∙ ap (λ (x : Placed). length x.table.objects) is in
     let freed = c.finish-swept.ensures.freed in
     let few = traced-few c.args.parts.now.heap in
-    found-by h rules c.args.number c.live-live.result _ c.finish-swept.result.freed c.finish-swept.result.cleared c.in_ok-verdicts.verdicts live
+    found_by (reference_count h) h rules c.args.number c.live-live.result _ c.finish-swept.result.freed c.finish-swept.result.cleared c.in_ok-verdicts.verdicts live
     (omega (arith, live, freed, few)) freed (c.finish-swept.ensures.cleared rules refl) (c.in_ok-verdicts.ensures.verdicts h stand trace)

@@ -1,7 +1,8 @@
 use Rattle.std.proofs.Common.{ap, ◌∙◌, ◌||◌, length}
 use Rattle.std.proofs.lemmas.List.{length-replicate}
 use Rattle.graph_meaning.specs.Assertions.{is_traced, is_owner, roots_to}
-use Rattle.plain_collection.proofs.Counts.{counts-none, counts-references, most-none, scanned-by_cell}
+use Rattle.reference_search.proofs.Listing.{scanned-by_cell}
+use Rattle.plain_collection.proofs.Counts.{counts-none, counts-references, most-none}
 use Rattle.plain_collection.proofs.references.count_references.Goals as goal
 
 pub count_roots-requires-clause-each : goal.count_roots-requires-clause-each
@@ -22,4 +23,4 @@ returns-clause-counts c h stand keeps =
     let placed = c.cells.ensures.placed in
     let roots = c.count_roots.ensures.counts (counts-none p c.cells.result c.in_ok-counts.counts.items c.in_ok-counts.ensures) in
     counts-references p h c.count_objects.new.counts.items stand.table
-    (c.count_objects.ensures.counts (roots_to p.table) (λ x. is_traced h x || is_owner h x) (scanned-by_cell p c.args.roles.now h c.args.kept.now placed stand keeps) roots)
+    (c.count_objects.ensures.counts (λ x. is_traced h x || is_owner h x) (scanned-by_cell p c.args.roles.now h c.args.kept.now placed stand keeps) (roots_to p.table) roots)

@@ -8,7 +8,8 @@ use Rattle.heap_trace.specs.Traces.{IsTraceOf}
 use Rattle.verdicts.specs.Verdicts.{counted_in}
 use Rattle.heap_parts.specs.Parts.{PlacedHeap, placed_in}
 use Rattle.audit_core.specs.Audit.{Audit, AreItsRoles, placed_of, rules_of, next_counted, after_next}
-use Rattle.audit_core.proofs.Collected.{found_by, left_by}
+use Rattle.verdict_list.proofs.Collected.{found_by}
+use Rattle.audit_core.proofs.Collected.{left_by}
 use Rattle.audit_core.proofs.auditor.Auditor.finish_collect.Goals as goal
 
 pub finish-swept-requires-clause-kept : goal.finish-swept-requires-clause-kept

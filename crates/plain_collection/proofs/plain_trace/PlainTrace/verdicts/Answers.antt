@@ -4,14 +4,14 @@ use Rattle.graph_meaning.specs.Laws.{AllLive}
 use Rattle.graph_meaning.specs.Collecting.{first_with_paths, violating_ownees, ownedby_verdict}
 use Rattle.verdict_list.specs.Counts.{counted_in}
 use Rattle.verdict_list.specs.Listed.{GoesOn, owned_pair}
+use Rattle.verdict_list.proofs.Collected.{verdicts_agree}
 use Rattle.verdict_list.proofs.WholeLists.{map_pairs}
 use Rattle.ownee_check.proofs.Violating.{doubts-held}
 use Rattle.plain_collection.specs.PlainTraces.{counts_of}
 use Rattle.plain_collection.proofs.AllOwnees.{ownees-doubted}
-use Rattle.plain_collection.proofs.Found.{verdicts-agree}
 use Rattle.verdict_list.proofs.OwnedPairs.{ownees-are}
 use Rattle.verdict_list.proofs.WithOwnees.{whole, ownees-few}
-use Rattle.plain_collection.proofs.verdicts.verdicts.Goals as goal
+use Rattle.plain_collection.proofs.plain_trace.PlainTrace.verdicts.Goals as goal
 
 pub check_ownees-requires-clause-doubts : goal.check_ownees-requires-clause-doubts
 check_ownees-requires-clause-doubts c =
@@ -39,7 +39,7 @@ push_ownees-requires-clause-check c =
 pub returns-clause-verdicts : goal.returns-clause-verdicts
 returns-clause-verdicts c h stand trace =
     let p = c.args.table.now in
-    let t = counts_of c.args.trace.now in
+    let t = counts_of c.args.self.now in
     let r = c.args.roles.now in
     let n = c.args.paths in
     let violating = c.in_ok-check.ensures.violating h stand (ownees-doubted p r h stand c.in_ok-ownees.ownees.items c.in_ok-ownees.ensures.ownees) in
@@ -49,7 +49,7 @@ returns-clause-verdicts c h stand trace =
     (ownees-are p r h c.in_ok-check.check stand violating))
     (c.in_ok-push_ownees.ensures.verdicts h stand violating) in
     whole n c.in_ok-list.list c.push_ownees.new.list (counted_in p t) h (c.in_ok-list.ensures.verdicts h stand trace.counts) ownees
-    ∙ ap (first_with_paths n) (verdicts-agree p c.cells-cells.ensures.placed h t trace.references (subst (λ tb. AllLive tb h.unshared) stand.table stand.refers.unshared))
+    ∙ ap (first_with_paths n) (verdicts_agree p c.cells-cells.ensures.placed h t trace.references (subst (λ tb. AllLive tb h.unshared) stand.table stand.refers.unshared))
 
 pub returns-clause-few : goal.returns-clause-few
 returns-clause-few c =
