@@ -3,13 +3,38 @@ use Rattle.std.proofs.Common.{refl, ℕ}
 use Rattle.graph_meaning.specs.Reach.{within, reached_nodes, level, distance, predecessor}
 use Rattle.graph_meaning.specs.Assertions.{found_from, under_owners, root_traced, traced_ids, is_met, references}
 use Rattle.graph_meaning.specs.Paths.{way_at, canonical_way, plain_way, unowned_way, view_of}
-use Rattle.graph_meaning.specs.Collecting.{violating_dead, instances, violating_kinds, violating_unshared, violating_ownees, all_verdicts, first_with_paths, with_only, after_sweep, after_collection, collection_counted}
+use Rattle.graph_meaning.specs.Collecting.{violating_dead, instances, violating_kinds, violating_unshared, violating_ownees, all_verdicts, first_with_paths}
+use Rattle.graph_meaning.specs.Collecting.{with_only, after_sweep, after_collection, collection_counted}
 use Rattle.graph_meaning.specs.Step.{alloc_refusal, store_refusal, root_refusal, with_object, with_changed_slot, with_root, step}
-use Rattle.graph_meaning.specs.Examples.{DeadAndNamed, CycleIsFreed, FreedIsNotLive, RegionsNest, InstancesAreCounted, SharedIsFound, OwnershipIsKept, OwnershipIsLost, OwnerIsGone, EdgesBackCount, ArrayIsShared, ArrayIsLetGo, OwneesInAList, LeastPredecessor, PathsFromAnOwner, OwnerIsReplaced, OnePathIsShown, WeakKeepsNothing, WeakFindsNothing, DeadIsCutOff, ServicesDay, Generated, Refusals, FreedIsNotCounted, SearchStopsAtOwners, OwnersDoNotMeet, LongPathIsCut, WeakIsKept, ForceClearsWhatStays, UnownedPathIsLonger}
+use Rattle.graph_meaning.specs.Examples.{DeadAndNamed, CycleIsFreed, FreedIsNotLive, RegionsNest, InstancesAreCounted, SharedIsFound, DeadIsCutOff, Refusals}
+use Rattle.graph_meaning.specs.Examples.{OwnershipIsKept, OwnershipIsLost, OwnerIsGone, OwneesInAList, PathsFromAnOwner, OwnerIsReplaced, OwnersDoNotMeet}
+use Rattle.graph_meaning.specs.Examples.{EdgesBackCount, ArrayIsShared, ArrayIsLetGo, LeastPredecessor, OnePathIsShown, WeakKeepsNothing, WeakFindsNothing}
+use Rattle.graph_meaning.specs.Examples.{ServicesDay, Generated, FreedIsNotCounted, SearchStopsAtOwners, LongPathIsCut, WeakIsKept, ForceClearsWhatStays}
+use Rattle.graph_meaning.specs.Examples.{UnownedPathIsLonger}
 
--- opens the definitions that the examples compute with
+-- what opens the definitions that the examples compute with: of what is reached, of paths, of operations, of collections
+reach_definitions : ℕ
+unfolding within reached_nodes level distance predecessor found_from under_owners root_traced traced_ids is_met references
+reach_definitions = 0
+
+path_definitions : ℕ
+unfolding way_at canonical_way plain_way unowned_way view_of
+path_definitions = 0
+
+step_definitions : ℕ
+unfolding alloc_refusal store_refusal root_refusal with_object with_changed_slot with_root step
+step_definitions = 0
+
+verdict_definitions : ℕ
+unfolding violating_dead instances violating_kinds violating_unshared violating_ownees all_verdicts first_with_paths
+verdict_definitions = 0
+
+collection_definitions : ℕ
+unfolding with_only after_sweep after_collection collection_counted
+collection_definitions = 0
+
 all_definitions : ℕ
-unfolding within reached_nodes level distance predecessor found_from under_owners root_traced traced_ids is_met references way_at canonical_way plain_way unowned_way view_of violating_dead instances violating_kinds violating_unshared violating_ownees all_verdicts first_with_paths with_only after_sweep after_collection collection_counted alloc_refusal store_refusal root_refusal with_object with_changed_slot with_root step
+unfolding reach_definitions path_definitions step_definitions verdict_definitions collection_definitions
 all_definitions = 0
 
 pub dead_and_named : DeadAndNamed

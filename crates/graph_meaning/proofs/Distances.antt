@@ -7,10 +7,9 @@ use Rattle.std.specs.Option.{is_some, option_map, option_and_then}
 use Rattle.std.proofs.lemmas.Bool.{cases_Bool, or_cases, or_left, or_right, and_parts, and_from, false≢true, cases_lt}
 use Rattle.std.proofs.lemmas.List.Elements.{All-head, All-tail}
 use Rattle.std.proofs.lemmas.Option.{option_and_then_some}
-use Rattle.graph_meaning.specs.Heap.{Table, edges}
+use Rattle.graph_meaning.specs.Heap.{edges}
 use Rattle.graph_meaning.specs.Reach.{Graph, has_id, HasEdge, IsPath, within, reached_nodes, distance, predecessor, DistanceIsShortest}
-use Rattle.graph_meaning.specs.Assertions.{open_graph}
-use Rattle.graph_meaning.specs.Paths.{Way, way_by_edge, way_on_to, way_ends, way_at, canonical_way}
+use Rattle.graph_meaning.specs.Paths.{Way, PathSearch, way_by_edge, way_on_to, way_ends, search_graph, way_at, canonical_way}
 use Rattle.graph_meaning.specs.Laws.{CanonicalIsShortest}
 use Rattle.graph_meaning.proofs.Membership.{has_id-filter, list_any-from_has_id, has_id-from_list_any, is_some-find}
 use Rattle.graph_meaning.proofs.Reaching.{IsPath-snoc, reached_is_reachable}
@@ -150,34 +149,34 @@ distance_is_shortest g sources y n found =
 
 -- ---- canonical paths
 
-module _ (t : Table) (g : Graph) (sources : List Way) (k : ℕ) (start : All (λ s. length s.steps ≡ k) sources) where
-  source_steps : (y : ℕ) (w : Way) → find (λ s. s.to == y) sources ≡ Some w → length w.steps ≡ k
-  source_steps y w found = find_All (λ s. s.to == y) (λ s. length s.steps ≡ k) sources w start found
+module _ (s : PathSearch) (k : ℕ) (start : All (λ u. length u.steps ≡ k) s.sources) where
+  source_steps : (y : ℕ) (w : Way) → find (λ u. u.to == y) s.sources ≡ Some w → length w.steps ≡ k
+  source_steps y w found = find_All (λ u. u.to == y) (λ u. length u.steps ≡ k) s.sources w start found
 
-  on_to_steps : (y : ℕ) (v w : Way) → way_on_to t y v ≡ Some w → length w.steps ≡ length v.steps + 1
-  on_to_steps y v w found = go (find (λ e. e.1 == y) (edges t v.to)) found
+  on_to_steps : (y : ℕ) (v w : Way) → way_on_to s.table y v ≡ Some w → length w.steps ≡ length v.steps + 1
+  on_to_steps y v w found = go (find (λ e. e.1 == y) (edges s.table v.to)) found
     where
-      go : (e : Option (ℕ × ℕ)) → option_map (way_by_edge t v) e ≡ Some w → length w.steps ≡ length v.steps + 1
+      go : (e : Option (ℕ × ℕ)) → option_map (way_by_edge s.table v) e ≡ Some w → length w.steps ≡ length v.steps + 1
       go None found = absurd (cc)
       go (Some e) found =
-          let same : way_by_edge t v e ≡ w = cc in
+          let same : way_by_edge s.table v e ≡ w = cc in
           subst (λ (u : Way). length u.steps ≡ length v.steps + 1) same (length-append v.steps _)
 
-  way_at-length : (n y : ℕ) (w : Way) → way_at t g sources n y ≡ Some w → length w.steps ≡ k + n
+  way_at-length : (n y : ℕ) (w : Way) → way_at s n y ≡ Some w → length w.steps ≡ k + n
   unfolding way_at
   way_at-length zero y w found = let e = source_steps y w found in omega arith
   way_at-length (suc n) y w found =
-      option_and_then_some (way_on_to t y) (option_and_then (way_at t g sources n) (predecessor g (way_ends sources) n y)) w found
+      option_and_then_some (way_on_to s.table y) (option_and_then (way_at s n) (predecessor (search_graph s) (way_ends s.sources) n y)) w found
       (λ v before last.
-      option_and_then_some (way_at t g sources n) (predecessor g (way_ends sources) n y) v before
+      option_and_then_some (way_at s n) (predecessor (search_graph s) (way_ends s.sources) n y) v before
       (λ x least at. let e = way_at-length n x v at in let f = on_to_steps y v w last in omega arith))
 
 pub canonical_is_shortest : CanonicalIsShortest
 unfolding canonical_way
 canonical_is_shortest t is_shut sources k y w start found x steps source live path =
-    let g = open_graph t is_shut in
-    option_and_then_some (λ n. way_at t g sources n y) (distance g (way_ends sources) y) w found
+    let s : PathSearch = record { table = t; is_shut = is_shut; sources = sources } in
+    option_and_then_some (λ n. way_at s n y) (distance (search_graph s) (way_ends sources) y) w found
     (λ n far at.
-    let exact = way_at-length t g sources k start n y w at in
-    let least = distance_least g (way_ends sources) y n far x steps source (has_id-ids t x ∙ live) path in
+    let exact = way_at-length s k start n y w at in
+    let least = distance_least (search_graph s) (way_ends sources) y n far x steps source (has_id-ids t x ∙ live) path in
     omega arith)

@@ -17,6 +17,15 @@ use Rattle.graph_meaning.proofs.HeapLemmas.{has_id-ids, object_at-with_only, obj
 use Rattle.graph_meaning.proofs.Tracing.{traced_along, held_by, is_some-references}
 use Rattle.graph_meaning.proofs.Keeping.{has_id-traced_ids}
 
+-- what an edge leads to is live
+pub edge-live : (t : Table) (s : Slot) (y : ℕ) → HoldsLive t s → edge_of s ≡ Some y → is_live t y ≡ true
+edge-live t s y live e = go s.weak s.held live e
+  where
+    go : (weak : Bool) (held : Option ℕ) → IfSome held (λ id. IsTrue (is_live t id)) → cond weak None held ≡ Some y → is_live t y ≡ true
+    go true held live e = absurd cc
+    go false None live e = absurd cc
+    go false (Some z) live e = let same : z ≡ y = cc in subst (λ w. is_live t w ≡ true) same live
+
 -- the edges of an object, if there is one
 pub edges_at : Option Object → List (ℕ × ℕ)
 edges_at o = option_map_or (λ x. edges_of x.slots) o []

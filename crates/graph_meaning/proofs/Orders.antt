@@ -107,6 +107,9 @@ sorted-fold (x ∷ xs) ks sorted = sorted-fold xs (insert_key nat_cmp ks x) (sor
 with_table : (h : Heap) (t : Table) (regions : List (List (List ℕ))) → IsStrictlySortedBy name_cmp (keys_of t.roots) → IsOrdered h → IsOrdered (record h { table = t; regions = regions })
 with_table h t regions roots old = record { roots = roots; dead = old.dead; unshared = old.unshared; limits = old.limits; owners = old.owners }
 
+with_dead : (h : Heap) (dead : List ℕ) (regions : List (List (List ℕ))) → IsStrictlySortedBy nat_cmp dead → IsOrdered h → IsOrdered (record h { dead = dead; regions = regions })
+with_dead h dead regions sorted old = record { roots = old.roots; dead = sorted; unshared = old.unshared; limits = old.limits; owners = old.owners }
+
 roots-with_root : (t : Table) (name : List ℕ) (to : Option ℕ) → IsStrictlySortedBy name_cmp (keys_of t.roots) → IsStrictlySortedBy name_cmp (keys_of (with_root t name to).roots)
 unfolding with_root
 roots-with_root t name None sorted = sorted-remove_entry name_cmp (is_at (name_cmp name)) t.roots sorted
@@ -120,51 +123,19 @@ step_orders h (SetWeak at slot weak) old = IfOk-unless IsOrdered _ _ (λ none. w
 step_orders h (Root name to) old =
     IfOk-unless IsOrdered _ _ (λ none. with_table h (with_root h.table name to) h.regions (roots-with_root h.table name to old.roots) old)
 step_orders h (AssertDead id) old =
-    IfOk-unless IsOrdered _ _
-    (λ none. record {
-      roots = old.roots;
-      dead = sorted-insert_key nat_cmp nat_cmp_total h.dead id old.dead;
-      unshared = old.unshared;
-      limits = old.limits;
-      owners = old.owners;
-    })
+    IfOk-unless IsOrdered _ _ (λ none. with_dead h _ h.regions (sorted-insert_key nat_cmp nat_cmp_total h.dead id old.dead) old)
 step_orders h (StartRegion thread) old = IfOk-unless IsOrdered _ _ (λ none. with_table h h.table _ old.roots old)
 step_orders h (AssertAllDead thread) old =
-    IfOk-unless IsOrdered _ _
-    (λ none. record {
-      roots = old.roots;
-      dead = sorted-fold (slice_index_or (regions_of h.regions thread) 0 []) h.dead old.dead;
-      unshared = old.unshared;
-      limits = old.limits;
-      owners = old.owners;
-    })
+    IfOk-unless IsOrdered _ _ (λ none. with_dead h _ _ (sorted-fold (slice_index_or (regions_of h.regions thread) 0 []) h.dead old.dead) old)
 step_orders h (AssertInstances kind limit) old =
     IfOk-unless IsOrdered _ _
-    (λ none. record {
-      roots = old.roots;
-      dead = old.dead;
-      unshared = old.unshared;
-      limits = sorted-insert_entry name_cmp nat_list_cmp_total h.limits kind limit old.limits;
-      owners = old.owners;
-    })
+    (λ none. record { roots = old.roots; dead = old.dead; unshared = old.unshared; limits = sorted-insert_entry name_cmp nat_list_cmp_total h.limits kind limit old.limits; owners = old.owners })
 step_orders h (AssertUnshared id) old =
     IfOk-unless IsOrdered _ _
-    (λ none. record {
-      roots = old.roots;
-      dead = old.dead;
-      unshared = sorted-insert_key nat_cmp nat_cmp_total h.unshared id old.unshared;
-      limits = old.limits;
-      owners = old.owners;
-    })
+    (λ none. record { roots = old.roots; dead = old.dead; unshared = sorted-insert_key nat_cmp nat_cmp_total h.unshared id old.unshared; limits = old.limits; owners = old.owners })
 step_orders h (AssertOwnedBy owner ownee) old =
     IfOk-unless IsOrdered _ _
-    (λ none. record {
-      roots = old.roots;
-      dead = old.dead;
-      unshared = old.unshared;
-      limits = old.limits;
-      owners = sorted-insert_entry nat_cmp nat_cmp_total h.owners ownee owner old.owners;
-    })
+    (λ none. record { roots = old.roots; dead = old.dead; unshared = old.unshared; limits = old.limits; owners = sorted-insert_entry nat_cmp nat_cmp_total h.owners ownee owner old.owners })
 step_orders h Collect old = old
 
 -- a filter of roots by what they hold
@@ -192,13 +163,10 @@ collect_orders rules h old =
     }
 
 empty_ordered : IsOrdered empty_heap
-empty_ordered = record {
-  roots = sorted-nil name_cmp;
-  dead = sorted-nil nat_cmp;
-  unshared = sorted-nil nat_cmp;
-  limits = sorted-nil name_cmp;
-  owners = sorted-nil nat_cmp;
-}
+empty_ordered =
+    let names = sorted-nil name_cmp in
+    let ids = sorted-nil nat_cmp in
+    record { roots = names; dead = ids; unshared = ids; limits = names; owners = ids }
 
 pub heaps_are_ordered : HeapsAreOrdered
 heaps_are_ordered = (empty_ordered, step_orders, collect_orders)

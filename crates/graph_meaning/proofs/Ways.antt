@@ -12,7 +12,8 @@ use Rattle.graph_meaning.specs.declared.paths.PathStep.{PathStep}
 use Rattle.graph_meaning.specs.Heap.{Slot, Object, Table, Heap, empty_slot, object_at, kind_at, edge_of, numbered_edge, edges_of, edges, edge_at, targets}
 use Rattle.graph_meaning.specs.Reach.{Graph, has_id, within, reached_nodes, level, distance, predecessor}
 use Rattle.graph_meaning.specs.Assertions.{is_owned, open_graph, object_graph, root_ids, owner_ids, owner_targets, under_owners}
-use Rattle.graph_meaning.specs.Paths.{Way, way_by_edge, way_on_to, way_ends, root_way, owner_way, root_ways, owner_ways, way_at, canonical_way, plain_way, unowned_way, start_of, LeadsAlong, IsWay}
+use Rattle.graph_meaning.specs.Paths.{Way, PathSearch, way_by_edge, way_on_to, way_ends, root_way, owner_way, root_ways, owner_ways, search_graph, way_at, canonical_way, plain_way, unowned_way}
+use Rattle.graph_meaning.specs.Paths.{start_of, LeadsAlong, IsWay}
 use Rattle.graph_meaning.specs.Laws.{CanonicalExists, CanonicalIsWay, SourcesAreWays, TracedHasPath, MetHasPath}
 use Rattle.graph_meaning.proofs.Membership.{has_id-Contains, has_id-filter, has_id-from_list_any, list_any-map, list_any-from_has_id, is_some-find}
 use Rattle.graph_meaning.proofs.Distances.{find_All, find-range_first, within-along, distance_within, is_some-distance}
@@ -90,50 +91,51 @@ module _ (g : Graph) (sources : List ℕ) where
 
 -- ---- where there is a canonical path
 
-module _ (t : Table) (is_shut : ℕ → Bool) (sources : List Way) where
+module _ (s : PathSearch) where
   abbrev g : Graph
-  g = open_graph t is_shut
+  g = search_graph s
 
-  on_to-to : (y : ℕ) (v w : Way) → way_on_to t y v ≡ Some w → w.to ≡ y
-  on_to-to y v w found = go (find (λ e. e.1 == y) (edges t v.to)) refl found
+  on_to-to : (y : ℕ) (v w : Way) → way_on_to s.table y v ≡ Some w → w.to ≡ y
+  on_to-to y v w found = go (find (λ e. e.1 == y) (edges s.table v.to)) refl found
     where
-      go : (o : Option (ℕ × ℕ)) → find (λ e. e.1 == y) (edges t v.to) ≡ o → option_map (way_by_edge t v) o ≡ Some w → w.to ≡ y
+      go : (o : Option (ℕ × ℕ)) → find (λ e. e.1 == y) (edges s.table v.to) ≡ o → option_map (way_by_edge s.table v) o ≡ Some w → w.to ≡ y
       go None last found = absurd (cc)
       go (Some e) last found =
-          let same : way_by_edge t v e ≡ w = cc in
-          ap (λ (u : Way). u.to) (sym same) ∙ eqb-true e.1 y (find_passes (λ d. d.1 == y) (edges t v.to) e last)
+          let same : way_by_edge s.table v e ≡ w = cc in
+          ap (λ (u : Way). u.to) (sym same) ∙ eqb-true e.1 y (find_passes (λ d. d.1 == y) (edges s.table v.to) e last)
 
-  way_at-to : (n y : ℕ) (w : Way) → way_at t g sources n y ≡ Some w → w.to ≡ y
+  pub way_at-to : (n y : ℕ) (w : Way) → way_at s n y ≡ Some w → w.to ≡ y
   unfolding way_at
-  way_at-to zero y w found = eqb-true w.to y (find_passes (λ u. u.to == y) sources w found)
+  way_at-to zero y w found = eqb-true w.to y (find_passes (λ u. u.to == y) s.sources w found)
   way_at-to (suc n) y w found =
-      option_and_then_some (way_on_to t y) (option_and_then (way_at t g sources n) (predecessor g (way_ends sources) n y)) w found (λ v before last. on_to-to y v w last)
+      option_and_then_some (way_on_to s.table y) (option_and_then (way_at s n) (predecessor g (way_ends s.sources) n y)) w found (λ v before last. on_to-to y v w last)
 
-  way_at-exists : (n y : ℕ) → IsTrue (has_id (level g (way_ends sources) n) y) → IsTrue (is_some (way_at t g sources n y))
+  way_at-exists : (n y : ℕ) → IsTrue (has_id (level g (way_ends s.sources) n) y) → IsTrue (is_some (way_at s n y))
   unfolding way_at predecessor level within
   way_at-exists zero y at =
-      is_some-find (λ w. w.to == y) sources ∙ sym (list_any-map (λ x. x == y) (λ (w : Way). w.to) sources) ∙ (and_parts _ _ (sym (has_id-filter (has_id (way_ends sources)) g.nodes y) ∙ at)).0
+      is_some-find (λ w. w.to == y) s.sources ∙ sym (list_any-map (λ x. x == y) (λ (w : Way). w.to) s.sources) ∙ (and_parts _ _ (sym (has_id-filter (has_id (way_ends s.sources)) g.nodes y) ∙ at)).0
   way_at-exists (suc n) y at =
       let p = λ (x : ℕ). g.passable x && has_id (g.targets x) y in
-      let least = some_of (find p (level g (way_ends sources) n)) (is_some-find p (level g (way_ends sources) n) ∙ level-last g (way_ends sources) n y at) in
-      let before = some_of (way_at t g sources n least.0) (way_at-exists n least.0 (find_has_id p (level g (way_ends sources) n) least.0 least.1)) in
+      let least = some_of (find p (level g (way_ends s.sources) n)) (is_some-find p (level g (way_ends s.sources) n) ∙ level-last g (way_ends s.sources) n y at) in
+      let before = some_of (way_at s n least.0) (way_at-exists n least.0 (find_has_id p (level g (way_ends s.sources) n) least.0 least.1)) in
       let to_least = way_at-to n least.0 before.0 before.1 in
-      let held : IsTrue (has_id (targets t before.0.to) y) =
-      subst (λ x. IsTrue (has_id (targets t x) y)) (sym to_least) (and_parts _ _ (find_passes p (level g (way_ends sources) n) least.0 least.1)).1 in
+      let held : IsTrue (has_id (targets s.table before.0.to) y) =
+      subst (λ x. IsTrue (has_id (targets s.table x) y)) (sym to_least) (and_parts _ _ (find_passes p (level g (way_ends s.sources) n) least.0 least.1)).1 in
       let edge =
-      some_of (find (λ e. e.1 == y) (edges t before.0.to)) (is_some-find (λ e. e.1 == y) (edges t before.0.to) ∙ sym (list_any-map (λ x. x == y) (λ (e : ℕ × ℕ). e.1) (edges t before.0.to)) ∙ held) in
-      some_and_then (way_on_to t y) (option_and_then (way_at t g sources n) (find p (level g (way_ends sources) n))) before.0
-      (and_then_at (way_at t g sources n) (find p (level g (way_ends sources) n)) least.0 least.1 ∙ before.1)
-      (some_map (way_by_edge t before.0) (find (λ e. e.1 == y) (edges t before.0.to)) edge.0 edge.1)
+      some_of (find (λ e. e.1 == y) (edges s.table before.0.to)) (is_some-find (λ e. e.1 == y) (edges s.table before.0.to) ∙ sym (list_any-map (λ x. x == y) (λ (e : ℕ × ℕ). e.1) (edges s.table before.0.to)) ∙ held) in
+      some_and_then (way_on_to s.table y) (option_and_then (way_at s n) (find p (level g (way_ends s.sources) n))) before.0
+      (and_then_at (way_at s n) (find p (level g (way_ends s.sources) n)) least.0 least.1 ∙ before.1)
+      (some_map (way_by_edge s.table before.0) (find (λ e. e.1 == y) (edges s.table before.0.to)) edge.0 edge.1)
+
+way_at-some : (s : PathSearch) (y : ℕ) (o : Option ℕ) → distance (search_graph s) (way_ends s.sources) y ≡ o → is_some (option_and_then (λ n. way_at s n y) o) ≡ is_some o
+way_at-some s y None far = refl
+way_at-some s y (Some n) far = way_at-exists s n y (distance-level (search_graph s) (way_ends s.sources) n y far)
 
 pub canonical_exists : CanonicalExists
 unfolding canonical_way
 canonical_exists t is_shut sources y =
-    go (distance (open_graph t is_shut) (way_ends sources) y) refl ∙ is_some-distance (open_graph t is_shut) (way_ends sources) y
-  where
-    go : (o : Option ℕ) → distance (open_graph t is_shut) (way_ends sources) y ≡ o → is_some (option_and_then (λ n. way_at t (open_graph t is_shut) sources n y) o) ≡ is_some o
-    go None far = refl
-    go (Some n) far = way_at-exists t is_shut sources n y (distance-level (open_graph t is_shut) (way_ends sources) n y far)
+    let s : PathSearch = record { table = t; is_shut = is_shut; sources = sources } in
+    way_at-some s y (distance (search_graph s) (way_ends sources) y) refl ∙ is_some-distance (search_graph s) (way_ends sources) y
 
 -- ---- a canonical path is a path
 
@@ -179,31 +181,31 @@ LeadsAlong-snoc t x (s ∷ steps) y e leads edge = (leads.0, leads.1, LeadsAlong
 pub IsWay-way_by_edge : (t : Table) (w : Way) (e : ℕ × ℕ) → IsWay t w → edge_at t w.to e.0 ≡ Some e.1 → IsWay t (way_by_edge t w e)
 IsWay-way_by_edge t w e way edge = LeadsAlong-snoc t (start_of w.from) w.steps w.to e way edge
 
-module _ (t : Table) (is_shut : ℕ → Bool) (sources : List Way) (ways : All (IsWay t) sources) where
-  on_to-way : (y : ℕ) (v w : Way) → IsWay t v → way_on_to t y v ≡ Some w → IsWay t w
-  on_to-way y v w way found = go (find (λ e. e.1 == y) (edges t v.to)) refl found
+module _ (s : PathSearch) (ways : All (IsWay s.table) s.sources) where
+  on_to-way : (y : ℕ) (v w : Way) → IsWay s.table v → way_on_to s.table y v ≡ Some w → IsWay s.table w
+  on_to-way y v w way found = go (find (λ e. e.1 == y) (edges s.table v.to)) refl found
     where
-      go : (o : Option (ℕ × ℕ)) → find (λ e. e.1 == y) (edges t v.to) ≡ o → option_map (way_by_edge t v) o ≡ Some w → IsWay t w
+      go : (o : Option (ℕ × ℕ)) → find (λ e. e.1 == y) (edges s.table v.to) ≡ o → option_map (way_by_edge s.table v) o ≡ Some w → IsWay s.table w
       go None last found = absurd (cc)
       go (Some e) last found =
-          let same : way_by_edge t v e ≡ w = cc in
-          subst (IsWay t) same (IsWay-way_by_edge t v e way (find_All (λ d. d.1 == y) (λ d. edge_at t v.to d.0 ≡ Some d.1) (edges t v.to) e (edges-at t v.to) last))
+          let same : way_by_edge s.table v e ≡ w = cc in
+          subst (IsWay s.table) same (IsWay-way_by_edge s.table v e way (find_All (λ d. d.1 == y) (λ d. edge_at s.table v.to d.0 ≡ Some d.1) (edges s.table v.to) e (edges-at s.table v.to) last))
 
-  way_at-way : (n y : ℕ) (w : Way) → way_at t (open_graph t is_shut) sources n y ≡ Some w → IsWay t w
+  way_at-way : (n y : ℕ) (w : Way) → way_at s n y ≡ Some w → IsWay s.table w
   unfolding way_at
-  way_at-way zero y w found = find_All (λ u. u.to == y) (IsWay t) sources w ways found
+  way_at-way zero y w found = find_All (λ u. u.to == y) (IsWay s.table) s.sources w ways found
   way_at-way (suc n) y w found =
-      let g = open_graph t is_shut in
-      option_and_then_some (way_on_to t y) (option_and_then (way_at t g sources n) (predecessor g (way_ends sources) n y)) w found
+      let g = search_graph s in
+      option_and_then_some (way_on_to s.table y) (option_and_then (way_at s n) (predecessor g (way_ends s.sources) n y)) w found
       (λ v before last.
-      option_and_then_some (way_at t g sources n) (predecessor g (way_ends sources) n y) v before (λ x least at. on_to-way y v w (way_at-way n x v at) last))
+      option_and_then_some (way_at s n) (predecessor g (way_ends s.sources) n y) v before (λ x least at. on_to-way y v w (way_at-way n x v at) last))
 
 pub canonical_is_way : CanonicalIsWay
 unfolding canonical_way
 canonical_is_way t is_shut sources y w ways found =
-    let g = open_graph t is_shut in
-    option_and_then_some (λ n. way_at t g sources n y) (distance g (way_ends sources) y) w found
-    (λ n far at. (way_at-way t is_shut sources ways n y w at, way_at-to t is_shut sources n y w at))
+    let s : PathSearch = record { table = t; is_shut = is_shut; sources = sources } in
+    option_and_then_some (λ n. way_at s n y) (distance (search_graph s) (way_ends sources) y) w found
+    (λ n far at. (way_at-way s ways n y w at, way_at-to s n y w at))
 
 -- ---- source references
 

@@ -54,17 +54,28 @@ way_ends ways = map (λ w. w.to) ways
 abbrev pub way_on_to : Table → ℕ → Way → Option Way
 way_on_to t y w = option_map (way_by_edge t w) (find (λ e. e.1 == y) (edges t w.to))
 
+-- A search for canonical paths: the heap's objects, where a path goes on from none that is shut, and the source references in order.
+pub record PathSearch : Type 0 where
+  pub table : Table
+  pub is_shut : ℕ → Bool
+  pub sources : List Way
+
+-- the objects and their edges; a path goes on from none that is shut
+abbrev pub search_graph : PathSearch → Graph
+search_graph s = open_graph s.table s.is_shut
+
 -- The canonical path to an object n steps beyond the source references: its first source reference; or the canonical
 -- path to its predecessor, and one step by the least slot.
-unfoldable pub way_at : Table → Graph → List Way → ℕ → ℕ → Option Way
-way_at t g sources zero y = find (λ w. w.to == y) sources
-way_at t g sources (suc n) y =
-    option_and_then (way_on_to t y) (option_and_then (way_at t g sources n) (predecessor g (way_ends sources) n y))
+unfoldable pub way_at : PathSearch → ℕ → ℕ → Option Way
+way_at s zero y = find (λ w. w.to == y) s.sources
+way_at s (suc n) y =
+    option_and_then (way_on_to s.table y) (option_and_then (way_at s n) (predecessor (search_graph s) (way_ends s.sources) n y))
 
 -- The canonical path to y from source references, where it may go on from no object that is shut.
 unfoldable pub canonical_way : Table → (ℕ → Bool) → List Way → ℕ → Option Way
 canonical_way t is_shut sources y =
-    let g = open_graph t is_shut in option_and_then (λ n. way_at t g sources n y) (distance g (way_ends sources) y)
+    let s : PathSearch = record { table = t; is_shut = is_shut; sources = sources } in
+    option_and_then (λ n. way_at s n y) (distance (search_graph s) (way_ends sources) y)
 
 -- by the roots where they reach y, else by the owners; nothing is shut
 unfoldable pub plain_way : Heap → ℕ → Option Way

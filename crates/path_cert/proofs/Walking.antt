@@ -1,6 +1,6 @@
 -- A walk back over the canonical path, from its end to its start.
 use Rattle.std.proofs.Common.{◌≡◌, ℕ, zero, suc, ◌+◌, ◌<◌, Bool, true, false, ◌&&◌, cond, List, [], ◌∷◌, ◌++◌, length, sym, refl, ap, subst, ◌∙◌}
-use Rattle.std.proofs.Common.{arith, eqb-true, eq-eqb, ◌==◌, Option, None, Some, append-nil, append_assoc}
+use Rattle.std.proofs.Common.{arith, eq-eqb, ◌==◌, Option, None, Some, append-nil, append_assoc}
 use Rattle.std.specs.Prelude.{find, IsSome}
 use Rattle.std.specs.List.{slice_get}
 use Rattle.std.specs.Option.{IfSome, is_some, option_map, option_and_then}
@@ -11,10 +11,10 @@ use Rattle.graph_meaning.specs.declared.paths.PathStep.{PathStep}
 use Rattle.graph_meaning.specs.declared.paths.PathView.{PathView}
 use Rattle.graph_meaning.specs.Heap.{Table, edges, edge_at, edge_of}
 use Rattle.graph_meaning.specs.Reach.{Graph, has_id, level, distance, predecessor}
-use Rattle.graph_meaning.specs.Paths.{Way, way_by_edge, root_way, owner_way, way_on_to, way_ends, way_at, canonical_way, view_of, IsWay}
+use Rattle.graph_meaning.specs.Paths.{Way, PathSearch, way_by_edge, root_way, owner_way, way_on_to, way_ends, way_at, canonical_way, view_of, IsWay}
 use Rattle.graph_meaning.specs.Roles.{id_at}
 use Rattle.graph_meaning.proofs.Distances.{find_All, is_some-distance}
-use Rattle.graph_meaning.proofs.Ways.{canonical_exists, edges-at}
+use Rattle.graph_meaning.proofs.Ways.{canonical_exists, edges-at, way_at-to}
 use Rattle.object_table.specs.Placed.{Placed, id_in, slot_in}
 use Rattle.path_cert.specs.declared.start.Start.{Start}
 use Rattle.path_cert.specs.declared.start.Start.TheVariants.{Roots, Owners}
@@ -24,7 +24,7 @@ use Rattle.path_cert.specs.Levels.{Search, LevelTable, graph_of, ends_of, way_in
 use Rattle.path_cert.specs.Steps.{step_to, way_by_slot}
 use Rattle.path_cert.specs.Trails.{path_steps, HasShown, ByStart, MayStart, IsStart}
 use Rattle.path_cert.proofs.HeldObjects.{held-id, id-held}
-use Rattle.path_cert.proofs.Rounds.{find-passes, level-distance}
+use Rattle.path_cert.proofs.Rounds.{level-distance}
 
 same_Some : {X : Type 0} {a b : X} → Some a ≡ Some b → a ≡ b
 same_Some e = cc
@@ -48,30 +48,18 @@ level-is : (k n : ℕ) → some_level k ≡ Some (suc n) → k ≡ suc n
 level-is zero n is = absurd (cc)
 level-is (suc k) n is = same_Some is
 
--- ---- the way to an object, so many steps beyond the source references
+-- ---- a search by ids
 
-module _ (t : Table) (g : Graph) (sources : List Way) where
-  on_to-to : (y : ℕ) (v w : Way) → way_on_to t y v ≡ Some w → w.to ≡ y
-  on_to-to y v w found = go (find (λ e. e.1 == y) (edges t v.to)) refl found
-    where
-      go : (o : Option (ℕ × ℕ)) → find (λ e. e.1 == y) (edges t v.to) ≡ o → option_map (way_by_edge t v) o ≡ Some w → w.to ≡ y
-      go None last found = absurd (cc)
-      go (Some e) last found =
-          ap (λ (u : Way). u.to) (sym (same_Some found)) ∙ eqb-true e.1 y (find-passes (λ d. d.1 == y) (edges t v.to) e last)
-
-  pub way_at-to : (n y : ℕ) (w : Way) → way_at t g sources n y ≡ Some w → w.to ≡ y
-  unfolding way_at
-  way_at-to zero y w found = eqb-true w.to y (find-passes (λ u. u.to == y) sources w found)
-  way_at-to (suc n) y w found =
-      option_and_then_some (way_on_to t y) (option_and_then (way_at t g sources n) (predecessor g (way_ends sources) n y)) w found (λ v before last. on_to-to y v w last)
+abbrev pub path_search : Placed → Search → PathSearch
+path_search p s = record { table = p.table; is_shut = s.is_shut; sources = s.sources }
 
 -- ---- one step back
 
 -- the way is the one so many steps from the start
 abbrev pub IsWayOf : Placed → Search → Start → ℕ → Way → Type 0
-IsWayOf p s Roots n w = way_at p.table (graph_of p s) s.sources n w.to ≡ Some w
+IsWayOf p s Roots n w = way_at (path_search p s) n w.to ≡ Some w
 IsWayOf p s Owners zero w = w ≡ owner_way p.table w.to
-IsWayOf p s Owners (suc n) w = way_at p.table (graph_of p s) s.sources n w.to ≡ Some w
+IsWayOf p s Owners (suc n) w = way_at (path_search p s) n w.to ≡ Some w
 
 -- the level of an object so many steps from the start; an owner may have any, or none
 abbrev pub IsLevelOf : Start → ℕ → ℕ → Type 0
@@ -112,28 +100,28 @@ module _ (p : Placed) (s : Search) (l : LevelTable) (levels : AreLevelsOf p s l)
     a = arrival_in l.arrivals cell
 
     -- beyond the first step
-    next-back : (n : ℕ) (w : Way) → w.to ≡ id → a.level ≡ suc (suc n) → way_at p.table g s.sources (suc n) id ≡ Some w →
+    next-back : (n : ℕ) (w : Way) → w.to ≡ id → a.level ≡ suc (suc n) → way_at (path_search p s) (suc n) id ≡ Some w →
         (before : Way) × (id_in p a.from ≡ Some before.to) × ((arrival_in l.arrivals a.from).level ≡ suc n)
-        × (way_at p.table g s.sources n before.to ≡ Some before) × (w ≡ way_by_edge p.table before (a.slot, id))
+        × (way_at (path_search p s) n before.to ≡ Some before) × (w ≡ way_by_edge p.table before (a.slot, id))
         × (edge_at p.table before.to a.slot ≡ Some id)
     unfolding way_at
     next-back n w to this_level found =
         let arrives = subst (λ k. AtLevel k (ArrivesFirst p s a id) (ArrivesNext (record { placed = p; search = s }) a id)) this_level (levels.arrives cell id held) in
-        let known = sym (ap (λ o. option_and_then (way_on_to p.table id) (option_and_then (way_at p.table g s.sources n) o)) arrives.least) ∙ found in
-        option_and_then_some (way_on_to p.table id) (way_at p.table g s.sources n arrives.before) w known
+        let known = sym (ap (λ o. option_and_then (way_on_to p.table id) (option_and_then (way_at (path_search p s) n) o)) arrives.least) ∙ found in
+        option_and_then_some (way_on_to p.table id) (way_at (path_search p s) n arrives.before) w known
         (λ v at last.
-        let to_before = way_at-to p.table g s.sources n arrives.before v at in
+        let to_before = way_at-to (path_search p s) n arrives.before v at in
         let edge = ap (λ x. find (λ e. e.1 == id) (edges p.table x)) to_before ∙ arrives.edge in (
           v,
           arrives.held ∙ ap Some (sym to_before),
           level-before n id arrives.before a.from arrives.least arrives.held,
-          ap (way_at p.table g s.sources n) to_before ∙ at,
+          ap (way_at (path_search p s) n) to_before ∙ at,
           same_Some (sym last ∙ ap (option_map (way_by_edge p.table v)) edge),
           find_All (λ e. e.1 == id) (λ e. edge_at p.table v.to e.0 ≡ Some e.1) (edges p.table v.to) (a.slot, id) (edges-at p.table v.to) edge,
         ))
 
     -- the first step from an owner
-    owner-back : (w : Way) → s.start ≡ Owners → a.level ≡ suc zero → way_at p.table g s.sources zero id ≡ Some w →
+    owner-back : (w : Way) → s.start ≡ Owners → a.level ≡ suc zero → way_at (path_search p s) zero id ≡ Some w →
         (o : ℕ) × (id_in p a.from ≡ Some o) × (w ≡ way_by_edge p.table (owner_way p.table o) (a.slot, id)) × (edge_at p.table o a.slot ≡ Some id)
     unfolding way_at
     owner-back w start first_level found =
@@ -151,7 +139,7 @@ module _ (p : Placed) (s : Search) (l : LevelTable) (levels : AreLevelsOf p s l)
         go (Some o) at by leads = (o, at, sym (same_Some by), (subst (IsWay p.table) (sym (same_Some by)) leads).0)
 
     -- the root at which it starts
-    pub root-back : (w : Way) → s.start ≡ Roots → a.level ≡ suc zero → way_at p.table g s.sources zero id ≡ Some w →
+    pub root-back : (w : Way) → s.start ≡ Roots → a.level ≡ suc zero → way_at (path_search p s) zero id ≡ Some w →
         (r : List ℕ × ℕ) × (slice_get p.table.roots a.from ≡ Some r) × (w ≡ root_way p.table r)
     unfolding way_at
     root-back w start first_level found =
@@ -253,14 +241,14 @@ module _ (p : Placed) (s : Search) (l : LevelTable) (levels : AreLevelsOf p s l)
 
   -- the way to an object of a level
   way-at-level : (cell n : ℕ) → IsSome (id_in p cell) → (arrival_in l.arrivals cell).level ≡ suc n →
-      (w : Way) × (way_in p s cell ≡ Some w) × (w.to ≡ id_at p.cells cell) × (way_at p.table g s.sources n (id_at p.cells cell) ≡ Some w)
+      (w : Way) × (way_in p s cell ≡ Some w) × (w.to ≡ id_at p.cells cell) × (way_at (path_search p s) n (id_at p.cells cell) ≡ Some w)
   unfolding canonical_way
   way-at-level cell n held is =
       let id = id_at p.cells cell in
       let far = distance-is (distance g (ends_of s) id) n (sym (ap some_level is) ∙ levels.levels cell id (held-id p cell held)) in
       let there = some-way (way_in p s cell) (canonical_exists p.table s.is_shut s.sources id ∙ sym (is_some-distance g (ends_of s) id) ∙ ap is_some far) in
-      let at = sym (ap (option_and_then (λ n. way_at p.table g s.sources n id)) far) ∙ there.1 in
-      (there.0, there.1, way_at-to p.table g s.sources n id there.0 at, at)
+      let at = sym (ap (option_and_then (λ n. way_at (path_search p s) n id)) far) ∙ there.1 in
+      (there.0, there.1, way_at-to (path_search p s) n id there.0 at, at)
 
   pub way-there : (cell steps : ℕ) → IsSome (id_in p cell) → path_steps l.start (arrival_in l.arrivals cell).level ≡ Some steps → (w : Way) × (way_in p s cell ≡ Some w) × LeadsHere p s l steps cell w
   way-there cell steps held many =
@@ -278,7 +266,7 @@ module _ (p : Placed) (s : Search) (l : LevelTable) (levels : AreLevelsOf p s l)
             record {
               held = held-id p cell held ∙ ap Some (sym way.2);
               level = subst (λ (st : Start). IsLevelOf st steps (arrival_in l.arrivals cell).level) (sym at) (is ∙ ap suc same);
-              is = subst (λ (st : Start). IsWayOf p s st steps way.0) (sym at) (subst (λ m. way_at p.table g s.sources m way.0.to ≡ Some way.0) same (ap (way_at p.table g s.sources n) way.2 ∙ way.3));
+              is = subst (λ (st : Start). IsWayOf p s st steps way.0) (sym at) (subst (λ m. way_at (path_search p s) m way.0.to ≡ Some way.0) same (ap (way_at (path_search p s) n) way.2 ∙ way.3));
             },
           )
       go Owners at (suc n) is many =
@@ -289,7 +277,7 @@ module _ (p : Placed) (s : Search) (l : LevelTable) (levels : AreLevelsOf p s l)
             subst (λ m. LeadsHere p s l m cell way.0) same (record {
               held = held-id p cell held ∙ ap Some (sym way.2);
               level = subst (λ (st : Start). IsLevelOf st (suc n) (arrival_in l.arrivals cell).level) (sym at) is;
-              is = subst (λ (st : Start). IsWayOf p s st (suc n) way.0) (sym at) (ap (way_at p.table g s.sources n) way.2 ∙ way.3);
+              is = subst (λ (st : Start). IsWayOf p s st (suc n) way.0) (sym at) (ap (way_at (path_search p s) n) way.2 ∙ way.3);
             }),
           )
 
@@ -303,7 +291,7 @@ module _ (p : Placed) (s : Search) (l : LevelTable) (levels : AreLevelsOf p s l)
       let id = id_at p.cells cell in
       let new = go l.start (arrival_in l.arrivals cell).level none in
       let far = none-of (distance g (ends_of s) id) (sym (ap some_level new) ∙ levels.levels cell id (held-id p cell held)) in
-      ap (option_and_then (λ n. way_at p.table g s.sources n id)) far
+      ap (option_and_then (λ n. way_at (path_search p s) n id)) far
     where
       go : (start : Start) (k : ℕ) → path_steps start k ≡ None → k ≡ 0
       go start zero is = refl
