@@ -1,9 +1,9 @@
 -- What each change of the parts is to the table, and that the parts stay laid out.
 use Rattle.std.proofs.Common.{◌≡◌, ℕ, zero, suc, ◌+◌, ◌<◌, ◌≤◌, ◌≢◌, ◌==◌, List, [], ◌∷◌, ◌++◌, length, map, filter, replicate, set, get_or}
 use Rattle.std.proofs.Common.{slice_get, Bool, true, false, not, ◌&&◌, ◌||◌, cond, eqb, eq-eqb, ne_eqb, IsTrue, Option, Some, None, IfSome, is_some}
-use Rattle.std.proofs.Common.{unwrap_or, position, refl, sym, ◌∙◌, ap, subst, ⊎_elim, arith}
+use Rattle.std.proofs.Common.{if◌then◌else◌, unwrap_or, position, refl, sym, ◌∙◌, ap, subst, ⊎_elim, arith}
 use Rattle.std.specs.List.{All, sum_by, list_any}
-use Rattle.std.specs.Option.{option_map}
+use Rattle.std.specs.Option.{option_map, option_map_or}
 use Rattle.std.specs.Str.{bytes_eq}
 use Rattle.std.proofs.lemmas.Bool.{false≢true, cases_eq, cases_lt}
 use Rattle.std.proofs.lemmas.Bool.Decides.{nat_tests}
@@ -471,6 +471,43 @@ kept_cell p laid kept cell id is = both (has_id (kept_ids (placed_of p).cells ke
         absurd (false≢true (sym y ∙ ap (is_flagged kept) (sym same) ∙ flag))
     both false true x y = absurd (false≢true (sym x ∙ kept_has (placed_of p).cells kept cell id (id_in-cells p.cells cell ∙ is) y))
 
+un_not : (b : Bool) → not b ≡ false → b ≡ true
+un_not true e = refl
+un_not false e = absurd (false≢true (sym e))
+
+-- Slots are emptied by their cells, where a test of ids says of each object what the test of cells says of its cell, and the
+-- other objects stay in their cells.
+module _ (cells later : List (Option Resident)) (leaves gone : ℕ → Bool) (agree : (c id : ℕ) → id_held cells c ≡ Some id → gone id ≡ leaves c)
+    (stay : (c id : ℕ) → id_held cells c ≡ Some id → leaves c ≡ false → id_held later c ≡ Some id) where
+  abbrev emptied : CellSlot → CellSlot
+  emptied s = if option_map_or leaves s.held false then record s { held = None } else s
+
+  -- a slot that holds a taken cell
+  slot_emptied : (s : CellSlot) → HoldsTaken cells s → slot_of later (emptied s) ≡ slot_without gone (slot_of cells s)
+  slot_emptied s taken = go s.held taken
+    where
+      tested : (c id : ℕ) (b : Bool) → id_held cells c ≡ Some id → leaves c ≡ b →
+          slot_of later (cond b (record { held = None; weak = s.weak }) (record { held = Some c; weak = s.weak }))
+          ≡ cond b (record { held = None; weak = s.weak }) (record { held = Some id; weak = s.weak })
+      tested c id true has is = refl
+      tested c id false has is = ap (λ h. record { held = h; weak = s.weak }) (stay c id has is)
+
+      go : (h : Option ℕ) → IfSome h (λ cell. IsTrue (is_taken cells cell)) →
+          slot_of later (emptied (record { held = h; weak = s.weak })) ≡ slot_without gone (slot_of cells (record { held = h; weak = s.weak }))
+      go None taken = refl
+      go (Some c) taken =
+          let (o, held) = held_taken cells c taken in
+          let has : id_held cells c ≡ Some o.id = ap (option_map (λ (q : Resident). q.id)) held in
+          tested c o.id (leaves c) has refl
+          ∙ ap (λ b. cond b (record { held = None; weak = s.weak }) (record { held = Some o.id; weak = s.weak })) (sym (agree c o.id has))
+          ∙ sym (ap (λ id. slot_without gone (record { held = id; weak = s.weak })) has)
+
+  pub slots_emptied : (slots : List CellSlot) → All (HoldsTaken cells) slots → map (slot_of later) (map emptied slots) ≡ map (slot_without gone) (map (slot_of cells) slots)
+  slots_emptied [] taken = refl
+  slots_emptied (s ∷ slots) taken =
+      ap (λ x. x ∷ map (slot_of later) (map emptied slots)) (slot_emptied s (All-head (HoldsTaken cells) s slots taken))
+      ∙ ap (λ l. slot_without gone (slot_of cells s) ∷ l) (slots_emptied slots (All-tail (HoldsTaken cells) s slots taken))
+
 module _ (p : Parts) (laid : IsLaidOut p) (kept : List Bool) (later : List (Option Resident)) (after : (cell : ℕ) → held_at later cell ≡ held_after kept p.cells cell) where
   abbrev pub kept_now : List ℕ
   kept_now = kept_ids (placed_of p).cells kept
@@ -489,33 +526,12 @@ module _ (p : Parts) (laid : IsLaidOut p) (kept : List Bool) (later : List (Opti
       go true (Some o) = refl
       go false o = refl
 
-  -- a slot that holds a taken cell
-  slot_swept : (s : CellSlot) → HoldsTaken p.cells s → slot_of later (slot_after kept s) ≡ slot_without gone (slot_of p.cells s)
-  slot_swept s taken = go s.held taken
-    where
-      flagged : (c y : ℕ) (b : Bool) → id_held p.cells c ≡ Some y → is_flagged kept c ≡ b →
-          slot_of later (cond (not b) (record { held = None; weak = s.weak }) (record { held = Some c; weak = s.weak }))
-          ≡ cond (not b) (record { held = None; weak = s.weak }) (record { held = Some y; weak = s.weak })
-      flagged c y true has flag =
-          let (o, held, same) = held_with_id p.cells c y has in
-          ap (λ id. record { held = id; weak = s.weak }) (ap (option_map (λ (q : Resident). q.id)) (kept_held c o held flag) ∙ ap Some same)
-      flagged c y false has flag = refl
-
-      go : (h : Option ℕ) → IfSome h (λ cell. IsTrue (is_taken p.cells cell)) →
-          slot_of later (slot_after kept (record { held = h; weak = s.weak })) ≡ slot_without gone (slot_of p.cells (record { held = h; weak = s.weak }))
-      go None taken = refl
-      go (Some c) taken =
-          let (o, held) = held_taken p.cells c taken in
-          let has : id_held p.cells c ≡ Some o.id = ap (option_map (λ (q : Resident). q.id)) held in
-          flagged c o.id (is_flagged kept c) has refl
-          ∙ ap (λ b. cond (not b) (record { held = None; weak = s.weak }) (record { held = Some o.id; weak = s.weak })) (sym (kept_cell p laid kept c o.id has))
-          ∙ sym (ap (λ id. slot_without gone (record { held = id; weak = s.weak })) has)
-
   slots_swept : (slots : List CellSlot) → All (HoldsTaken p.cells) slots → map (slot_of later) (map (slot_after kept) slots) ≡ map (slot_without gone) (map (slot_of p.cells) slots)
-  slots_swept [] taken = refl
-  slots_swept (s ∷ slots) taken =
-      ap (λ x. x ∷ map (slot_of later) (map (slot_after kept) slots)) (slot_swept s (All-head (HoldsTaken p.cells) s slots taken))
-      ∙ ap (λ l. slot_without gone (slot_of p.cells s) ∷ l) (slots_swept slots (All-tail (HoldsTaken p.cells) s slots taken))
+  slots_swept =
+      slots_emptied p.cells later (λ cell. not (is_flagged kept cell)) gone (λ c id has. ap not (kept_cell p laid kept c id has))
+      (λ c id has stays.
+      let (o, held, same) = held_with_id p.cells c id has in
+      ap (option_map (λ (q : Resident). q.id)) (kept_held c o held (un_not (is_flagged kept c) stays)) ∙ ap Some same)
 
   object_swept : (cell : ℕ) (o : Resident) → held_at p.cells cell ≡ Some o → is_flagged kept cell ≡ true → object_at_cell p.kinds later cell ≡ object_without gone (object_at_cell p.kinds p.cells cell)
   object_swept cell o is flag =

@@ -22,7 +22,7 @@ use Rattle.object_table.specs.Residents.{Resident, is_flagged, holds_marked, slo
 use Rattle.object_table.specs.Parts.{Parts, slot_of, object_of, nobody, object_at_cell, placed_of, HoldsTaken, IsLaidOut, IsTable}
 use Rattle.object_table.proofs.Lookups.{found}
 use Rattle.object_table.proofs.Parts.{held_with_id, held_taken, stands_found, found_held, id_in-cells, total-cells}
-use Rattle.object_table.proofs.Changes.{of_some, changed_objects, has_kept, kept_cell}
+use Rattle.object_table.proofs.Changes.{of_some, changed_objects, has_kept, kept_cell, slots_emptied}
 use Rattle.object_table.proofs.Sound.{slot_count-cut_off, sound_cut_off}
 
 -- ---- sums
@@ -105,26 +105,6 @@ module _ (p : Parts) (laid : IsLaidOut p) (marked : List Bool) where
 
   -- ---- slots
 
-  -- a slot that holds a taken cell
-  slot_is : (s : CellSlot) → HoldsTaken p.cells s → slot_of later (slot_cleared marked s) ≡ slot_without gone (slot_of p.cells s)
-  slot_is s taken = go s.held taken
-    where
-      flagged : (c y : ℕ) (b : Bool) → id_held p.cells c ≡ Some y →
-          slot_of later (cond b (record { held = None; weak = s.weak }) (record { held = Some c; weak = s.weak }))
-          ≡ cond b (record { held = None; weak = s.weak }) (record { held = Some y; weak = s.weak })
-      flagged c y true has = refl
-      flagged c y false has = ap (λ id. record { held = id; weak = s.weak }) (same_ids c ∙ has)
-
-      go : (h : Option ℕ) → IfSome h (λ cell. IsTrue (is_taken p.cells cell)) →
-          slot_of later (slot_cleared marked (record { held = h; weak = s.weak })) ≡ slot_without gone (slot_of p.cells (record { held = h; weak = s.weak }))
-      go None taken = refl
-      go (Some c) taken =
-          let (o, held) = held_taken p.cells c taken in
-          let has : id_held p.cells c ≡ Some o.id = ap (option_map (λ (q : Resident). q.id)) held in
-          flagged c o.id (is_flagged marked c) has
-          ∙ ap (λ b. cond b (record { held = None; weak = s.weak }) (record { held = Some o.id; weak = s.weak })) (sym (kept_cell p laid marked c o.id has))
-          ∙ sym (ap (λ id. slot_without gone (record { held = id; weak = s.weak })) has)
-
   -- whether it is one that is cleared
   holds_is : (s : CellSlot) → HoldsTaken p.cells s → option_map_or gone (slot_of p.cells s).held false ≡ holds_marked marked s
   holds_is s taken = go s.held taken
@@ -138,10 +118,7 @@ module _ (p : Parts) (laid : IsLaidOut p) (marked : List Bool) where
           ap (λ id. option_map_or gone id false) has ∙ kept_cell p laid marked c o.id has
 
   slots_are : (slots : List CellSlot) → All (HoldsTaken p.cells) slots → map (slot_of later) (map (slot_cleared marked) slots) ≡ map (slot_without gone) (map (slot_of p.cells) slots)
-  slots_are [] taken = refl
-  slots_are (s ∷ slots) taken =
-      ap (λ x. x ∷ map (slot_of later) (map (slot_cleared marked) slots)) (slot_is s (All-head (HoldsTaken p.cells) s slots taken))
-      ∙ ap (λ l. slot_without gone (slot_of p.cells s) ∷ l) (slots_are slots (All-tail (HoldsTaken p.cells) s slots taken))
+  slots_are = slots_emptied p.cells later (is_flagged marked) gone (kept_cell p laid marked) (λ c id has stays. same_ids c ∙ has)
 
   its_slots : (cell : ℕ) (o : Resident) → held_at p.cells cell ≡ Some o → All (HoldsTaken p.cells) o.slots
   its_slots cell o is = of_some (λ u. All (HoldsTaken p.cells) u.slots) (held_at p.cells cell) o (laid.leads cell) is

@@ -115,27 +115,32 @@ module _ {X : Type 0} where
         ∙ take-set-le i (all_of pages) i x (omega arith)
         ∙ sym (take-take i count (all_of pages) (omega (arith, last)))
 
-  -- ---- an element that is used
+  -- ---- an element that is used, and its page
 
-  module _ (pages : List (List X)) (count i : ℕ) (page : List X) (is : IsPaged pages count) (h : i < length (paged pages count).cells) (at : page ≡ get_or pages (i / 1024) page) where
+  pub record IsPageOf (pages : List (List X)) (count i : ℕ) (page : List X) : Type 0 where
+    pub is : IsPaged pages count
+    pub in_use : i < length (paged pages count).cells
+    pub at : page ≡ get_or pages (i / 1024) page
+
+  module _ {pages : List (List X)} {count i : ℕ} {page : List X} (u : IsPageOf pages count i page) where
     used_cell : i < count
-    used_cell = omega (arith, length-take-le count (all_of pages) is.used)
+    used_cell = omega (arith, u.in_use, length-take-le count (all_of pages) u.is.used)
 
     in_all : i < length (all_of pages)
-    in_all = let few = is.used in let used = used_cell in omega arith
+    in_all = let few = u.is.used in let used = used_cell in omega arith
 
     pub used_place : i % 1024 < length page
-    used_place = place_within pages count i page is in_all at
+    used_place = place_within pages count i page u.is in_all u.at
 
     pub used_read : (x : X) → slice_get page (i % 1024) ≡ Some x → slice_get (paged pages count).cells i ≡ Some x
-    used_read x is_x = read pages count i page is in_all at x used_cell is_x
+    used_read x is_x = read pages count i page u.is in_all u.at x used_cell is_x
 
     pub used_read_back : (x : X) → slice_get (paged pages count).cells i ≡ Some x → slice_get page (i % 1024) ≡ Some x
-    used_read_back x is_x = read_back pages count i page is in_all at x used_cell is_x
+    used_read_back x is_x = read_back pages count i page u.is in_all u.at x used_cell is_x
 
     pub used_put : (x : X) (later : List X) → later ≡ set page (i % 1024) x →
         IsPaged (set pages (i / 1024) later) count × (paged (set pages (i / 1024) later) count ≡ record (paged pages count) { cells = set (paged pages count).cells i x })
-    used_put x later put = rw put (put_keeps pages count i page is in_all at count x is.used, put_is pages count i page is in_all at x used_cell)
+    used_put x later put = rw put (put_keeps pages count i page u.is in_all u.at count x u.is.used, put_is pages count i page u.is in_all u.at x used_cell)
 
     pub used_holds : (P : X → Type 0) → IfSome (slice_get (paged pages count).cells i) P → IfSome (slice_get page (i % 1024)) P
     used_holds P holds = elim (slice_get_cases page (i % 1024)).1 [
@@ -147,7 +152,7 @@ module _ {X : Type 0} where
     pub used_holds_back : (P : X → Type 0) → IfSome (slice_get page (i % 1024)) P → IfSome (slice_get (paged pages count).cells i) P
     used_holds_back P holds = elim (slice_get_cases (paged pages count).cells i).1 [
       | inl there ↦ rw there.2 (rw (used_read_back there.0 there.2) at holds)
-      | inr past ↦ absurd (omega (arith, past.0))
+      | inr past ↦ absurd (omega (arith, past.0, u.in_use))
     ]
 
     -- the element that stood there, changed
@@ -158,7 +163,7 @@ module _ {X : Type 0} where
       | inl there ↦
           let put = used_put (f there.0) later (rw (used_read_back there.0 there.2) at changed) in
           (put.0, rw there.2 put.1)
-      | inr past ↦ absurd (omega (arith, past.0))
+      | inr past ↦ absurd (omega (arith, past.0, u.in_use))
     ]
 
   -- there is room where the next element has a page

@@ -59,14 +59,25 @@ module _ {X : Type 0} where
   pub to_end : (runs : List (Run X)) (k : ℕ) (r : Run X) → IsParted runs k r → length (all_roots (take (k + 1) runs)) ≡ length (all_roots (take k runs)) + length r.roots
   to_end runs k r p = length-more runs k r p.in_range ∙ ap (λ q. length (all_roots (take k runs)) + length q.roots) (sym p.is)
 
-  pub after_start : (runs : List (Run X)) (k place n : ℕ) (r : Run X) → IsParted runs k r → IsRunOf runs place k → n ≡ r.start → n ≤ place
-  after_start runs k place n r p run at = omega (arith, p.start, run.begins)
+  -- The run that has the place, and at the list's end the last run; its first root has the place n.
+  pub record IsHolder (runs : List (Run X)) (k place n : ℕ) (r : Run X) : Type 0 where
+    pub parted : IsParted runs k r
+    pub start : n ≡ r.start
+    pub begins : n ≤ place
+    pub reaches : place - n ≤ length r.roots
+    pub ends : place < length (all_roots runs) → place - n < length r.roots
 
-  pub within : (runs : List (Run X)) (k place n : ℕ) (r : Run X) → IsParted runs k r → IsRunOf runs place k → n ≡ r.start → place - n ≤ length r.roots
-  within runs k place n r p run at = omega (arith, p.start, run.begins, run.reaches, to_end runs k r p)
-
-  pub inside : (runs : List (Run X)) (k place n : ℕ) (r : Run X) → IsParted runs k r → IsRunOf runs place k → n ≡ r.start → place < length (all_roots runs) → place - n < length r.roots
-  inside runs k place n r p run at h = omega (arith, p.start, run.begins, run.ends h, to_end runs k r p)
+  pub holder : (runs : List (Run X)) (k place n : ℕ) (r : Run X) → IsLaid 0 runs → IsRunOf runs place k → r ≡ get_or runs k r → n ≡ r.start → IsHolder runs k place n r
+  holder runs k place n r laid run is at =
+      let p = parted runs k r laid run.in_range is in
+      let end = to_end runs k r p in
+      record {
+        parted = p;
+        start = at;
+        begins = omega (arith, p.start, run.begins);
+        reaches = omega (arith, p.start, run.begins, run.reaches, end);
+        ends = λ h. omega (arith, p.start, run.begins, run.ends h, end);
+      }
 
   -- the root of the list at a place of the run
   pub entry_in : (runs : List (Run X)) (k i : ℕ) (r : Run X) (d : X) → IsParted runs k r → i < length r.roots → get_or (all_roots runs) (r.start + i) d ≡ get_or r.roots i d
@@ -106,7 +117,7 @@ module _ {X : Type 0} where
       IsLaid (length (all_roots (take k runs)) + length s.roots) later → IsLaid 0 (take k runs ++ (s ∷ later))
   laid_edited runs later k r s p start some laid = IsLaid-append 0 (take k runs) (s ∷ later) p.before (omega (arith, p.start), some, IsLaid-at _ _ later (omega arith) laid)
 
-  -- ---- an root of the run is replaced
+  -- ---- a root of the run is replaced, put into it, or taken from it
 
   replaced : (runs : List (Run X)) (k : ℕ) (s : Run X) → k < length runs → set runs k s ≡ take k runs ++ (s ∷ drop (k + 1) runs)
   replaced runs k s h = rw add-one (set_split runs k s h)
@@ -116,39 +127,33 @@ module _ {X : Type 0} where
       let same : length s.roots ≡ length r.roots = ap length is ∙ length-set r.roots i x in
       rw (replaced runs k s p.in_range) (laid_edited runs (drop (k + 1) runs) k r s p start (omega (arith, p.some)) (IsLaid-at _ _ (drop (k + 1) runs) (omega arith) p.after))
 
-  pub set_is : (runs : List (Run X)) (k place n : ℕ) (r s : Run X) (x : X) → IsParted runs k r → n ≡ length (all_roots (take k runs)) →
-      n ≤ place → place - n < length r.roots → s.roots ≡ set r.roots (place - n) x → all_roots (set runs k s) ≡ set (all_roots runs) place x
-  set_is runs k place n r s x p at begins within is =
+  -- an edit at a place of the list is the same edit of the run that has the place
+  edited_is : (edit : List X → ℕ → List X) (runs : List (Run X)) (k place n : ℕ) (r s : Run X) → IsParted runs k r → n ≡ length (all_roots (take k runs)) →
+      ((ys : List X) → edit (r.roots ++ ys) (place - n) ≡ edit r.roots (place - n) ++ ys) →
+      ((xs ys : List X) → length xs ≡ n → edit (xs ++ ys) place ≡ xs ++ edit ys (place - n)) →
+      s.roots ≡ edit r.roots (place - n) → all_roots (set runs k s) ≡ edit (all_roots runs) place
+  edited_is edit runs k place n r s p at left right is =
       ap all_roots (replaced runs k s p.in_range)
       ∙ all_roots_edited runs (drop (k + 1) runs) k s refl
       ∙ ap (λ l. all_roots (take k runs) ++ (l ++ all_roots (drop (k + 1) runs))) is
-      ∙ ap (λ l. all_roots (take k runs) ++ l) (sym (set-append_left r.roots (all_roots (drop (k + 1) runs)) (place - n) x within))
-      ∙ sym (set-append_right (all_roots (take k runs)) (r.roots ++ all_roots (drop (k + 1) runs)) n place x (sym at) begins)
-      ∙ ap (λ l. set l place x) (sym p.list)
+      ∙ ap (λ l. all_roots (take k runs) ++ l) (sym (left (all_roots (drop (k + 1) runs))))
+      ∙ sym (right (all_roots (take k runs)) (r.roots ++ all_roots (drop (k + 1) runs)) (sym at))
+      ∙ ap (λ l. edit l place) (sym p.list)
 
-  -- ---- an root is put into the run
+  pub set_is : (runs : List (Run X)) (k place n : ℕ) (r s : Run X) (x : X) → IsParted runs k r → n ≡ length (all_roots (take k runs)) →
+      n ≤ place → place - n < length r.roots → s.roots ≡ set r.roots (place - n) x → all_roots (set runs k s) ≡ set (all_roots runs) place x
+  set_is runs k place n r s x p at begins within =
+      edited_is (λ l i. set l i x) runs k place n r s p at (λ ys. set-append_left r.roots ys (place - n) x within) (λ xs ys long. set-append_right xs ys n place x long begins)
 
   pub put_is : (runs : List (Run X)) (k place n : ℕ) (r s : Run X) (x : X) → IsParted runs k r → n ≡ length (all_roots (take k runs)) →
       n ≤ place → place - n ≤ length r.roots → s.roots ≡ insert r.roots (place - n) x → all_roots (set runs k s) ≡ insert (all_roots runs) place x
-  put_is runs k place n r s x p at begins within is =
-      ap all_roots (replaced runs k s p.in_range)
-      ∙ all_roots_edited runs (drop (k + 1) runs) k s refl
-      ∙ ap (λ l. all_roots (take k runs) ++ (l ++ all_roots (drop (k + 1) runs))) is
-      ∙ ap (λ l. all_roots (take k runs) ++ l) (sym (insert-append_left r.roots (all_roots (drop (k + 1) runs)) (place - n) x within))
-      ∙ sym (insert-append_right (all_roots (take k runs)) (r.roots ++ all_roots (drop (k + 1) runs)) n place x (sym at) begins)
-      ∙ ap (λ l. insert l place x) (sym p.list)
-
-  -- ---- an root is taken from the run
+  put_is runs k place n r s x p at begins within =
+      edited_is (λ l i. insert l i x) runs k place n r s p at (λ ys. insert-append_left r.roots ys (place - n) x within) (λ xs ys long. insert-append_right xs ys n place x long begins)
 
   pub take_is : (runs : List (Run X)) (k place n : ℕ) (r s : Run X) → IsParted runs k r → n ≡ length (all_roots (take k runs)) → n ≤ place →
       place - n < length r.roots → s.roots ≡ remove r.roots (place - n) → all_roots (set runs k s) ≡ remove (all_roots runs) place
-  take_is runs k place n r s p at begins within is =
-      ap all_roots (replaced runs k s p.in_range)
-      ∙ all_roots_edited runs (drop (k + 1) runs) k s refl
-      ∙ ap (λ l. all_roots (take k runs) ++ (l ++ all_roots (drop (k + 1) runs))) is
-      ∙ ap (λ l. all_roots (take k runs) ++ l) (sym (remove-append_left r.roots (all_roots (drop (k + 1) runs)) (place - n) within))
-      ∙ sym (remove-append_right (all_roots (take k runs)) (r.roots ++ all_roots (drop (k + 1) runs)) n place (sym at) begins)
-      ∙ ap (λ l. remove l place) (sym p.list)
+  take_is runs k place n r s p at begins within =
+      edited_is remove runs k place n r s p at (λ ys. remove-append_left r.roots ys (place - n) within) (λ xs ys long. remove-append_right xs ys n place long begins)
 
   -- ---- the run is taken away
 

@@ -1,6 +1,6 @@
 -- What holds of every table holds after each operation that is not refused, and after objects are freed.
 use Rattle.std.proofs.Common.{◌≡◌, ℕ, ◌<◌, ◌≤◌, List, [], ◌∷◌, ◌++◌, length, map, filter, Bool, true, false, not, ◌==◌, cond, get_or, slice_set}
-use Rattle.std.proofs.Common.{IsTrue, Option, None, Some, IfOk, refl, sym, ◌∙◌, ap, subst, arith}
+use Rattle.std.proofs.Common.{IsTrue, Option, None, Some, IfOk, refl, sym, ◌∙◌, subst, arith}
 use Rattle.std.specs.List.{All, AllPairs, AllByRecursion, list_any, sum_by, IsDistinct}
 use Rattle.std.specs.List.Sorted.{IsStrictlySortedBy}
 use Rattle.std.specs.Map.{keys_of}
@@ -57,6 +57,24 @@ allowed : (P : Heap → Type 0) (refusal : Option Refusal) (h : Heap) → refusa
 allowed P None h none holds = holds
 allowed P (Some r) h none holds = absurd cc
 
+-- What the laws of heaps say of the heap that an operation leaves.
+record IsLeft (h : Heap) : Type 0 where
+  ids : IdsRise h.table
+  live : RefersToLive h
+  ordered : IsOrdered h
+  limits : IsWithinLimits h.table
+
+left_by : (t : Table) (event : Event) (refusal : Option Refusal) (h : Heap) → IsSound t → refusal ≡ None → step (heap_with t) event ≡ heap_unless refusal h → IsLeft h
+left_by t event refusal h sound none is =
+    let kept = allowed (λ g. IsOrdered g × IsWithinLimits g.table) refusal h none
+    (subst (λ r. IfOk r (λ g. IsOrdered g × IsWithinLimits g.table)) is (limits_are_kept.1 (heap_with t) event (limited t sound))) in
+    record {
+      ids = allowed (λ g. IdsRise g.table) refusal h none (subst (λ r. IfOk r (λ g. IdsRise g.table)) is (ids_always_rise.1 (heap_with t) event sound.ids));
+      live = allowed RefersToLive refusal h none (subst (λ r. IfOk r RefersToLive) is (heaps_refer_to_live.1 (heap_with t) event (refers t sound)));
+      ordered = kept.0;
+      limits = kept.1;
+    }
+
 -- ---- type names
 
 pub distinct_with_kind : (kinds : List (List ℕ)) (kind : List ℕ) → IsDistinct bytes_eq kinds → IsDistinct bytes_eq (with_kind kinds kind)
@@ -98,20 +116,18 @@ sound_nothing = record {
 pub sound_with_object : (t : Table) (id : ℕ) (kind : List ℕ) (slots : ℕ) → IsSound t → alloc_refusal t id kind slots ≡ None → IsSound (with_object t id kind slots)
 unfolding step with_object
 sound_with_object t id kind slots sound none =
-    let event : Event = Alloc id kind slots 0 in
-    let live = allowed RefersToLive _ _ none (heaps_refer_to_live.1 (heap_with t) event (refers t sound)) in
-    let kept = allowed (λ h. IsOrdered h × IsWithinLimits h.table) _ _ none (limits_are_kept.1 (heap_with t) event (limited t sound)) in
+    let left = left_by t (Alloc id kind slots 0) _ _ sound none refl in
     record {
-      ids = allowed (λ h. IdsRise h.table) _ _ none (ids_always_rise.1 (heap_with t) event sound.ids);
+      ids = left.ids;
       kinds = distinct_with_kind t.kinds kind sound.kinds;
       seen =
           All-push (λ o. IsTrue (is_seen (with_kind t.kinds kind) o.kind)) t.objects _
           (All-weaker (λ o. IsTrue (is_seen t.kinds o.kind)) (λ o. IsTrue (is_seen (with_kind t.kinds kind) o.kind))
           (λ o. seen_with_kind t.kinds kind o.kind) t.objects sound.seen) (seen_itself t.kinds kind);
       names = sound.names;
-      roots = live.roots;
-      slots = live.slots;
-      limits = kept.1;
+      roots = left.live.roots;
+      slots = left.live.slots;
+      limits = left.limits;
     }
 
 -- a change to a slot changes no type
@@ -123,40 +139,29 @@ kind-with_slot at slot change o = go (o.id == at)
     go false = refl
 
 -- a change to a slot that keeps what it holds live
-sound_with_change : (t : Table) (at slot : ℕ) (change : Slot → Slot) → IsSound t → IdsRise (with_changed_slot t at slot change) →
-    RefersToLive (heap_with (with_changed_slot t at slot change)) → IsWithinLimits (with_changed_slot t at slot change) →
+sound_with_change : (t : Table) (at slot : ℕ) (change : Slot → Slot) → IsSound t → IsLeft (heap_with (with_changed_slot t at slot change)) →
     IsSound (with_changed_slot t at slot change)
 unfolding with_changed_slot
-sound_with_change t at slot change sound rise live kept = record {
-  ids = rise;
+sound_with_change t at slot change sound left = record {
+  ids = left.ids;
   kinds = sound.kinds;
   seen =
       All-map (λ o. IsTrue (is_seen t.kinds o.kind)) (with_slot at slot change) t.objects
       (All-weaker (λ o. IsTrue (is_seen t.kinds o.kind)) (λ o. IsTrue (is_seen t.kinds (with_slot at slot change o).kind))
       (λ o seen. subst (λ kind. IsTrue (is_seen t.kinds kind)) (sym (kind-with_slot at slot change o)) seen) t.objects sound.seen);
   names = sound.names;
-  roots = live.roots;
-  slots = live.slots;
-  limits = kept;
+  roots = left.live.roots;
+  slots = left.live.slots;
+  limits = left.limits;
 }
 
 pub sound_with_store : (t : Table) (at slot : ℕ) (to : Option ℕ) → IsSound t → store_refusal t at slot to ≡ None → IsSound (with_changed_slot t at slot (slot_holding to))
 unfolding step
-sound_with_store t at slot to sound none =
-    let event : Event = Store at slot to in
-    sound_with_change t at slot (slot_holding to) sound
-    (allowed (λ h. IdsRise h.table) _ _ none (ids_always_rise.1 (heap_with t) event sound.ids))
-    (allowed RefersToLive _ _ none (heaps_refer_to_live.1 (heap_with t) event (refers t sound)))
-    (allowed (λ h. IsOrdered h × IsWithinLimits h.table) _ _ none (limits_are_kept.1 (heap_with t) event (limited t sound))).1
+sound_with_store t at slot to sound none = sound_with_change t at slot (slot_holding to) sound (left_by t (Store at slot to) _ _ sound none refl)
 
 pub sound_with_weak : (t : Table) (at slot : ℕ) (weak : Bool) → IsSound t → slot_refusal t at slot ≡ None → IsSound (with_changed_slot t at slot (slot_made_weak weak))
 unfolding step
-sound_with_weak t at slot weak sound none =
-    let event : Event = SetWeak at slot weak in
-    sound_with_change t at slot (slot_made_weak weak) sound
-    (allowed (λ h. IdsRise h.table) _ _ none (ids_always_rise.1 (heap_with t) event sound.ids))
-    (allowed RefersToLive _ _ none (heaps_refer_to_live.1 (heap_with t) event (refers t sound)))
-    (allowed (λ h. IsOrdered h × IsWithinLimits h.table) _ _ none (limits_are_kept.1 (heap_with t) event (limited t sound))).1
+sound_with_weak t at slot weak sound none = sound_with_change t at slot (slot_made_weak weak) sound (left_by t (SetWeak at slot weak) _ _ sound none refl)
 
 distinct_with_root : (t : Table) (name : List ℕ) (to : Option ℕ) → IsDistinct bytes_eq t.kinds → IsDistinct bytes_eq (with_root t name to).kinds
 unfolding with_root
@@ -172,24 +177,21 @@ seen_with_root t name (Some id) seen = seen
 pub sound_with_root : (t : Table) (name : List ℕ) (to : Option ℕ) → IsSound t → root_refusal t name to ≡ None → IsSound (with_root t name to)
 unfolding step
 sound_with_root t name to sound none =
-    let event : Event = Root name to in
-    let u = with_root t name to in
-    let live = allowed RefersToLive _ _ none (heaps_refer_to_live.1 (heap_with t) event (refers t sound)) in
-    let kept = allowed (λ h. IsOrdered h × IsWithinLimits h.table) _ _ none (limits_are_kept.1 (heap_with t) event (limited t sound)) in
+    let left = left_by t (Root name to) _ _ sound none refl in
     record {
-      ids = allowed (λ h. IdsRise h.table) _ _ none (ids_always_rise.1 (heap_with t) event sound.ids);
+      ids = left.ids;
       kinds = distinct_with_root t name to sound.kinds;
       seen = seen_with_root t name to sound.seen;
-      names = kept.0.roots;
-      roots = live.roots;
-      slots = live.slots;
-      limits = kept.1;
+      names = left.ordered.roots;
+      roots = left.live.roots;
+      slots = left.live.slots;
+      limits = left.limits;
     }
 
 pub sound_with_kind : (t : Table) (kind : List ℕ) → IsSound t → kind_refusal t kind ≡ None → IsSound (record t { kinds = with_kind t.kinds kind })
 unfolding step
 sound_with_kind t kind sound none =
-    let kept = allowed (λ h. IsOrdered h × IsWithinLimits h.table) _ _ none (limits_are_kept.1 (heap_with t) (AssertInstances kind 0) (limited t sound)) in
+    let left = left_by t (AssertInstances kind 0) _ _ sound none refl in
     record {
       ids = record { rising = sound.ids.rising; within = sound.ids.within };
       kinds = distinct_with_kind t.kinds kind sound.kinds;
@@ -197,7 +199,7 @@ sound_with_kind t kind sound none =
       names = sound.names;
       roots = sound.roots;
       slots = sound.slots;
-      limits = kept.1;
+      limits = left.limits;
     }
 
 -- ---- freed objects

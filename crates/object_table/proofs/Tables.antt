@@ -75,8 +75,14 @@ module _ (p : Parts) (is : IsTable p) where
   found_in id cell at = found_held p is.laid id cell (sym (id_in-held p is.laid cell) ∙ at)
 
   -- the object in the cell has the slot that is not refused
-  pub slot_of_cell : (at slot cell : ℕ) (o : Resident) → id_in (placed_of p) cell ≡ Some at → held_at p.cells cell ≡ Some o → slot_refusal (placed_of p).table at slot ≡ None → slot < length o.slots
-  slot_of_cell at slot cell o in_cell held allowed = omega (arith, slot_fits (placed_of p).table at slot allowed, slots_of-found at cell o (found_in at cell in_cell) held)
+  -- The object with the id stands in the cell, and has the slot.
+  pub record HasSlotAt (at slot cell : ℕ) (o : Resident) : Type 0 where
+    pub in_cell : id_in (placed_of p) cell ≡ Some at
+    pub held : held_at p.cells cell ≡ Some o
+    pub allowed : slot_refusal (placed_of p).table at slot ≡ None
+
+  pub slot_of_cell : (at slot cell : ℕ) (o : Resident) → HasSlotAt at slot cell o → slot < length o.slots
+  slot_of_cell at slot cell o has = omega (arith, slot_fits (placed_of p).table at slot has.allowed, slots_of-found at cell o (found_in at cell has.in_cell) has.held)
 
   -- the slots of an object hold taken cells
   pub slots_taken : (cell slot : ℕ) (o : Resident) (s : CellSlot) → held_at p.cells cell ≡ Some o → slice_get o.slots slot ≡ Some s → HoldsTaken p.cells s
@@ -189,32 +195,32 @@ module _ (p : Parts) (is : IsTable p) where
     pub cells : (placed_of (record p { cells = later })).cells ≡ (placed_of p).cells
 
   changed_with : (at slot cell : ℕ) (change : Slot → Slot) (o : Resident) (s value : CellSlot) (later : List (Option Resident)) →
-      id_in (placed_of p) cell ≡ Some at → held_at p.cells cell ≡ Some o → slice_get o.slots slot ≡ Some s →
+      HasSlotAt p is at slot cell o → slice_get o.slots slot ≡ Some s →
       change (slot_of p.cells s) ≡ slot_of p.cells value → HoldsTaken p.cells value →
       IsSound (with_changed_slot (placed_of p).table at slot change) →
       later ≡ set p.cells cell (Some (record o { slots = set o.slots slot value })) → IsChanged at slot change later
-  changed_with at slot cell change o s value later in_cell held there changes taken sound put =
-      let its_id : o.id ≡ at = same_Some o.id at (sym (ap (option_map (λ (q : Resident). q.id)) held) ∙ sym (id_in-held p is.laid cell) ∙ in_cell) in
-      let same : (placed_of (with_changed p is.laid cell slot o s value held there change changes)).table ≡ with_changed_slot (placed_of p).table at slot change =
-      changed_is p is.laid cell slot o s value held there change changes ∙ ap (λ id. with_changed_slot (placed_of p).table id slot change) its_id in
+  changed_with at slot cell change o s value later has there changes taken sound put =
+      let its_id : o.id ≡ at = same_Some o.id at (sym (ap (option_map (λ (q : Resident). q.id)) has.held) ∙ sym (id_in-held p is.laid cell) ∙ has.in_cell) in
+      let same : (placed_of (with_changed p is.laid cell slot o s value has.held there change changes)).table ≡ with_changed_slot (placed_of p).table at slot change =
+      changed_is p is.laid cell slot o s value has.held there change changes ∙ ap (λ id. with_changed_slot (placed_of p).table id slot change) its_id in
       subst (IsChanged at slot change) (sym put) (record {
         table = record {
-          laid = changed_laid p is.laid cell slot o s value held there change changes taken;
+          laid = changed_laid p is.laid cell slot o s value has.held there change changes taken;
           counted = is.counted ∙ sym (slot_count-changed (placed_of p).table at slot change) ∙ sym (ap slot_count same);
           sound = subst IsSound (sym same) sound;
         };
         same = same;
-        cells = changed_cells p is.laid cell slot o s value held there change changes;
+        cells = changed_cells p is.laid cell slot o s value has.held there change changes;
       })
 
   pub stored : (at slot cell : ℕ) (to target : Option ℕ) (o : Resident) (s : CellSlot) (later : List (Option Resident)) →
-      id_in (placed_of p) cell ≡ Some at → held_at p.cells cell ≡ Some o → slice_get o.slots slot ≡ Some s →
+      HasSlotAt p is at slot cell o → slice_get o.slots slot ≡ Some s →
       option_and_then (id_in (placed_of p)) target ≡ to → IfSome target (λ c. IsSome (id_in (placed_of p) c)) →
       store_refusal (placed_of p).table at slot to ≡ None →
       later ≡ set p.cells cell (Some (record o { slots = set o.slots slot (record { held = target; weak = s.weak }) })) →
       IsChanged at slot (slot_holding to) later
-  stored at slot cell to target o s later in_cell held there holds taken allowed put =
-      changed_with at slot cell (slot_holding to) o s (record { held = target; weak = s.weak }) later in_cell held there
+  stored at slot cell to target o s later has there holds taken allowed put =
+      changed_with at slot cell (slot_holding to) o s (record { held = target; weak = s.weak }) later has there
       (ap (λ id. record { held = id; weak = s.weak }) (sym holds ∙ same_held p is target))
       (go target taken)
       (sound_with_store (placed_of p).table at slot to is.sound allowed) put
@@ -228,14 +234,13 @@ module _ (p : Parts) (is : IsTable p) where
           one (Some u) e some = refl
 
   pub made_weak : (at slot cell : ℕ) (weak : Bool) (o : Resident) (s : CellSlot) (later : List (Option Resident)) →
-      id_in (placed_of p) cell ≡ Some at → held_at p.cells cell ≡ Some o → slice_get o.slots slot ≡ Some s →
-      slot_refusal (placed_of p).table at slot ≡ None →
+      HasSlotAt p is at slot cell o → slice_get o.slots slot ≡ Some s →
       later ≡ set p.cells cell (Some (record o { slots = set o.slots slot (record { held = s.held; weak = weak }) })) →
       IsChanged at slot (slot_made_weak weak) later
-  made_weak at slot cell weak o s later in_cell held there allowed put =
-      changed_with at slot cell (slot_made_weak weak) o s (record { held = s.held; weak = weak }) later in_cell held there refl
-      (slots_taken p is cell slot o s held there)
-      (sound_with_weak (placed_of p).table at slot weak is.sound allowed) put
+  made_weak at slot cell weak o s later has there put =
+      changed_with at slot cell (slot_made_weak weak) o s (record { held = s.held; weak = weak }) later has there refl
+      (slots_taken p is cell slot o s has.held there)
+      (sound_with_weak (placed_of p).table at slot weak is.sound has.allowed) put
 
   -- ---- an object more
 

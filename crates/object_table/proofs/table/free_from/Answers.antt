@@ -67,5 +67,6 @@ loop-place-preserved c =
           freed_kept c.args.kept.now c.args.cells.now.cells c.args.ids.now c.args.first c.loop-place.place c.requires.stacked (omega arith)
           c.loop-place.invariant.within c.loop-place.cells.cells c.loop-place.invariant.freed nowhere flag;
       slots =
-          counted_kept c.args.kept.now c.args.cells.now.cells c.args.ids.now c.loop-place.place c.loop-place.slots nowhere (omega arith) c.loop-place.invariant.within flag c.loop-place.invariant.slots;
+          counted_kept c.args.kept.now c.args.cells.now.cells c.args.ids.now c.loop-place.place c.loop-place.slots nowhere (omega arith)
+          c.loop-place.invariant.within flag c.loop-place.invariant.slots;
     }

@@ -10,7 +10,8 @@ use Rattle.object_table.proofs.kinds.Kinds.add.Goals as goal
 pub invariant_of-self-2 : goal.invariant_of-self-2
 invariant_of-self-2 c =
     rw (c.in_ok-push.ensures.items, c.in_ok-copy.ensures)
-    (IsIndexed-add _ c.self.inside.numbers c.insert.new.self c.args.name.now (string_bytes c.in_ok-key.key) c.len-number.result c.self.invariant (rw c.self.view_is c.requires.new) (rw c.self.view_is c.requires.room)
+    (IsIndexed-add _ c.self.inside.numbers c.insert.new.self c.args.name.now (string_bytes c.in_ok-key.key) c.len-number.result c.self.invariant
+    (rw c.self.view_is c.requires.new) (rw c.self.view_is c.requires.room)
     (c.in_ok-key.ensures.ok ∙ c.as_str.ensures.text) (omega arith)
     (btree_map_updates_text (string_bytes c.in_ok-key.key) c.self.inside.numbers c.insert.new.self _ c.in-Ok.ensures.updates))
 

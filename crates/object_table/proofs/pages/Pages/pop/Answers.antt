@@ -1,7 +1,7 @@
 use Rattle.std.proofs.Common.{◌-◌, arith}
 use Rattle.object_table.specs.declared.cell.Cell.TheVariants.{Empty}
 use Rattle.std.specs.Prelude.{None}
-use Rattle.object_table.proofs.Paging.{last_used, page_of_used, used_place, popped}
+use Rattle.object_table.proofs.Paging.{IsPageOf, last_used, page_of_used, used_place, popped}
 use Rattle.object_table.proofs.pages.Pages.pop.Goals as goal
 
 pub index_mut-page-requires : goal.index_mut-page-requires
@@ -12,7 +12,8 @@ index_mut-page-requires c =
 pub put-requires : goal.put-requires
 put-requires c =
     let last = last_used c.self.inside.pages.items c.self.inside.count c.self.invariant (rw (← c.self.view_is) at c.requires) in
-    used_place c.self.inside.pages.items c.self.inside.count (c.self.inside.count - 1) c.index_mut-page.result.now c.self.invariant last c.index_mut-page.ensures.value
+    let u : IsPageOf c.self.inside.pages.items c.self.inside.count (c.self.inside.count - 1) c.index_mut-page.result.now = record { is = c.self.invariant; in_use = last; at = c.index_mut-page.ensures.value } in
+    used_place u
 
 pub invariant_of-self : goal.invariant_of-self
 invariant_of-self c =

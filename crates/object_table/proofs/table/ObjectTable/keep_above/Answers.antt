@@ -34,7 +34,8 @@ invariant_of-self c =
     (rw (← c.self.view_is) at c.requires.others) (rw (← c.self.view_is) at c.requires.stacked) (rw (← c.self.view_is) at c.requires.held)
     c.free_from-freed.new.cells.cells c.free_from-freed.ensures.freed in
     rw c.keep_from.ensures
-    (table_kept (parts_in c.self.inside) c.self.invariant c.args.kept.now c.free_from-freed.new.cells.cells (omega (arith, c.free_from-freed.ensures.count)) after (rw (← c.self.view_is) at c.requires.closed) (c.self.inside.slots - c.free_from-freed.result)
+    (table_kept (parts_in c.self.inside) c.self.invariant c.args.kept.now c.free_from-freed.new.cells.cells (omega (arith, c.free_from-freed.ensures.count))
+    after (rw (← c.self.view_is) at c.requires.closed) (c.self.inside.slots - c.free_from-freed.result)
     (slots_left (parts_in c.self.inside) c.self.invariant c.args.kept.now c.args.number c.first_above-first.result c.first_above-first.ensures.before
     c.first_above-first.ensures.after c.first_above-first.ensures.bound (rw (← c.self.view_is) at c.requires.others)
     (rw (← c.self.view_is) at c.requires.stacked) (rw (← c.self.view_is) at c.requires.held) c.free_from-freed.new.cells.cells
