@@ -177,6 +177,20 @@ module _ (ts : List ThreadRegions) (old : RegionTable) (is : region_table ts ≡
       sym (sym (regions_of-table ts n) ∙ (λ j. regions_of (let o : RegionTable = is j in o.regions) (at j)))
       ∙ ap (λ (t : ThreadRegions). t.regions) (get_or-eq_default ts unused_thread past)
 
+-- The stack of a thread, in a list of stacks that makes the table.
+pub record IsStackOf (ts : List ThreadRegions) (old : RegionTable) (n i : ℕ) (t : ThreadRegions) : Type 0 where
+  pub is : region_table ts ≡ old
+  pub at : n ≡ i
+  pub here : n < length ts
+  pub thread : t ≡ thread_in ts old is n i at
+
+-- the list may have got unused stacks since it made the table
+pub stack_of : (ts us : List ThreadRegions) (old : RegionTable) (n i : ℕ) (t : ThreadRegions) → for_each_thread unused_thread ts ≡ for_each_thread unused_thread us →
+    region_table us ≡ old → n ≡ i → n < length ts → t ≡ get_or ts n t → IsStackOf ts old n i t
+stack_of ts us old n i t same is at here stands =
+    let now = region_table-same ts us same ∙ is in
+    record { is = now; at = at; here = here; thread = thread-at ts old now n i at t t here stands }
+
 -- a thread that was put reserved is reserved
 pub reserved_then : (ts : List ThreadRegions) (n i : ℕ) → n ≡ i → n < length ts → (t : ThreadRegions) → t.reserved ≡ true → IsTrue (is_reserved (region_table (set ts n t)) i)
 reserved_then ts n i at here t reserved =
