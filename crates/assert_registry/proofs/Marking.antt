@@ -30,7 +30,7 @@ module _ (p : Placed) (placed : IsPlaced p) (id cell : ℕ) (held : id_in p cell
       go (Some x) apart = rw (ne_eqb id x (λ e. apart (ap Some (sym e)))) refl
 
   -- The flag of the object's cell is set, and fewer are left.
-  pub flag_more : (flags : List Bool) (rest : List ℕ) → cell < length flags → (other : ℕ) →
+  flag_more : (flags : List Bool) (rest : List ℕ) → cell < length flags → (other : ℕ) →
       (get_or (set flags cell true) other false || holds_one_of p rest other) ≡ (get_or flags other false || holds_one_of p (id ∷ rest) other)
   flag_more flags rest within other = ⊎_elim same apart (cases_eq other cell)
     where
@@ -42,6 +42,13 @@ module _ (p : Placed) (placed : IsPlaced p) (id cell : ℕ) (held : id_in p cell
       apart : other ≢ cell → (get_or (set flags cell true) other false || holds_one_of p rest other) ≡ (get_or flags other false || holds_one_of p (id ∷ rest) other)
       apart ne =
           ap (λ b. b || holds_one_of p rest other) (get_or-set_other flags cell other true false ne) ∙ ap (λ b. get_or flags other false || b) (sym (holds-other rest other ne))
+
+  -- What the flags say together with the objects that are left stays the same when the flag of the first of these is set.
+  pub flag_first : (flags : List Bool) (left all : List ℕ) (is_set : ℕ → Bool) → cell < length flags → all ≡ id ∷ left →
+      ((other : ℕ) → (get_or flags other false || holds_one_of p all other) ≡ is_set other) →
+      (other : ℕ) → (get_or (set flags cell true) other false || holds_one_of p left other) ≡ is_set other
+  flag_first flags left all is_set within first so_far other =
+      flag_more flags left within other ∙ ap (λ ids. get_or flags other false || holds_one_of p ids other) (sym first) ∙ so_far other
 
   -- ---- roles
 

@@ -9,9 +9,9 @@ use Rattle.std.proofs.lemmas.Option.{option_and_then_some}
 use Rattle.graph_meaning.specs.declared.paths.PathFrom.{PathFrom}
 use Rattle.graph_meaning.specs.declared.paths.PathStep.{PathStep}
 use Rattle.graph_meaning.specs.declared.paths.PathView.{PathView}
-use Rattle.graph_meaning.specs.Heap.{Table, edges, edge_at, edge_of}
+use Rattle.graph_meaning.specs.Heap.{edges, edge_at, edge_of}
 use Rattle.graph_meaning.specs.Reach.{Graph, has_id, level, distance, predecessor}
-use Rattle.graph_meaning.specs.Paths.{Way, PathSearch, way_by_edge, root_way, owner_way, way_on_to, way_ends, way_at, canonical_way, view_of, IsWay}
+use Rattle.graph_meaning.specs.Paths.{Way, PathSearch, way_by_edge, root_way, owner_way, way_on_to, way_at, canonical_way, view_of, IsWay}
 use Rattle.graph_meaning.specs.Roles.{id_at}
 use Rattle.graph_meaning.proofs.Distances.{find_All, is_some-distance}
 use Rattle.graph_meaning.proofs.Ways.{canonical_exists, edges-at, way_at-to}

@@ -1,26 +1,19 @@
-use Rattle.std.proofs.Common.{◌≡◌, ◌<◌, ◌||◌, ◌∷◌, true, false, IsTrue, length, get_or, set, sym, ap, ◌∙◌, arith}
+use Rattle.std.proofs.Common.{true, IsTrue, set, ap, ◌∙◌, arith}
 use Rattle.std.proofs.lemmas.List.{length-set}
 use Rattle.std.proofs.lemmas.List.Elements.{All-rest}
 use Rattle.graph_meaning.specs.Heap.{is_live}
 use Rattle.graph_meaning.specs.Roles.{RoleTable}
-use Rattle.assert_registry.specs.ByCell.{holds_one_of}
-use Rattle.assert_registry.proofs.Marking.{flag_more}
+use Rattle.assert_registry.proofs.Marking.{flag_first}
 use Rattle.assert_registry.proofs.roles.set_dead.Goals as goal
 
 pub loop-id-preserved : goal.loop-id-preserved
 loop-id-preserved c =
     let i = c.loop-id.invariant in
-    let p = c.args.table.now in
-    let id = c.in-Some.id.now in
-    let cell = c.live_cell.result in
-    let flags = c.loop-id.roles.dead in
-    let left = c.next.new.self in
-    let first : c.loop-id.id-iterator ≡ id ∷ left = c.in-Some.ensures.steps in
-    let within : cell < length flags = omega (arith, c.live_cell.ensures.below, i.cells.dead) in
     rw c.set_dead.ensures (record {
-      cells = record { dead = length-set flags cell true ∙ i.cells.dead; unshared = i.cells.unshared; ownees = i.cells.ownees };
-      live = All-rest (λ x. IsTrue (is_live p.table x)) id left c.loop-id.id-iterator first i.live;
+      cells = record { dead = length-set c.loop-id.roles.dead c.live_cell.result true ∙ i.cells.dead; unshared = i.cells.unshared; ownees = i.cells.ownees };
+      live = All-rest (λ x. IsTrue (is_live c.args.table.now.table x)) _ _ _ c.in-Some.ensures.steps i.live;
       set =
-          λ other. flag_more p c.requires.placed id cell c.live_cell.ensures.cell flags left within other ∙ ap (λ ids. get_or flags other false || holds_one_of p ids other) (sym first) ∙ i.set other;
-      rest = ap (λ (r : RoleTable). record r { dead = set flags cell true }) i.rest;
+          flag_first c.args.table.now c.requires.placed c.in-Some.id.now c.live_cell.result c.live_cell.ensures.cell c.loop-id.roles.dead _ _ _
+          (omega (arith, c.live_cell.ensures.below, i.cells.dead)) c.in-Some.ensures.steps i.set;
+      rest = ap (λ (r : RoleTable). record r { dead = set c.loop-id.roles.dead c.live_cell.result true }) i.rest;
     })

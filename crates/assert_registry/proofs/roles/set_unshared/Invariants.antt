@@ -5,8 +5,8 @@ use Rattle.assert_registry.proofs.roles.set_unshared.Given as goal
 
 abbrev pub invariant-loop-id : goal.invariant-loop-id
 invariant-loop-id l = record {
+  rest : l.roles ≡ record l.fn.roles { unshared = l.roles.unshared };
+  set : (cell : ℕ) → (get_or l.roles.unshared cell false || holds_one_of l.table l.id-iterator cell) ≡ (get_or l.fn.roles.unshared cell false || holds_one_of l.table l.unshared.keys cell);
   cells : HaveCells l.table l.roles;
   live : AllLive l.table.table l.id-iterator;
-  set : (cell : ℕ) → (get_or l.roles.unshared cell false || holds_one_of l.table l.id-iterator cell) ≡ (get_or l.fn.roles.unshared cell false || holds_one_of l.table l.unshared.keys cell);
-  rest : l.roles ≡ record l.fn.roles { unshared = l.roles.unshared };
 }
