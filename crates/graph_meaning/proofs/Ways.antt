@@ -122,7 +122,8 @@ module _ (s : PathSearch) where
       let held : IsTrue (has_id (targets s.table before.0.to) y) =
       subst (λ x. IsTrue (has_id (targets s.table x) y)) (sym to_least) (and_parts _ _ (find_passes p (level g (way_ends s.sources) n) least.0 least.1)).1 in
       let edge =
-      some_of (find (λ e. e.1 == y) (edges s.table before.0.to)) (is_some-find (λ e. e.1 == y) (edges s.table before.0.to) ∙ sym (list_any-map (λ x. x == y) (λ (e : ℕ × ℕ). e.1) (edges s.table before.0.to)) ∙ held) in
+      some_of (find (λ e. e.1 == y) (edges s.table before.0.to)) (is_some-find (λ e. e.1 == y) (edges s.table before.0.to)
+      ∙ sym (list_any-map (λ x. x == y) (λ (e : ℕ × ℕ). e.1) (edges s.table before.0.to)) ∙ held) in
       some_and_then (way_on_to s.table y) (option_and_then (way_at s n) (find p (level g (way_ends s.sources) n))) before.0
       (and_then_at (way_at s n) (find p (level g (way_ends s.sources) n)) least.0 least.1 ∙ before.1)
       (some_map (way_by_edge s.table before.0) (find (λ e. e.1 == y) (edges s.table before.0.to)) edge.0 edge.1)

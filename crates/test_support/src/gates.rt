@@ -93,18 +93,11 @@ pub const UNTIL_BOTH_BEGIN: [Hold; 2] = [
 
 /// Worker 0 is held in its first task until worker 1 has begun one, and worker 1 there until worker 0 has begun so many.
 pub const fn until_many_are_begun(tasks: u64) -> [Hold; 2] {
-    [
-        Hold {
-            worker: 0,
-            nth: 1,
-            until: 1,
-        },
-        Hold {
-            worker: 1,
-            nth: 1,
-            until: tasks,
-        },
-    ]
+    let worker_1 = Hold {
+        until: tasks,
+        ..UNTIL_BOTH_BEGIN[1]
+    };
+    [UNTIL_BOTH_BEGIN[0], worker_1]
 }
 
 /// Holds workers as it is told.

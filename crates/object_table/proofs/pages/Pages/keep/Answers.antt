@@ -7,7 +7,8 @@ use Rattle.object_table.proofs.pages.Pages.keep.Goals as goal
 use Rattle.object_table.proofs.pages.Pages.keep.Goals.{After-index_mut-page}
 
 pub index_mut-page-requires : goal.index_mut-page-requires
-index_mut-page-requires c = omega (arith, c.self.inside.pages.ok.0, page_of_used c.self.inside.pages.items c.self.inside.count c.args.cell c.self.invariant (rw (← c.self.view_is) at c.requires.in_range))
+index_mut-page-requires c =
+    omega (arith, c.self.inside.pages.ok.0, page_of_used c.self.inside.pages.items c.self.inside.count c.args.cell c.self.invariant (rw (← c.self.view_is) at c.requires.in_range))
 
 module _ (c : After-index_mut-page) where
   page : IsPageOf c.self.inside.pages.items c.self.inside.count c.args.cell c.index_mut-page.result.now

@@ -12,7 +12,8 @@ index_mut-page-requires c =
 pub put-requires : goal.put-requires
 put-requires c =
     let last = last_used c.self.inside.pages.items c.self.inside.count c.self.invariant (rw (← c.self.view_is) at c.requires) in
-    let u : IsPageOf c.self.inside.pages.items c.self.inside.count (c.self.inside.count - 1) c.index_mut-page.result.now = record { is = c.self.invariant; in_use = last; at = c.index_mut-page.ensures.value } in
+    let u : IsPageOf c.self.inside.pages.items c.self.inside.count (c.self.inside.count - 1) c.index_mut-page.result.now =
+    record { is = c.self.invariant; in_use = last; at = c.index_mut-page.ensures.value } in
     used_place u
 
 pub invariant_of-self : goal.invariant_of-self

@@ -16,7 +16,8 @@ pub set_slot-requires-clause-in_range : goal.set_slot-requires-clause-in_range
 set_slot-requires-clause-in_range c = used_place (page (goal.at.set_slot-requires-clause-in_range c).After-index_mut-page)
 
 pub index_mut-page-requires : goal.index_mut-page-requires
-index_mut-page-requires c = omega (arith, c.self.inside.pages.ok.0, page_of_used c.self.inside.pages.items c.self.inside.count c.args.cell c.self.invariant (rw (← c.self.view_is) at c.requires.in_range))
+index_mut-page-requires c =
+    omega (arith, c.self.inside.pages.ok.0, page_of_used c.self.inside.pages.items c.self.inside.count c.args.cell c.self.invariant (rw (← c.self.view_is) at c.requires.in_range))
 
 pub invariant_of-self : goal.invariant_of-self
 invariant_of-self c = (used_change (page (goal.at.invariant_of-self c).After-index_mut-page) (with_slot_put c.args.slot c.args.value) c.set_slot.new.self c.set_slot.ensures).0
