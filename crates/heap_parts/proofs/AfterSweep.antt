@@ -1,7 +1,7 @@
 -- What a sweep leaves of the parts of a heap, where the cells that are kept are those of its traced objects.
-use Rattle.std.proofs.Common.{◌≡◌, ℕ, zero, suc, ◌+◌, Bool, true, false, cond, List, [], ◌∷◌, map, get_or, Option, None, Some, IsTrue, ⊎_elim, sym, ap, refl, subst, ◌∙◌, eq-eqb, eqb-true, ◌==◌}
+use Rattle.std.proofs.Common.{◌≡◌, ℕ, zero, suc, ◌+◌, Bool, true, false, List, [], ◌∷◌, map, get_or, Option, None, Some, IsTrue, ⊎_elim, sym, ap, refl, subst, ◌∙◌, eq-eqb, eqb-true, ◌==◌}
 use Rattle.std.specs.List.{All, filter_map, cons_option, enumerate_from}
-use Rattle.std.specs.Option.{IfSome, option_map, option_map_or}
+use Rattle.std.specs.Option.{option_map, option_map_or}
 use Rattle.std.proofs.lemmas.Bool.{false≢true, or_left, or_right, or_cases}
 use Rattle.std.proofs.lemmas.List.{length-map, get_or-map}
 use Rattle.std.proofs.lemmas.List.Elements.{All-head, All-tail, Contains-get_or}
@@ -11,7 +11,7 @@ use Rattle.graph_meaning.specs.Heap.{Slot, Object, Table, Heap, object_at, is_li
 use Rattle.graph_meaning.specs.Laws.{HoldsLive}
 use Rattle.graph_meaning.specs.Reach.{has_id}
 use Rattle.graph_meaning.proofs.Distances.{find_All}
-use Rattle.graph_meaning.proofs.Edges.{plain_leaves_swept}
+use Rattle.graph_meaning.proofs.Edges.{edge-live, plain_leaves_swept}
 use Rattle.graph_meaning.proofs.HeapLemmas.{has_id-ids}
 use Rattle.graph_meaning.proofs.Keeping.{has_id-traced_ids}
 use Rattle.graph_meaning.proofs.Membership.{has_id-Contains}
@@ -25,14 +25,6 @@ use Rattle.heap_parts.proofs.Stepping.{well_formed-collection}
 use Rattle.heap_parts.proofs.Unasserted.{agree-kept}
 
 -- ---- what edges lead to is live
-
-edge-live : (t : Table) (s : Slot) (y : ℕ) → HoldsLive t s → edge_of s ≡ Some y → is_live t y ≡ true
-edge-live t s y live e = go s.weak s.held live e
-  where
-    go : (weak : Bool) (held : Option ℕ) → IfSome held (λ id. IsTrue (is_live t id)) → cond weak None held ≡ Some y → is_live t y ≡ true
-    go true held live e = absurd cc
-    go false None live e = absurd cc
-    go false (Some z) live e = let same : z ≡ y = cc in subst (λ w. is_live t w ≡ true) same live
 
 slots-live : (t : Table) (n : ℕ) (slots : List Slot) (y : ℕ) → All (HoldsLive t) slots → has_id (map (λ e. e.1) (filter_map numbered_edge (enumerate_from n slots))) y ≡ true → is_live t y ≡ true
 slots-live t n [] y live at = absurd (false≢true at)

@@ -1,5 +1,5 @@
 -- The operations of a trace, each on the parts of a heap.
-use Rattle.std.proofs.Common.{◌≡◌, ℕ, ◌+◌, ◌<◌, ◌≤◌, Bool, true, false, cond, ◌-◌, List, [], ◌∷◌, ◌++◌, length, fold, replicate, All, Option, None}
+use Rattle.std.proofs.Common.{◌≡◌, ℕ, ◌+◌, ◌<◌, ◌≤◌, Bool, true, false, cond, ◌-◌, List, [], ◌∷◌, ◌++◌, length, fold, replicate, Option, None}
 use Rattle.std.proofs.Common.{Some, Result, Ok, Err, sym, ap, refl, subst, ◌∙◌, arith, slice_set, ⊎_elim, eqb-true, eq-eqb, is_some}
 use Rattle.std.specs.Prelude.{◌==◌}
 use Rattle.std.specs.BTreeMap.{insert_entry}
@@ -8,9 +8,8 @@ use Rattle.std.specs.List.{position}
 use Rattle.std.specs.Ordering.{nat_cmp}
 use Rattle.std.specs.Result.{OnOk, OnErr}
 use Rattle.std.specs.Str.{bytes_eq}
-use Rattle.std.proofs.lemmas.Bool.{false≢true, cases_Bool, cases_lt}
-use Rattle.std.proofs.lemmas.List.{length_push, append-nil, length-append, length-replicate, get_or_past, get_or-set_other}
-use Rattle.std.proofs.lemmas.List.Elements.{All-nil}
+use Rattle.std.proofs.lemmas.Bool.{false≢true, cases_Bool}
+use Rattle.std.proofs.lemmas.List.{length_push, append-nil, length-append, length-replicate, get_or-set_other}
 use Rattle.std.proofs.lemmas.List.Quantifiers.{position-Some}
 use Rattle.std.proofs.lemmas.Result.{on_ok_weaker, on_err_weaker}
 use Rattle.graph_meaning.specs.declared.event.Event.{Event}
@@ -20,7 +19,6 @@ use Rattle.graph_meaning.specs.declared.refusal.Refusal.TheVariants.{SelfOwned}
 use Rattle.graph_meaning.specs.declared.refusal.Stop.{Stop}
 use Rattle.graph_meaning.specs.Answers.{RefusesBy}
 use Rattle.graph_meaning.specs.Heap.{Slot, Table, Heap, name_cmp, is_seen, regions_of}
-use Rattle.graph_meaning.specs.Laws.{AllLive}
 use Rattle.graph_meaning.specs.Step.{first_refusal, refusal_where, not_live, kind_refusal, alloc_refusal, with_object, store_refusal, slot_refusal}
 use Rattle.graph_meaning.specs.Step.{with_changed_slot, slot_holding, slot_made_weak, root_refusal, with_root, with_kind, with_member, heap_unless}
 use Rattle.graph_meaning.specs.Step.{step}
@@ -286,9 +284,14 @@ steps-assert_all_dead {T} s are after result thread refused leaves err =
     all_dead : dead ≡ fold (insert_key nat_cmp) s.assertions.dead (innermost s.regions.regions thread)
     all_dead = inserted_agree s.assertions.dead are.heap.ordered.dead s.regions.regions s.regions.unasserted are.unasserted thread
 
+    -- what the operation makes of the heap
+    left : Heap
+    left = record (heap_of s) { regions = without_innermost s.regions.regions thread; dead = fold (insert_key nat_cmp) s.assertions.dead (innermost s.regions.regions thread) }
+
     steps : Steps (placed_heap s) (AssertAllDead thread) result (placed_heap after)
     steps =
-        steps-by (placed_heap s) (placed_heap after) (AssertAllDead thread) (end_refusal s.regions.regions thread) (record (heap_of s) { regions = without_innermost s.regions.regions thread; dead = fold (insert_key nat_cmp) s.assertions.dead (innermost s.regions.regions thread) }) (step-assert_all_dead (heap_of s) thread) result refused
+        steps-by (placed_heap s) (placed_heap after) (AssertAllDead thread) (end_refusal s.regions.regions thread) left (step-assert_all_dead (heap_of s) thread)
+        result refused
         (on_ok_weaker result
         (λ (e : EndsRegion s thread after).
         (λ i. record (heap_of (record s { placed = e.placed i; assertions = e.assertions i })) { regions = e.regions i })
@@ -367,6 +370,23 @@ seen-set limits number limit kinds within seen kind some =
     (λ other. seen kind (sym (ap is_some (get_or-set_other limits number kind (Some limit) None (λ same. false≢true (sym other ∙ eq-eqb kind number same)))) ∙ some))
     (cases_Bool (kind == number))
 
+-- there is room for the limit of each type that was seen, and for one more
+room_for_kind : (limits : List (Option ℕ)) (kinds : List (List ℕ)) (kind : List ℕ) (number : ℕ) →
+    position (bytes_eq kind) (with_kind kinds kind) ≡ Some number → number < length (with_room limits (length kinds + 1))
+room_for_kind limits kinds kind number at =
+    let found = (position-Some (bytes_eq kind) (with_kind kinds kind) number [] at).0 in
+    let few = with_kind-length kinds kind in
+    let room = length-append limits (replicate (length kinds + 1 - length limits) None) in
+    let more = length-replicate {A = Option ℕ} (length kinds + 1 - length limits) None in
+    omega (arith, found, few, room, more)
+  where
+    with_kind-length : (kinds : List (List ℕ)) (kind : List ℕ) → length (with_kind kinds kind) ≤ length kinds + 1
+    with_kind-length kinds kind = go (is_seen kinds kind)
+      where
+        go : (b : Bool) → length (cond b kinds (kinds ++ kind ∷ [])) ≤ length kinds + 1
+        go true = omega arith
+        go false = let more = length_push kinds kind in omega (arith, more)
+
 module _ (s : Parts) (are : AreParts s) (kind : List ℕ) (limit : ℕ) where
   abbrev t : Table
   t = s.placed.table
@@ -401,10 +421,9 @@ module _ (s : Parts) (are : AreParts s) (kind : List ℕ) (limit : ℕ) where
         unasserted = are.unasserted;
       }))
 
-  module _ (after : Placed) (assertions : Assertions) (room number : ℕ) (none : refusal ≡ None)
+  module _ (after : Placed) (assertions : Assertions) (number : ℕ) (none : refusal ≡ None)
       (seen : after.table ≡ record t { kinds = with_kind t.kinds kind }) (at : position (bytes_eq kind) after.table.kinds ≡ Some number)
-      (set : assertions ≡ record s.assertions { limits = slice_set (with_room s.assertions.limits room) number (Some limit) })
-      (within : number < length (with_room s.assertions.limits room)) where
+      (set : assertions ≡ record s.assertions { limits = slice_set (with_room s.assertions.limits (length t.kinds + 1)) number (Some limit) }) where
     abbrev kinds : List (List ℕ)
     kinds = with_kind t.kinds kind
 
@@ -414,10 +433,10 @@ module _ (s : Parts) (are : AreParts s) (kind : List ℕ) (limit : ℕ) where
     at_kinds : position (bytes_eq kind) kinds ≡ Some number
     at_kinds = subst (λ ks. position (bytes_eq kind) ks ≡ Some number) same_kinds at
 
-    named : named_limits kinds (slice_set (with_room s.assertions.limits room) number (Some limit)) ≡ insert_entry name_cmp (named_limits t.kinds s.assertions.limits) kind limit
+    named : named_limits kinds (slice_set (with_room s.assertions.limits (length t.kinds + 1)) number (Some limit)) ≡ insert_entry name_cmp (named_limits t.kinds s.assertions.limits) kind limit
     named =
-        named-set kinds (with_room s.assertions.limits room) kind number limit at_kinds within
-        ∙ ap (λ es. insert_entry name_cmp es kind limit) (named-with_room kinds s.assertions.limits room ∙ named-with_kind t.kinds kind s.assertions.limits are.seen)
+        named-set kinds (with_room s.assertions.limits (length t.kinds + 1)) kind number limit at_kinds (room_for_kind s.assertions.limits t.kinds kind number at_kinds)
+        ∙ ap (λ es. insert_entry name_cmp es kind limit) (named-with_room kinds s.assertions.limits (length t.kinds + 1) ∙ named-with_kind t.kinds kind s.assertions.limits are.seen)
 
     pub steps-limit : {T : Type 0} (x : T) → Steps (placed_heap s) (AssertInstances kind limit) (Ok x) (placed_heap (record s { placed = after; assertions = assertions }))
     steps-limit {T} x =
@@ -432,23 +451,6 @@ module _ (s : Parts) (are : AreParts s) (kind : List ℕ) (limit : ℕ) where
         parts-after s (record s { placed = after; assertions = assertions }) (AssertInstances kind limit) (Ok tt) (steps-limit {T = Unit {0}} tt) are
         (subst (AreOfSeenTypes assertions.limits) (sym same_kinds)
         (subst (λ limits. AreOfSeenTypes limits kinds) (sym (ap (λ (a : Assertions). a.limits) set))
-        (seen-set (with_room s.assertions.limits room) number limit kinds (position-Some (bytes_eq kind) kinds number [] at_kinds).0
-        (seen-with_room s.assertions.limits room kinds (seen-with_kind s.assertions.limits t.kinds kind are.seen)))))
+        (seen-set (with_room s.assertions.limits (length t.kinds + 1)) number limit kinds (position-Some (bytes_eq kind) kinds number [] at_kinds).0
+        (seen-with_room s.assertions.limits (length t.kinds + 1) kinds (seen-with_kind s.assertions.limits t.kinds kind are.seen)))))
         (subst (λ (a : Assertions). AreUnasserted (record s { assertions = a })) (sym set) are.unasserted)
-
--- there is room for the limit of each type that was seen, and for one more
-pub room_for_kind : (limits : List (Option ℕ)) (kinds : List (List ℕ)) (kind : List ℕ) (number : ℕ) →
-    position (bytes_eq kind) (with_kind kinds kind) ≡ Some number → number < length (with_room limits (length kinds + 1))
-room_for_kind limits kinds kind number at =
-    let found = (position-Some (bytes_eq kind) (with_kind kinds kind) number [] at).0 in
-    let few = with_kind-length kinds kind in
-    let room = length-append limits (replicate (length kinds + 1 - length limits) None) in
-    let more = length-replicate {A = Option ℕ} (length kinds + 1 - length limits) None in
-    omega (arith, found, few, room, more)
-  where
-    with_kind-length : (kinds : List (List ℕ)) (kind : List ℕ) → length (with_kind kinds kind) ≤ length kinds + 1
-    with_kind-length kinds kind = go (is_seen kinds kind)
-      where
-        go : (b : Bool) → length (cond b kinds (kinds ++ kind ∷ [])) ≤ length kinds + 1
-        go true = omega arith
-        go false = let more = length_push kinds kind in omega (arith, more)

@@ -18,7 +18,11 @@ use Rattle.object_table.specs.Placed.{nothing_placed}
 use Rattle.assert_registry.specs.Assertions.{AreOfSeenTypes, no_assertions}
 use Rattle.region_log.specs.Regions.{no_open_regions}
 use Rattle.sweep.specs.Parts.{Parts}
+use Rattle.heap_parts.specs.declared.parts.HeapParts.TheInside.{Inside}
 use Rattle.heap_parts.specs.Parts.{PlacedHeap, IsWellFormed, AreParts, AreUnasserted, Steps, placed_heap}
+
+abbrev pub parts_in : Inside → Parts
+parts_in i = record { placed = i.table; assertions = i.registry; regions = i.regions }
 
 -- ---- what is true of a heap at any time
 

@@ -7,20 +7,20 @@ use Rattle.region_log.specs.Regions.{RegionTable}
 use Rattle.sweep.specs.Parts.{Parts}
 use Rattle.heap_parts.specs.Parts.{AreParts, Steps, placed_heap}
 use Rattle.heap_parts.proofs.Operations.{EndsRegion, steps-assert_all_dead}
-use Rattle.heap_parts.proofs.Stepping.{handed_on}
+use Rattle.heap_parts.proofs.Stepping.{handed_on, parts_in}
 use Rattle.heap_parts.proofs.parts.HeapParts.assert_all_dead.Goals as goal
 use Rattle.heap_parts.proofs.parts.HeapParts.assert_all_dead.Goals.{In_ok-finish}
 
 pub returns-in_err-unasserted : goal.returns-in_err-unasserted
 returns-in_err-unasserted c =
-    let s : Parts = record { placed = c.self.inside.table; assertions = c.self.inside.registry; regions = c.self.inside.regions } in
+    let s = parts_in c.self.inside in
     let refused = Refused c.in_err-unasserted.field-0.0 in
     rw (← c.self.view_is, handed_on c.from_residual.result refused c.from_residual.ensures)
     (steps-assert_all_dead s c.self.invariant s (Err refused) c.args.thread (sym c.in_err-unasserted.ensures.refused) tt refl).0
 
 pub returns-in_err-assert_dead_all : goal.returns-in_err-assert_dead_all
 returns-in_err-assert_dead_all c =
-    let s : Parts = record { placed = c.self.inside.table; assertions = c.self.inside.registry; regions = c.self.inside.regions } in
+    let s = parts_in c.self.inside in
     rw (← c.self.view_is, handed_on c.from_residual-in_err-assert_dead_all.result OutOfMemory c.from_residual-in_err-assert_dead_all.ensures)
     (steps-assert_all_dead s c.self.invariant (record s { assertions = c.assert_dead_all.new.self }) (Err OutOfMemory) c.args.thread
     (sym c.in_ok-unasserted.ensures.refused) tt (ap (λ a. record s { assertions = a }) c.in_err-assert_dead_all.ensures.err)).0

@@ -4,14 +4,14 @@ use Rattle.std.proofs.lemmas.Result.{IfOk-weaker}
 use Rattle.assert_registry.specs.ByCell.{AreRolesBy}
 use Rattle.assert_registry.specs.Laws.{StandFor}
 use Rattle.assert_registry.proofs.ByHeap.{roles_stand_for_heap}
-use Rattle.sweep.specs.Parts.{Parts}
 use Rattle.heap_parts.specs.Parts.{PlacedHeap, heap_of, placed_in, placed_heap}
 use Rattle.heap_parts.proofs.Limits.{named-agree}
+use Rattle.heap_parts.proofs.Stepping.{parts_in}
 use Rattle.heap_parts.proofs.parts.HeapParts.roles.Goals as goal
 
 pub returns-clause-of_heap : goal.returns-clause-of_heap
 returns-clause-of_heap c =
-    let s : Parts = record { placed = c.self.inside.table; assertions = c.self.inside.registry; regions = c.self.inside.regions } in
+    let s = parts_in c.self.inside in
     subst (λ (h : PlacedHeap). IfOk c.roles.result (λ r. StandFor (placed_in h) r h.heap)) c.self.view_is
     (IfOk-weaker c.roles.result (AreRolesBy s.assertions s.placed) (λ r. StandFor (placed_in (placed_heap s)) r (heap_of s))
     (λ r by. roles_stand_for_heap (heap_of s) s.assertions s.placed r c.self.invariant.heap.refers c.self.invariant.heap.ordered

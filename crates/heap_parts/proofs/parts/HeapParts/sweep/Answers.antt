@@ -4,11 +4,12 @@ use Rattle.graph_meaning.specs.Collecting.{after_sweep}
 use Rattle.sweep.specs.Parts.{Parts, SweepsHeap}
 use Rattle.heap_parts.specs.Parts.{FlagTraced, PlacedHeap, heap_of, placed_heap}
 use Rattle.heap_parts.proofs.AfterSweep.{are_traced, traced_closed, parts_of_heap, heap_left, parts_left}
+use Rattle.heap_parts.proofs.Stepping.{parts_in}
 use Rattle.heap_parts.proofs.parts.HeapParts.sweep.Goals as goal
 
 pub sweep-requires-clause-closed : goal.sweep-requires-clause-closed
 sweep-requires-clause-closed c =
-    let s : Parts = record { placed = c.self.inside.table; assertions = c.self.inside.registry; regions = c.self.inside.regions } in
+    let s = parts_in c.self.inside in
     traced_closed s c.self.invariant c.cells.ensures.placed c.args.kept.now (subst (λ (h : PlacedHeap). FlagTraced h c.args.kept.now) (sym c.self.view_is) c.requires.kept)
 
 module _ (c : goal.After-sweep) where

@@ -6,11 +6,12 @@ use Rattle.sweep.specs.Parts.{Parts, SweepsHeap}
 use Rattle.heap_parts.specs.Parts.{AreDeadAndTraced, FlagTraced, PlacedHeap, heap_of, placed_heap}
 use Rattle.heap_parts.proofs.Cleared.{IsSweptByForce, swept_by_force}
 use Rattle.heap_parts.proofs.AfterSweep.{are_traced, traced_closed, parts_of_heap}
+use Rattle.heap_parts.proofs.Stepping.{parts_in}
 use Rattle.heap_parts.proofs.parts.HeapParts.sweep_by_force.Goals as goal
 
 pub sweep-freed-requires-clause-closed : goal.sweep-freed-requires-clause-closed
 sweep-freed-requires-clause-closed c =
-    let s : Parts = record { placed = c.self.inside.table; assertions = c.self.inside.registry; regions = c.self.inside.regions } in
+    let s = parts_in c.self.inside in
     traced_closed s c.self.invariant c.cells.ensures.placed c.args.kept.now (subst (λ (h : PlacedHeap). FlagTraced h c.args.kept.now) (sym c.self.view_is) c.requires.kept)
 
 module _ (c : goal.After-clear_to-cleared) where
