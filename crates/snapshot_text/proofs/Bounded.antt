@@ -20,14 +20,7 @@ use Rattle.snapshot_text.specs.Dangling.{object_ids}
 use Rattle.snapshot_text.specs.Bounds.{IsWithin, IsBounded}
 
 pub bounded_nothing : IsBounded nothing_read
-bounded_nothing = record {
-  filled = tt;
-  few_objects = omega arith;
-  few_slots = omega arith;
-  few_roots = omega arith;
-  rising = search rules;
-  within = search rules;
-}
+bounded_nothing = record { filled = tt; few_objects = omega arith; few_slots = omega arith; few_roots = omega arith; rising = search rules; within = search rules }
 
 -- ---- each line
 

@@ -29,33 +29,23 @@ nothing_read = record { stage = Empty; objects = []; roots = []; kinds = []; slo
 
 abbrev pub is_empty : Stage → Bool
 is_empty Empty = true
-is_empty Begun = false
-is_empty (InObject o) = false
-is_empty InRoots = false
-is_empty Ended = false
+is_empty stage = false
+
+abbrev pub is_ended : Stage → Bool
+is_ended Ended = true
+is_ended stage = false
 
 -- an object line may follow the first line, an object line or a slot line
 abbrev pub is_before_roots : Stage → Bool
-is_before_roots Empty = false
 is_before_roots Begun = true
 is_before_roots (InObject o) = true
-is_before_roots InRoots = false
-is_before_roots Ended = false
+is_before_roots stage = false
 
 -- a root line or the end may follow any line but the end
 abbrev pub is_under_way : Stage → Bool
 is_under_way Empty = false
-is_under_way Begun = true
-is_under_way (InObject o) = true
-is_under_way InRoots = true
 is_under_way Ended = false
-
-abbrev pub is_ended : Stage → Bool
-is_ended Empty = false
-is_ended Begun = false
-is_ended (InObject o) = false
-is_ended InRoots = false
-is_ended Ended = true
+is_under_way stage = true
 
 -- ---- the open object
 
@@ -64,11 +54,8 @@ abbrev pub whole_object : OpenObject → ObjectView
 whole_object o = record { id = o.id; kind = o.kind; slots = o.filled ++ replicate (o.slots - length o.filled) None }
 
 abbrev pub open_objects : Stage → List ObjectView
-open_objects Empty = []
-open_objects Begun = []
 open_objects (InObject o) = whole_object o ∷ []
-open_objects InRoots = []
-open_objects Ended = []
+open_objects stage = []
 
 -- the objects, the open one among them
 abbrev pub objects_read : Reading → List ObjectView
@@ -104,11 +91,8 @@ abbrev pub with_slot : OpenObject → ℕ → ℕ → OpenObject
 with_slot o slot to = record o { filled = o.filled ++ replicate (slot - length o.filled) None ++ Some to ∷ [] }
 
 abbrev pub take_slot : Reading → ℕ → ℕ → Stage → Option Reading
-take_slot r slot to Empty = None
-take_slot r slot to Begun = None
 take_slot r slot to (InObject o) = reading_where (may_fill o slot) (record r { stage = InObject (with_slot o slot to) })
-take_slot r slot to InRoots = None
-take_slot r slot to Ended = None
+take_slot r slot to stage = None
 
 -- the name of the last root; no name is below it before the first
 abbrev pub last_name : List (List ℕ × ℕ) → List ℕ
