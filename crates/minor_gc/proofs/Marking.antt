@@ -3,6 +3,7 @@ use Rattle.std.proofs.Common.{◌≡◌, ◌≢◌, ◌⊎◌, inl, inr, ◌==�
 use Rattle.std.proofs.Common.{IsTrue, IsSome, Option, None, Some, refl, sym, ◌∙◌, ap, subst, eqb-true, eq-eqb, ne_eqb, ⊎_elim, arith}
 use Rattle.std.specs.List.{flat_map}
 use Rattle.std.proofs.lemmas.Grind.{flat_map-append}
+use Rattle.std.proofs.Math.Bool.{or-false, or-true, or_assoc}
 use Rattle.std.proofs.lemmas.Bool.{false≢true, not-true, cases_eq, or_left, or_right, or_cases, and_parts}
 use Rattle.std.proofs.lemmas.List.{take_more, append-nil, length-set, get_or-set_same, get_or-set_other}
 use Rattle.std.proofs.lemmas.Option.{none-some, same_Some}
@@ -14,24 +15,12 @@ use Rattle.object_table.specs.Placed.{Placed, id_in, IsPlaced}
 use Rattle.object_table.proofs.ObjectsByCell.{held-within}
 use Rattle.minor_gc.specs.Marks.{Marks, is_marked, Meets, Quest, IsQuest, IsFollowed, IsSearching}
 
-or_false : (b : Bool) → (b || false) ≡ b
-or_false true = refl
-or_false false = refl
-
-or_true : (b : Bool) → (b || true) ≡ true
-or_true true = refl
-or_true false = refl
-
-or_assoc : (a b c : Bool) → ((a || b) || c) ≡ (a || (b || c))
-or_assoc true b c = refl
-or_assoc false b c = refl
-
 and_not : (b : Bool) → (b && not b) ≡ false
 and_not true = refl
 and_not false = refl
 
 none_more : (w m : Bool) → w ≡ (w || (m && not m))
-none_more w m = sym (ap (λ b. w || b) (and_not m) ∙ or_false w)
+none_more w m = sym (ap (λ b. w || b) (and_not m) ∙ or-false w)
 
 -- one element more of a list of which each gives a list
 pub flat_map_last : {X : Type 0} (f : X → List ℕ) (xs : List X) (i : ℕ) (x : X) → i < length xs → x ≡ get_or xs i x → flat_map f (take (i + 1) xs) ≡ flat_map f (take i xs) ++ f x
@@ -45,7 +34,7 @@ flat_map_last f xs i x h is =
 pub Meets-none : (p : Placed) (m : Marks) → Meets p [] m m
 Meets-none p m = record {
   each = refl;
-  marked = λ cell id at. sym (or_false (is_marked m cell));
+  marked = λ cell id at. sym (or-false (is_marked m cell));
   unheld = λ cell at. refl;
   work = λ cell. none_more (has_id m.work cell) (is_marked m cell);
 }
@@ -67,7 +56,7 @@ module _ {p : Placed} {ids : List ℕ} {a b : Marks} (meets : Meets p ids a b) w
       go (Some id) at = subst IsSome (sym at) refl
       go None at =
           let none = ap (λ m. m && not (is_marked a cell)) (meets.unheld cell at) ∙ and_not (is_marked a cell) in
-          before cell (sym (or_false (has_id a.work cell)) ∙ ap (λ m. has_id a.work cell || m) (sym none) ∙ sym (meets.work cell) ∙ waits)
+          before cell (sym (or-false (has_id a.work cell)) ∙ ap (λ m. has_id a.work cell || m) (sym none) ∙ sym (meets.work cell) ∙ waits)
 
 work_both : (w a b c : Bool) → (a ≡ true → b ≡ true) → (b ≡ true → c ≡ true) → ((w || (b && not a)) || (c && not b)) ≡ (w || (c && not a))
 work_both true a b c h k = refl
@@ -113,10 +102,10 @@ module _ {p : Placed} {cell id : ℕ} {b c : Marks} (placed : IsPlaced p) (met :
   marked_or : (x y : ℕ) → id_in p x ≡ Some y → (x ≡ cell) ⊎ (x ≢ cell) → is_marked c x ≡ (is_marked b x || ((id == y) || false))
   marked_or x y at (inl same) =
       let its : id ≡ y = same_Some id y (sym met.held ∙ ap (id_in p) (sym same) ∙ at) in
-      ap (is_marked c) same ∙ at_cell ∙ sym (or_true (is_marked b x)) ∙ ap (λ e. is_marked b x || (e || false)) (sym (eq-eqb id y its))
+      ap (is_marked c) same ∙ at_cell ∙ sym (or-true (is_marked b x)) ∙ ap (λ e. is_marked b x || (e || false)) (sym (eq-eqb id y its))
   marked_or x y at (inr apart) =
       let other : id ≢ y = λ same. apart (placed.once x cell y at (met.held ∙ ap Some same)) in
-      elsewhere x apart ∙ sym (or_false (is_marked b x)) ∙ ap (λ e. is_marked b x || (e || false)) (sym (ne_eqb id y other))
+      elsewhere x apart ∙ sym (or-false (is_marked b x)) ∙ ap (λ e. is_marked b x || (e || false)) (sym (ne_eqb id y other))
 
   -- what is new on the worklist
   abbrev is_new : ℕ → Bool

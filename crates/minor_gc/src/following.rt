@@ -1,8 +1,8 @@
 //! The search for what a collection keeps.
-ghost use Rattle.std.specs.Prelude.{◌≡◌, ◌+◌, ◌≤◌, [], ℕ, length, All, not, IsTrue, IsSome, count_by, vec_len};
 ghost use Rattle.std.specs.List.{flat_map};
-ghost use Rattle.graph_meaning.specs.Heap.{targets, is_live};
+ghost use Rattle.std.specs.Prelude.{◌≡◌, ◌+◌, ◌≤◌, [], ℕ, length, All, not, IsTrue, IsSome, count_by, vec_len};
 ghost use Rattle.graph_meaning.specs.Assertions.{root_ids};
+ghost use Rattle.graph_meaning.specs.Heap.{targets, is_live};
 ghost use Rattle.graph_meaning.specs.Reach.{has_id};
 ghost use Rattle.graph_meaning.specs.Roles.{id_at};
 ghost use Rattle.object_table.specs.Placed.{id_in, IsPlaced};

@@ -33,11 +33,11 @@ module _ (c : After-add_cells) where
   abbrev after : AddedParts
   after = record {
     placed = c.alloc_object.new.self;
+    remembered = c.reserve_one.new.remembered.items;
+    room = vec_capacity c.reserve_one.new.remembered;
     marks = c.add_cells.new.search.marks.items;
     work = c.add_cells.new.search.work.items;
     counts = c.add_cells.new.counts.items;
-    remembered = c.reserve_one.new.remembered.items;
-    room = vec_capacity c.reserve_one.new.remembered;
   }
 
   adds : Adds (parts_in c.self.inside) object after

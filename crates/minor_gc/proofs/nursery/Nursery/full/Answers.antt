@@ -1,7 +1,6 @@
 use Rattle.std.proofs.Common.{◌≡◌, ◌≤◌, length, false, refl, ◌∙◌, arith}
 use Rattle.std.specs.Vec.{vec_capacity}
 use Rattle.minor_gc.specs.Generations.{kept_by_full}
-use Rattle.minor_gc.specs.Marks.{Marks}
 use Rattle.minor_gc.specs.Nurseries.{Parts, heap_of}
 use Rattle.minor_gc.specs.Searches.{marks_of}
 use Rattle.minor_gc.proofs.Inside.{parts_in, IsSoundNursery}
@@ -22,27 +21,24 @@ module _ (c : After-len-remembered) where
 
 -- what the search marked
 module _ (c : After-deref-2) where
-  abbrev marks : Marks
-  marks = marks_of c.run.new.self
-
-  run : HasRun c.self.inside.table (marks_of c.take_roots.new.self) marks
+  run : HasRun c.self.inside.table (marks_of c.take_roots.new.self) (marks_of c.run.new.self)
   run = record { each = c.run.ensures.each; searching = c.run.ensures.searching; done = c.run.ensures.done }
 
-  kept : MarksKept (parts_in c.self.inside) (kept_by_full (heap_of (parts_in c.self.inside))) marks
+  kept : MarksKept (parts_in c.self.inside) (kept_by_full (heap_of (parts_in c.self.inside))) (marks_of c.run.new.self)
   kept =
-      full_marks (sound (goal.at.keep-requires-clause-closed c).After-len-remembered) (marks_of c.clear.new.self) (marks_of c.take_roots.new.self) marks
+      full_marks (sound (goal.at.keep-requires-clause-closed c).After-len-remembered) (marks_of c.clear.new.self) (marks_of c.take_roots.new.self) (marks_of c.run.new.self)
       c.clear.ensures.marks c.clear.ensures.work c.take_roots.ensures run
 
 -- what the collection left
 module _ (c : goal.After-live) where
   abbrev after : Parts
   after = record {
-    placed = c.keep.new.self;
-    old_up_to = c.self.inside.greatest;
-    greatest = c.self.inside.greatest;
     marks = c.drop_cells.new.search.marks.items;
     work = c.drop_cells.new.search.work.items;
     counts = c.drop_cells.new.counts.items;
+    placed = c.keep.new.self;
+    old_up_to = c.self.inside.greatest;
+    greatest = c.self.inside.greatest;
     remembered = c.clear-2.new.self.items;
     room = vec_capacity c.clear-2.new.self;
   }
@@ -79,31 +75,31 @@ module _ (c : goal.After-live) where
 pub prove-unreachable-requires : goal.prove-unreachable-requires
 prove-unreachable-requires c = omega (arith, c.cells.ensures.count, c.cells.ensures.placed.few)
 
-pub overflow_cast-remembered : goal.overflow_cast-remembered
-overflow_cast-remembered c =
-    omega (arith, c.len-remembered.ensures, c.self.inside.remembered.ok.0, few_remembered (sound c), c.live-live.ensures.count)
-
-pub forget-requires-clause-live : goal.forget-requires-clause-live
-forget-requires-clause-live c =
-    rw c.deref.ensures.value (remembered_live (sound (goal.at.forget-requires-clause-live c).After-len-remembered))
-
-pub forget-requires-clause-others : goal.forget-requires-clause-others
-forget-requires-clause-others c =
-    rw c.deref.ensures.value (counted_remembered (sound (goal.at.forget-requires-clause-others c).After-len-remembered))
-
 pub keep-requires-clause-closed : goal.keep-requires-clause-closed
 keep-requires-clause-closed c = rw c.deref-2.ensures.value (leads (kept c))
-
-pub overflow_sub-result : goal.overflow_sub-result
-overflow_sub-result c = omega (arith, c.live-live.ensures.count, c.live.ensures.count, fewer_objects _ _ _ c.keep.ensures.kept)
-
-pub invariant_of-self : goal.invariant_of-self
-invariant_of-self c = settled (kept_then c) (leaves c)
-
-pub returns-clause-heap : goal.returns-clause-heap
-returns-clause-heap c = rw (← c.self.view_is) (heap_is (kept_then c) (leaves c))
 
 pub returns-clause-counts : goal.returns-clause-counts
 returns-clause-counts c =
     let listed : c.len-remembered.result ≡ length c.self.inside.remembered.items = omega (arith, c.len-remembered.ensures, c.self.inside.remembered.ok.0) in
     rw (← c.self.view_is) (collection_is (kept_then c) (leaves c) _ _ _ c.live-live.ensures.count c.live.ensures.count listed)
+
+pub returns-clause-heap : goal.returns-clause-heap
+returns-clause-heap c = rw (← c.self.view_is) (heap_is (kept_then c) (leaves c))
+
+pub invariant_of-self : goal.invariant_of-self
+invariant_of-self c = settled (kept_then c) (leaves c)
+
+pub overflow_sub-result : goal.overflow_sub-result
+overflow_sub-result c = omega (arith, c.live-live.ensures.count, c.live.ensures.count, fewer_objects _ _ _ c.keep.ensures.kept)
+
+pub forget-requires-clause-others : goal.forget-requires-clause-others
+forget-requires-clause-others c =
+    rw c.deref.ensures.value (counted_remembered (sound (goal.at.forget-requires-clause-others c).After-len-remembered))
+
+pub forget-requires-clause-live : goal.forget-requires-clause-live
+forget-requires-clause-live c =
+    rw c.deref.ensures.value (remembered_live (sound (goal.at.forget-requires-clause-live c).After-len-remembered))
+
+pub overflow_cast-remembered : goal.overflow_cast-remembered
+overflow_cast-remembered c =
+    omega (arith, c.len-remembered.ensures, c.self.inside.remembered.ok.0, few_remembered (sound c), c.live-live.ensures.count)
