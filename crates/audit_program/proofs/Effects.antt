@@ -1,5 +1,5 @@
 -- What an event is to the program of an audit.
-use Rattle.std.proofs.Common.{◌≡◌, ◌≢◌, ℕ, ◌+◌, List, [], ◌∷◌, length, true, false, Result, Ok, Err, IfOk, refl, sym, ◌∙◌, ap, arith}
+use Rattle.std.proofs.Common.{◌≡◌, ◌≢◌, ℕ, List, [], ◌∷◌, length, true, false, Result, Ok, Err, IfOk, refl, sym, ◌∙◌, ap, arith}
 use Rattle.heap_base.specs.declared.errors.OutOfMemory.{OutOfMemory}
 use Rattle.graph_meaning.specs.declared.event.Event.{Event}
 use Rattle.graph_meaning.specs.declared.event.Event.TheVariants.{Collect}

@@ -6,7 +6,6 @@ use Rattle.graph_meaning.specs.declared.event.Event.{Event}
 use Rattle.graph_meaning.specs.declared.event.Event.TheVariants.{Alloc, Store, SetWeak, Root, AssertDead, StartRegion, AssertAllDead, AssertInstances, AssertUnshared, AssertOwnedBy, Collect}
 use Rattle.graph_meaning.specs.declared.refusal.Refusal.{Refusal}
 use Rattle.graph_meaning.specs.Heap.{Heap}
-use Rattle.graph_meaning.specs.Collecting.{Rules}
 use Rattle.trace_reader.specs.Meaning.{Item, blank, event, refused}
 use Rattle.run_meaning.specs.Run as meant
 use Rattle.run_meaning.specs.Run.{RunRules, collection_rules, Totals, RunState, Turn, Ran, with_collections, violations_of, turn, turn_of_item}

@@ -6,9 +6,9 @@ ghost use Rattle.audit_program.specs.Audits.{IsDue, end_of};
 
 use graph_meaning::{Collection, React};
 use heap_base::OutOfMemory;
-use report::{collection_text, end_text, halt_text};
+use report::{end_text, halt_text};
 use std::alloc::Global;
-use trace_run::{LastText, Taken};
+use trace_run::{Due, LastText, Taken};
 
 /// Whether a run halts behind a collection with so many violations.
 fn halts(react: React, violations: u64) -> bool
@@ -20,24 +20,19 @@ fn halts(react: React, violations: u64) -> bool
     }
 }
 
-/// What a collection makes due: its text, and the halt line where the run halts behind it.
-pub fn due_behind(
-    alloc: Global,
-    react: React,
-    collection: &Collection,
-) -> Result<Taken, OutOfMemory>
-    ensures { IfOk result (IsDue react collection.now) }
+/// What a collection makes due: its lines, and the halt line where the run halts behind it.
+pub fn due_behind(alloc: Global, react: React, collection: Collection) -> Result<Taken, OutOfMemory>
+    ensures { IfOk result (IsDue react collection) }
 {
-    let text = collection_text(alloc, collection)?;
     let violations = collection.verdicts.len() as u64;
     if halts(react, violations) {
         let last = LastText {
             text: halt_text(alloc, collection.number, violations)?,
             violated: true,
         };
-        Ok(Taken::Halts(text, last))
+        Ok(Taken::Halts(Due::Lines(collection), last))
     } else {
-        Ok(Taken::GoesOn(text))
+        Ok(Taken::GoesOn(Due::Lines(collection)))
     }
 }
 

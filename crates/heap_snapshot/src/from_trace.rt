@@ -16,7 +16,7 @@ use object_table::ObjectTable;
 use snapshot_text::write_snapshot;
 use std::alloc::Global;
 use trace_reader::LineReader;
-use trace_run::{LastText, Program, Taken, run};
+use trace_run::{Due, LastText, Program, Taken, run};
 
 /// A trace that a snapshot is made of has at most so many bytes: 2^28.
 pub(crate) const LONGEST_TRACE: u64 = 268_435_456;
@@ -104,7 +104,7 @@ fn nothing_due(alloc: Global, done: Result<(), Stop>) -> Result<Taken, Stop>
     ensures { (found : Result Heap Refusal) → (after : Heap) → Answers found done after → Takes (effect_of_step found) result after }
 {
     match done {
-        Ok(()) => Ok(Taken::GoesOn(Vec::new(alloc))),
+        Ok(()) => Ok(Taken::GoesOn(Due::Text(Vec::new(alloc)))),
         Err(stop) => Err(stop),
     }
 }

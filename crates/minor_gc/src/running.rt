@@ -14,7 +14,7 @@ use graph_meaning::{Event, Refusal, Stop};
 use heap_base::{LONGEST_TRACE, OutOfMemory, Sink, Source, Status};
 use std::alloc::Global;
 use trace_reader::LineReader;
-use trace_run::{Taken, refuse_words, run};
+use trace_run::{Due, Taken, refuse_words, run};
 
 const USAGE: &[u8] = b"usage: gcminor\n";
 
@@ -74,10 +74,10 @@ fn take_event(program: &mut MinorProgram, event: &Event) -> Result<Taken, Stop>
         } => program.nursery.alloc_object(*id, kind, *slots)?,
         Event::Store { at, slot, to } => program.nursery.store(*at, *slot, *to)?,
         Event::Root { name, to } => program.nursery.set_root(name, *to)?,
-        Event::Collect => return Ok(Taken::GoesOn(collect(program)?)),
+        Event::Collect => return Ok(Taken::GoesOn(Due::Text(collect(program)?))),
         _ => return Err(Stop::Refused(Refusal::UnknownOp)),
     }
-    Ok(Taken::GoesOn(Vec::new(program.alloc)))
+    Ok(Taken::GoesOn(Due::Text(Vec::new(program.alloc))))
 }
 
 // Makes the next collection, and gives its line.

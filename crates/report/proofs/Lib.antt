@@ -1,3 +1,4 @@
 mod Computed
+pub mod Pieces
 mod Ranges
 pub mod Runs

@@ -8,6 +8,7 @@ mod paths;
 mod refusals;
 mod texts;
 mod verdicts;
+mod writing;
 
 pub use examples::{
     a_collection_of_nothing_has_one_line, a_cycle_that_is_freed_has_no_line,
@@ -21,3 +22,4 @@ pub use examples::{
 };
 pub use parts::{put, put_number};
 pub use texts::{collection_text, end_text, fault_text, halt_text};
+pub use writing::{WriteError, write_collection};

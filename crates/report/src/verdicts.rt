@@ -51,8 +51,13 @@ pub(crate) fn put_cleared(text: &mut Vec<u8>, collection: &Collection) -> Result
     put(text, b"\n")
 }
 
+/// Appends the line of a verdict of the collection with this number.
 #[tactic(auto, unfolding(crate::specs::Text::verdict_line))]
-fn put_line(text: &mut Vec<u8>, number: u64, verdict: &Verdict) -> Result<(), OutOfMemory>
+pub(crate) fn put_line(
+    text: &mut Vec<u8>,
+    number: u64,
+    verdict: &Verdict,
+) -> Result<(), OutOfMemory>
     ensures { OnOk result (text.new.items ≡ text.old.items ++ verdict_line number verdict.now) }
 {
     put_gc(text, number)?;

@@ -21,7 +21,8 @@ use Rattle.report.specs.Text.{fault_text}
 use Rattle.trace_run.specs.Outcome.{Outside, Ended, RefusesLine, AppendsPartOfReport, seen, trace_report}
 use Rattle.trace_run.specs.Program.{Effect, Last, Report, by_effect, end_of_trace, ends_so, goes_on, refuses, report_by, report_on, status_by, takes_item}
 use Rattle.trace_run.specs.Turn.{EndsRun, sink_change}
-use Rattle.trace_run.proofs.Endings.{AppendsPart-longer, finished, line_ends, line_too_long, trace_too_long}
+use Rattle.report.proofs.Pieces.{AppendsPart-longer}
+use Rattle.trace_run.proofs.Endings.{finished, line_ends, line_too_long, trace_too_long}
 use Rattle.trace_run.proofs.Progress.{InProgress, begins_at, line_leaves_fewer, line_taken, line_within}
 use Rattle.trace_run.proofs.Runs.{report_on-text}
 use Rattle.audit_program.specs.Audits.{AuditState, audit_meaning, first_audit_state, rules_by}

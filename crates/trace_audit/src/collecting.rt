@@ -30,5 +30,5 @@ pub fn make_collection<C: FnMut(&mut Auditor) -> Result<Collection, OutOfMemory>
     ensures few { auditor.new.collections ≤ auditor.old.collections + 1 }
 {
     let collection = collect(auditor)?;
-    due_behind(alloc, react, &collection)
+    due_behind(alloc, react, collection)
 }

@@ -1,11 +1,10 @@
 -- How the run of a whole trace ends.
-use Rattle.std.proofs.Common.{◌≡◌, ◌⊎◌, inl, inr, ℕ, ◌+◌, ◌≤◌, List, [], ◌∷◌, ◌++◌, length, take, Bool, true, false, ◌||◌, IsTrue, Option, Some}
+use Rattle.std.proofs.Common.{◌≡◌, ◌⊎◌, inl, inr, ℕ, ◌+◌, ◌≤◌, List, [], ◌∷◌, ◌++◌, length, Bool, true, false, ◌||◌, IsTrue, Option, Some}
 use Rattle.std.proofs.Common.{None, Result, Ok, Err, IfSome, refl, sym, ◌∙◌, ap, subst, arith}
 use Rattle.std.specs.List.{concat, AllByRecursion}
 use Rattle.std.specs.Io.KnownBytes.{Appends, Consumes, IsAtEnd}
 use Rattle.std.proofs.KnownBytes.{Consumes-trans, Appends-nil, Appends-trans}
-use Rattle.std.proofs.Math.Seq.{take-append-add}
-use Rattle.std.proofs.lemmas.List.{append_assoc, append-nil, length-append, take-append-le}
+use Rattle.std.proofs.lemmas.List.{append_assoc, append-nil, length-append}
 use Rattle.std.proofs.lemmas.Bool.{false≢true}
 use Rattle.heap_base.specs.Causes.{Rose}
 use Rattle.heap_base.specs.Sinks.{AppendsPart}
@@ -23,26 +22,11 @@ use Rattle.trace_run.specs.Lines.{whole_lines}
 use Rattle.trace_run.specs.Program.{Meaning, Ran, Report, end_of_trace, refused_line, takes_item, by_effect, ends_so, behind, run, report_on, report_by}
 use Rattle.trace_run.specs.Outcome.{Outside, TraceReport, trace_report, of_bytes, IsTrace, ReportsTrace, Ended, AppendsPartOfReport}
 use Rattle.trace_run.specs.Turn.{EndsRun, sink_change}
+use Rattle.report.proofs.Pieces.{AppendsPart-behind}
 use Rattle.trace_reader.proofs.Pieces.{items_from-append, items_from-given, items_from-line_too_long, items_from-trace_too_long}
 use Rattle.trace_run.proofs.Runs.{LeadsTo, run-takes, run-nil, run-refused, run-leads_to, report_on-text, report_on-behind}
 use Rattle.trace_run.proofs.Lines.{IsWholeLine, pieces-whole_lines, whole_lines-cut}
 use Rattle.trace_run.proofs.Progress.{Progress, InProgress, items_so_far, end_now, cuts_of, still_at_end}
-
--- ---- parts of a text
-
--- a part of a text is a part of a text that goes on
-pub AppendsPart-longer : (old new : Option (List ℕ)) (front rest : List ℕ) → AppendsPart old new front → AppendsPart old new (front ++ rest)
-AppendsPart-longer old new front rest (n, within, part) =
-    (n, omega (arith, length-append front rest), subst (λ (t : List ℕ). Appends old new t) (sym (take-append-le n front rest within)) part)
-
--- behind what was appended before, a part of the rest is a part of the whole
-pub AppendsPart-behind : (start held after : Option (List ℕ)) (front text whole : List ℕ) → whole ≡ front ++ text → Appends start held front →
-    AppendsPart held after text → AppendsPart start after whole
-AppendsPart-behind start held after front text whole e before (n, within, part) = (
-  length front + n,
-  omega (arith, ap length e, length-append front text),
-  subst (λ (t : List ℕ). Appends start after t) (sym (ap (take (length front + n)) e ∙ take-append-add front text n)) (Appends-trans _ _ _ _ _ before part),
-)
 
 pub Rose-earlier : (start before now : ℕ) → start ≤ before → Rose before now → Rose start now
 Rose-earlier start before now le rose = omega arith

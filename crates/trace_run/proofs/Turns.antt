@@ -12,7 +12,8 @@ use Rattle.trace_run.specs.declared.turn.Flow.{Flow}
 use Rattle.trace_run.specs.Program.{Meaning, Last, IsLast, Effect, halts, takes_item, Ran, halted, refused_line, by_effect, ends_so, behind, report_on}
 use Rattle.trace_run.specs.Turn.{EndsRun, TakesLine, line_effect, sink_change}
 use Rattle.trace_run.proofs.Runs.{report_on-text}
-use Rattle.trace_run.proofs.Endings.{AppendsPart-behind, Rose-earlier}
+use Rattle.report.proofs.Pieces.{AppendsPart-behind}
+use Rattle.trace_run.proofs.Endings.{Rose-earlier}
 
 pub Appends-as : (old new : Option (List ℕ)) (text text' : List ℕ) → text ≡ text' → Appends old new text → Appends old new text'
 Appends-as old new text text' p appended = subst (λ (t : List ℕ). Appends old new t) p appended

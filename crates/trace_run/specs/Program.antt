@@ -9,7 +9,9 @@ use Rattle.graph_meaning.specs.declared.refusal.Refusal.{Refusal}
 use Rattle.graph_meaning.specs.declared.refusal.Stop.{Stop}
 use Rattle.graph_meaning.specs.declared.refusal.Stop.TheVariants.{Refused, OutOfMemory}
 use Rattle.trace_reader.specs.Meaning.{Item, blank, event, refused}
-use Rattle.report.specs.Text.{fault_text}
+use Rattle.report.specs.Text.{collection_text, fault_text}
+use Rattle.trace_run.specs.declared.taken.Due.{Due}
+use Rattle.trace_run.specs.declared.taken.Due.TheVariants.{Text, Lines}
 use Rattle.trace_run.specs.declared.taken.LastText.{LastText}
 use Rattle.trace_run.specs.declared.taken.Taken.{Taken}
 use Rattle.trace_run.specs.declared.taken.Taken.TheVariants.{GoesOn, Halts}
@@ -46,10 +48,15 @@ takes_item p s (refused r) = refuses r
 abbrev pub IsLast : Last → LastText → Type 0
 IsLast last found = (found.text.items ≡ last.text) × (found.violated ≡ last.violated)
 
+-- the bytes of a text that is due
+abbrev pub due_text : Due → List ℕ
+due_text (Text text) = text.items
+due_text (Lines c) = collection_text c
+
 -- the answer to an event is its effect, unless the program is out of memory
 abbrev pub Takes : {State : Type 0} → Effect State → Result Taken Stop → State → Type 0
-Takes effect (Ok (GoesOn text)) after = effect ≡ goes_on text.items after
-Takes effect (Ok (Halts text found)) after = (last : Last) × (effect ≡ halts text.items last) × IsLast last found
+Takes effect (Ok (GoesOn due)) after = effect ≡ goes_on (due_text due) after
+Takes effect (Ok (Halts due found)) after = (last : Last) × (effect ≡ halts (due_text due) last) × IsLast last found
 Takes effect (Err (Refused r)) after = effect ≡ refuses r
 Takes effect (Err OutOfMemory) after = ⊤
 

@@ -6,6 +6,8 @@ use Rattle.heap_base.specs.Sinks.{AppendsPart}
 use Rattle.heap_base.specs.Streams.{Stream}
 use Rattle.heap_base.specs.declared.status.Status.{Status}
 use Rattle.heap_base.specs.declared.status.Status.TheVariants.{Clean, Violated, TraceFault, ReadFault, WriteFault, NoMemory, Usage}
+use Rattle.report.specs.declared.writing.WriteError.{WriteError}
+use Rattle.report.specs.declared.writing.WriteError.TheVariants.{WriteFailed, OutOfMemory}
 use Rattle.trace_run.specs.Program.{Effect, goes_on, Ran, Report, report_on, by_effect}
 use Rattle.trace_run.specs.declared.turn.Flow.{Flow}
 use Rattle.trace_run.specs.declared.turn.Flow.TheVariants.{GoesOn, Ends}
@@ -17,6 +19,11 @@ pub record SinkChange : Type 0 where
 
 abbrev pub sink_change : Stream → Stream → SinkChange
 sink_change old new = record { old = old; new = new }
+
+-- how a run ends where a text was not written whole
+abbrev pub status_of_error : WriteError → Status
+status_of_error WriteFailed = WriteFault
+status_of_error OutOfMemory = NoMemory
 
 -- The run ends with this status, and appended what there was to report, or a part of it. It is Clean or Violated only
 -- where the trace is at its end, or the run halts.

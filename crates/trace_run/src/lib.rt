@@ -2,6 +2,7 @@
 //! written, a refused line ends the report with its fault line, and the status says what stands.
 #![tactic(auto)]
 
+mod due;
 mod ending;
 mod laws;
 mod once;
@@ -16,4 +17,4 @@ pub use laws::{
 pub use once::{refuse_words, write_once};
 pub use program::Program;
 pub use running::run;
-pub use taken::{LastText, Taken};
+pub use taken::{Due, LastText, Taken};

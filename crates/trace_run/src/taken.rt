@@ -1,5 +1,16 @@
 //! What a program makes of an event.
 
+use graph_meaning::Collection;
+
+/// A text that is due.
+#[derive(Drop)]
+pub enum Due {
+    /// These bytes.
+    Text(Vec<u8>),
+    /// The lines of a collection, which are made as they are written.
+    Lines(Collection),
+}
+
 /// The last text of a report, and whether the report has a violation.
 #[derive(Drop)]
 pub struct LastText {
@@ -11,7 +22,7 @@ pub struct LastText {
 #[derive(Drop)]
 pub enum Taken {
     /// This text is due, and the run goes on.
-    GoesOn(Vec<u8>),
+    GoesOn(Due),
     /// This text is due, and then the last text: the run halts.
-    Halts(Vec<u8>, LastText),
+    Halts(Due, LastText),
 }

@@ -5,11 +5,12 @@ ghost use Rattle.trace_reader.specs.Meaning.{item_of_line};
 ghost use Rattle.trace_run.specs.Program.{CountsEvents, MayTake, TakesEvents, takes_item};
 ghost use Rattle.trace_run.specs.Turn.{TakesLine, line_effect, sink_change};
 
+use crate::due::{failed, write_due};
 use crate::ending::{put_last, refuse};
 use crate::program::Program;
 use crate::taken::Taken;
 use graph_meaning::{Event, Stop};
-use heap_base::{LONGEST_TRACE, Sink, Status, put_all};
+use heap_base::{LONGEST_TRACE, Sink, Status};
 use std::alloc::Global;
 use trace_reader::EventReader;
 
@@ -73,13 +74,13 @@ fn take_event<P: Program, T: FnMut(&mut P, &Event) -> Result<Taken, Stop>, K: Si
     ensures later { K.faults sink.old ≤ K.faults sink.new }
 {
     match take(program, event) {
-        Ok(Taken::GoesOn(text)) => match put_all(sink, &text) {
+        Ok(Taken::GoesOn(due)) => match write_due(alloc, &due, sink) {
             Ok(()) => Flow::GoesOn,
-            Err(_) => Flow::Ends(Status::WriteFault),
+            Err(error) => Flow::Ends(failed(error)),
         },
-        Ok(Taken::Halts(text, last)) => match put_all(sink, &text) {
+        Ok(Taken::Halts(due, last)) => match write_due(alloc, &due, sink) {
             Ok(()) => Flow::Ends(put_last(&last, sink)),
-            Err(_) => Flow::Ends(Status::WriteFault),
+            Err(error) => Flow::Ends(failed(error)),
         },
         Err(Stop::Refused(refusal)) => Flow::Ends(refuse(alloc, lines + 1, refusal, sink)),
         Err(Stop::OutOfMemory) => Flow::Ends(Status::NoMemory),

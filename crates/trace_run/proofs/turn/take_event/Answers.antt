@@ -1,17 +1,15 @@
-use Rattle.std.proofs.Common.{Vec, Global, ℕ, ◌+◌, ◌∙◌, ap, Ok}
+use Rattle.std.proofs.Common.{◌+◌, Ok}
 use Rattle.heap_base.specs.Streams.{stream_of}
-use Rattle.trace_run.specs.Program.{Takes}
-use Rattle.trace_run.proofs.Turns.{ends-halted, Appends-as}
+use Rattle.trace_run.specs.Program.{Takes, due_text}
+use Rattle.trace_run.proofs.Turns.{ends-halted}
 use Rattle.trace_run.proofs.turn.take_event.Goals as goal
 
-pub returns-in-Ok-put_all-clause-takes : goal.returns-in-Ok-put_all-clause-takes
-returns-in-Ok-put_all-clause-takes g c =
+pub returns-in-Ok-write_due-clause-takes : goal.returns-in-Ok-write_due-clause-takes
+returns-in-Ok-write_due-clause-takes g c =
     let took : Takes (g.P.Program.meaning.takes (g.P.Program.state c.args.program.now) c.args.event.now) (Ok c.in-Ok-Halts.field-0) (g.P.Program.state c.take.new.arg2) =
     c.requires.takes _ _ _ _ _ _ c.in-Ok-Halts.ensures in
     let effect = rw c.in-Ok-Halts.field-0-is at took in
-    let text = ap (λ (v : Vec ℕ Global). v.items) c.in-Ok-Halts.text-is in
     ends-halted (g.P.Program.meaning.takes (g.P.Program.state c.args.program.now) c.args.event.now) (c.args.lines + 1)
-    (stream_of g.K.Sink.held g.K.Sink.faults c.args.sink.now) (stream_of g.K.Sink.held g.K.Sink.faults c.put_all-in-Ok-Halts.new.sink)
-    (stream_of g.K.Sink.held g.K.Sink.faults c.put_last.new.sink) c.in-Ok-Halts.text.items effect.0 c.in-Ok-Halts.last c.put_last.result effect.1
-    effect.2
-    (Appends-as _ _ _ _ (c.deref-in-Ok-Halts.ensures.value ∙ text) c.in-Ok-put_all.ensures.whole) c.in-Ok-put_all.ensures.cause.later (rw c.in-Ok-Halts.last-is at c.put_last.ensures.halts)
+    (stream_of g.K.Sink.held g.K.Sink.faults c.args.sink.now) (stream_of g.K.Sink.held g.K.Sink.faults c.write_due-in-Ok-Halts.new.sink)
+    (stream_of g.K.Sink.held g.K.Sink.faults c.put_last.new.sink) (due_text c.in-Ok-Halts.due) effect.0 c.in-Ok-Halts.last c.put_last.result effect.1
+    effect.2 c.in-Ok-write_due.ensures.whole c.in-Ok-write_due.ensures.later c.put_last.ensures.halts
