@@ -11,30 +11,31 @@ use graph_meaning::Collection;
 use heap_base::{OutOfMemory, Sink, Source, Status};
 use parallel_reader::ParallelReader;
 use std::thread::Threads;
-use trace_audit::{Plan, audit_trace};
+use trace_audit::{Audit, audit_trace};
 use trace_reader::LineReader;
 
 /// Audits the trace that the source has left, as `audit_trace` does. One worker reads it line by line, and starts no thread; where there
 /// are more, they read many lines side by side.
 pub fn audit_lines<
-    C: FnMut(&mut Auditor) -> Result<Collection, OutOfMemory>,
+    C: FnMut(&mut Auditor) -> Result<Collection, OutOfMemory> + Drop,
     S: Source,
     K: Sink,
     R: Threads + Sync,
->(rt: &R, plan: Plan, collect: C, source: &mut S, sink: &mut K) -> Status
-    requires workers { (0 < plan.workers) × (plan.workers ≤ MOST_WORKERS) }
+>(rt: &R, audit: Audit<C>, source: &mut S, sink: &mut K) -> Status
+    requires workers { (0 < audit.plan.workers) × (audit.plan.workers ≤ MOST_WORKERS) }
     requires may_collect { MayCollect C.pre }
     requires collects { MakesCollections C.step }
     ensures { let old = seen (stream_of S.left S.faults source.old) (stream_of K.held K.faults sink.old) in
         let new = seen (stream_of S.left S.faults source.new) (stream_of K.held K.faults sink.new) in
-        Ended (trace_report LONGEST_TRACE (audit_report (rules_by plan.paths plan.react))) old new result }
+        Ended (trace_report LONGEST_TRACE (audit_report (rules_by audit.plan.paths audit.plan.react))) old new result }
 {
+    let plan = audit.plan;
     if plan.workers == 1 {
         let mut reader = LineReader::make(plan.alloc);
-        return audit_trace(plan, collect, &mut reader, source, sink);
+        return audit_trace(audit, &mut reader, source, sink);
     }
     let Ok(mut reader) = ParallelReader::make(rt, plan.alloc, plan.workers) else {
         return Status::NoMemory;
     };
-    audit_trace(plan, collect, &mut reader, source, sink)
+    audit_trace(audit, &mut reader, source, sink)
 }

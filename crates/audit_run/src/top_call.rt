@@ -19,7 +19,7 @@ use heap_base::{Gate, OutOfMemory, Sink, Source, Status};
 use settings::{SettingsError, settings_of};
 use std::alloc::Global;
 use std::thread::Threads;
-use trace_audit::Plan;
+use trace_audit::{Audit, Plan};
 use trace_run::refuse_words;
 
 const USAGE: &[u8] = b"usage: gcaudit [--workers N] [--paths P] [--react R] [--gen K --size N]\n";
@@ -64,29 +64,30 @@ pub fn audit<S: Source, K: Sink, G: Gate, R: Threads + Sync>(
         requires { auditor.now.collections < LONGEST_TRACE }
         ensures { IsCollected auditor.entry.now result auditor.exit.now }
     { auditor.collect(rt, gate) };
+    let audit = Audit { plan, collect };
     match settings.plan {
-        None => audit_lines(rt, plan, collect, source, sink),
-        Some(trace) => audit_generated(rt, plan, trace, collect, sink),
+        None => audit_lines(rt, audit, source, sink),
+        Some(trace) => audit_generated(rt, audit, trace, sink),
     }
 }
 
 /// Audits the trace that is generated from these numbers.
 fn audit_generated<
-    C: FnMut(&mut Auditor) -> Result<Collection, OutOfMemory>,
+    C: FnMut(&mut Auditor) -> Result<Collection, OutOfMemory> + Drop,
     K: Sink,
     R: Threads + Sync,
->(rt: &R, plan: Plan, trace: GenPlan, collect: C, sink: &mut K) -> Status
-    requires workers { (0 < plan.workers) × (plan.workers ≤ MOST_WORKERS) }
+>(rt: &R, audit: Audit<C>, trace: GenPlan, sink: &mut K) -> Status
+    requires workers { (0 < audit.plan.workers) × (audit.plan.workers ≤ MOST_WORKERS) }
     requires trace { IsPlan trace }
     requires may_collect { MayCollect C.pre }
     requires collects { MakesCollections C.step }
     ensures { (stream : Stream) →
         let old = seen stream (stream_of K.held K.faults sink.old) in
         let new = seen stream (stream_of K.held K.faults sink.new) in
-        (left : List ℕ) × Ended (rules_by plan.paths plan.react) (reading (gen_text trace.number trace.size) old) (reading left new) result }
+        (left : List ℕ) × Ended (rules_by audit.plan.paths audit.plan.react) (reading (gen_text trace.number trace.size) old) (reading left new) result }
 {
-    let Ok(mut source) = GenSource::make(plan.alloc, trace) else {
+    let Ok(mut source) = GenSource::make(audit.plan.alloc, trace) else {
         return Status::NoMemory;
     };
-    audit_lines(rt, plan, collect, &mut source, sink)
+    audit_lines(rt, audit, &mut source, sink)
 }

@@ -16,7 +16,7 @@ use object_table::ObjectTable;
 use snapshot_text::write_snapshot;
 use std::alloc::Global;
 use trace_reader::LineReader;
-use trace_run::{Due, LastText, Program, Taken, run};
+use trace_run::{Due, LastText, Program, Taken, TraceRun};
 
 /// A trace that a snapshot is made of has at most so many bytes: 2^28.
 pub(crate) const LONGEST_TRACE: u64 = 268_435_456;
@@ -55,17 +55,14 @@ pub(crate) fn from_trace<S: Source, K: Sink>(alloc: Global, source: &mut S, sink
     let Ok(table) = ObjectTable::make(alloc) else {
         return Status::NoMemory;
     };
-    let mut making = Making { alloc, table };
     let mut reader = LineReader::make(alloc);
-    run(
+    let run = TraceRun {
         alloc,
-        LONGEST_TRACE,
-        &mut making,
-        take_event,
-        &mut reader,
-        source,
-        sink,
-    )
+        limit: LONGEST_TRACE,
+        program: Making { alloc, table },
+        take: take_event,
+    };
+    run.run(&mut reader, source, sink)
 }
 
 fn take_event(making: &mut Making, event: &Event) -> Result<Taken, Stop>

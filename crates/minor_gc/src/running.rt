@@ -14,7 +14,7 @@ use graph_meaning::{Event, Refusal, Stop};
 use heap_base::{LONGEST_TRACE, OutOfMemory, Sink, Source, Status};
 use std::alloc::Global;
 use trace_reader::LineReader;
-use trace_run::{Due, Taken, refuse_words, run};
+use trace_run::{Due, Taken, TraceRun, refuse_words};
 
 const USAGE: &[u8] = b"usage: gcminor\n";
 
@@ -42,21 +42,19 @@ pub fn minor_run<S: Source, K: Sink>(
     let Ok(nursery) = Nursery::make(alloc) else {
         return Status::NoMemory;
     };
-    let mut program = MinorProgram {
+    let program = MinorProgram {
         alloc,
         nursery,
         collections: 0,
     };
     let mut reader = LineReader::make(alloc);
-    run(
+    let run = TraceRun {
         alloc,
-        LONGEST_TRACE,
-        &mut program,
-        take_event,
-        &mut reader,
-        source,
-        sink,
-    )
+        limit: LONGEST_TRACE,
+        program,
+        take: take_event,
+    };
+    run.run(&mut reader, source, sink)
 }
 
 // Takes an event of a trace.

@@ -15,7 +15,7 @@ use resident_rounds::Residents;
 use std::alloc::Global;
 use std::sync::{Arc, Wait};
 use std::thread::Threads;
-use trace_audit::{Plan, audit_trace};
+use trace_audit::{Audit, Plan, audit_trace};
 use trace_reader::LineReader;
 use trace_run::refuse_words;
 
@@ -58,7 +58,8 @@ pub fn audit_resident<
         ensures { IsCollected auditor.entry.now result auditor.exit.now }
     { collect_resident(rt, alloc, &mut crew, auditor) };
     let mut reader = LineReader::make(alloc);
-    let status = audit_trace(plan, collect, &mut reader, source, sink);
+    let audit = Audit { plan, collect };
+    let status = audit_trace(audit, &mut reader, source, sink);
     crew.end(rt);
     status
 }

@@ -16,7 +16,7 @@ use graph_meaning::{Collection, Event, React, Stop};
 use heap_base::{LONGEST_TRACE, OutOfMemory, Sink, Source, Status};
 use std::alloc::Global;
 use trace_reader::EventReader;
-use trace_run::{Taken, run};
+use trace_run::{Taken, TraceRun};
 
 /// What an audit goes by: its allocator, how many workers trace a heap, how many paths of each collection are shown, and
 /// what is done about violations.
@@ -28,41 +28,55 @@ pub struct Plan {
     pub react: React,
 }
 
-/// Audits the trace that the source has left, and writes its report. `collect` makes the auditor's collections. The text of
-/// each is written before the next line is cut.
+/// An audit of a trace: what it goes by, and what makes its auditor's collections.
+#[derive(Drop)]
+pub struct Audit<C> {
+    pub plan: Plan,
+    pub collect: C,
+}
+
+/// Audits the trace that the source has left, and writes its report. The text of each collection is written before the next
+/// line is cut.
 pub fn audit_trace<
-    C: FnMut(&mut Auditor) -> Result<Collection, OutOfMemory>,
+    C: FnMut(&mut Auditor) -> Result<Collection, OutOfMemory> + Drop,
     L: EventReader,
     S: Source,
     K: Sink,
->(plan: Plan, mut collect: C, reader: &mut L, source: &mut S, sink: &mut K) -> Status
+>(audit: Audit<C>, reader: &mut L, source: &mut S, sink: &mut K) -> Status
     requires ready { L.ready reader.old }
-    requires workers { (0 < plan.workers) × (plan.workers ≤ MOST_WORKERS) }
+    requires workers { (0 < audit.plan.workers) × (audit.plan.workers ≤ MOST_WORKERS) }
     requires may_collect { MayCollect C.pre }
     requires collects { MakesCollections C.step }
     ensures { let old = seen (stream_of S.left S.faults source.old) (stream_of K.held K.faults sink.old) in
         let new = seen (stream_of S.left S.faults source.new) (stream_of K.held K.faults sink.new) in
-        Ended (trace_report LONGEST_TRACE (audit_report (rules_by plan.paths plan.react))) old new result }
+        Ended (trace_report LONGEST_TRACE (audit_report (rules_by audit.plan.paths audit.plan.react))) old new result }
 {
+    let Audit { plan, mut collect } = audit;
     let alloc = plan.alloc;
     let force = is_force(plan.react);
     let Ok(auditor) = Auditor::make(alloc, plan.workers, plan.paths, force) else {
         return Status::NoMemory;
     };
-    let mut audit = TraceAudit {
+    let program = TraceAudit {
         alloc,
         paths: plan.paths,
         react: plan.react,
         auditor,
     };
-    let take = |audit: &mut TraceAudit, event: &Event| -> Result<Taken, Stop>
-        requires few { audit.now.auditor.collections < LONGEST_TRACE }
+    let take = |program: &mut TraceAudit, event: &Event| -> Result<Taken, Stop>
+        requires few { program.now.auditor.collections < LONGEST_TRACE }
         requires may_collect { MayCollect C.pre }
         requires collects { MakesCollections C.step }
-        ensures takes { Takes (audit_meaning.takes (state_in audit.entry.now) event.now) result (state_in audit.exit.now) }
-        ensures few { audit.exit.now.auditor.collections ≤ audit.entry.now.auditor.collections + 1 }
-    { take_event(audit, event, &mut collect) };
-    run(alloc, LONGEST_TRACE, &mut audit, take, reader, source, sink)
+        ensures takes { Takes (audit_meaning.takes (state_in program.entry.now) event.now) result (state_in program.exit.now) }
+        ensures few { program.exit.now.auditor.collections ≤ program.entry.now.auditor.collections + 1 }
+    { take_event(program, event, &mut collect) };
+    let run = TraceRun {
+        alloc,
+        limit: LONGEST_TRACE,
+        program,
+        take,
+    };
+    run.run(reader, source, sink)
 }
 
 fn is_force(react: React) -> bool

@@ -6,4 +6,4 @@ mod collecting;
 mod program;
 mod taking;
 
-pub use auditing::{Plan, audit_trace};
+pub use auditing::{Audit, Plan, audit_trace};

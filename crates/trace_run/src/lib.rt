@@ -16,5 +16,5 @@ pub use laws::{
 };
 pub use once::{refuse_words, write_once};
 pub use program::Program;
-pub use running::run;
+pub use running::TraceRun;
 pub use taken::{Due, LastText, Taken};

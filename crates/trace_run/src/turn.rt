@@ -8,10 +8,10 @@ ghost use Rattle.trace_run.specs.Turn.{TakesLine, line_effect, sink_change};
 use crate::due::{failed, write_due};
 use crate::ending::{put_last, refuse};
 use crate::program::Program;
+use crate::running::TraceRun;
 use crate::taken::Taken;
 use graph_meaning::{Event, Stop};
 use heap_base::{LONGEST_TRACE, Sink, Status};
-use std::alloc::Global;
 use trace_reader::EventReader;
 
 /// Whether a run goes on after a line, or how it ends.
@@ -21,68 +21,61 @@ pub enum Flow {
     Ends(Status),
 }
 
-/// Takes one line of the trace, which this many lines stand before.
-pub fn take_line<
-    P: Program,
-    T: FnMut(&mut P, &Event) -> Result<Taken, Stop>,
-    L: EventReader,
-    K: Sink,
->(
-    alloc: Global,
-    reader: &mut L,
-    program: &mut P,
-    take: &mut T,
-    line: &[u8],
-    lines: u64,
-    sink: &mut K,
-) -> Flow
-    requires ready { L.ready reader.old }
-    requires few_lines { lines < LONGEST_TRACE }
-    requires few_events { P.events program.old ≤ lines }
-    requires may_take { MayTake P.events T.pre }
-    requires takes { TakesEvents P.meaning P.state T.step }
-    requires counts { CountsEvents P.events T.step }
-    ensures ready { L.ready reader.new }
-    ensures takes { TakesLine (line_effect (takes_item P.meaning (P.state program.old) (item_of_line line.now)) lines (P.state program.new)) (sink_change (stream_of K.held K.faults sink.old) (stream_of K.held K.faults sink.new)) result }
-    ensures few { P.events program.new ≤ P.events program.old + 1 }
-    ensures later { K.faults sink.old ≤ K.faults sink.new }
-{
-    match reader.event_of(line) {
-        Ok(None) => Flow::GoesOn,
-        Ok(Some(event)) => take_event(alloc, program, take, &event, lines, sink),
-        Err(Stop::Refused(refusal)) => Flow::Ends(refuse(alloc, lines + 1, refusal, sink)),
-        Err(Stop::OutOfMemory) => Flow::Ends(Status::NoMemory),
+impl<P: Program + Drop, T: FnMut(&mut P, &Event) -> Result<Taken, Stop>> TraceRun<P, T> {
+    /// Takes one line of the trace, which this many lines stand before.
+    pub(crate) fn take_line<L: EventReader, K: Sink>(
+        &mut self,
+        reader: &mut L,
+        line: &[u8],
+        lines: u64,
+        sink: &mut K,
+    ) -> Flow
+        requires ready { L.ready reader.old }
+        requires few_lines { lines < LONGEST_TRACE }
+        requires few_events { P.events self.old.program ≤ lines }
+        requires may_take { MayTake P.events T.pre }
+        requires takes { TakesEvents P.meaning P.state T.step }
+        requires counts { CountsEvents P.events T.step }
+        ensures ready { L.ready reader.new }
+        ensures takes { let effect = takes_item P.meaning (P.state self.old.program) (item_of_line line.now) in
+            TakesLine (line_effect effect lines (P.state self.new.program)) (sink_change (stream_of K.held K.faults sink.old) (stream_of K.held K.faults sink.new)) result }
+        ensures few { P.events self.new.program ≤ P.events self.old.program + 1 }
+        ensures later { K.faults sink.old ≤ K.faults sink.new }
+    {
+        match reader.event_of(line) {
+            Ok(None) => Flow::GoesOn,
+            Ok(Some(event)) => self.take_event(&event, lines, sink),
+            Err(Stop::Refused(refusal)) => {
+                Flow::Ends(refuse(self.alloc, lines + 1, refusal, sink))
+            }
+            Err(Stop::OutOfMemory) => Flow::Ends(Status::NoMemory),
+        }
     }
-}
 
-/// Takes an event, and writes at once what it makes due.
-fn take_event<P: Program, T: FnMut(&mut P, &Event) -> Result<Taken, Stop>, K: Sink>(
-    alloc: Global,
-    program: &mut P,
-    take: &mut T,
-    event: &Event,
-    lines: u64,
-    sink: &mut K,
-) -> Flow
-    requires few_lines { lines < LONGEST_TRACE }
-    requires few_events { P.events program.old ≤ lines }
-    requires may_take { MayTake P.events T.pre }
-    requires takes { TakesEvents P.meaning P.state T.step }
-    requires counts { CountsEvents P.events T.step }
-    ensures takes { TakesLine (line_effect (P.meaning.takes (P.state program.old) event.now) lines (P.state program.new)) (sink_change (stream_of K.held K.faults sink.old) (stream_of K.held K.faults sink.new)) result }
-    ensures few { P.events program.new ≤ P.events program.old + 1 }
-    ensures later { K.faults sink.old ≤ K.faults sink.new }
-{
-    match take(program, event) {
-        Ok(Taken::GoesOn(due)) => match write_due(alloc, &due, sink) {
-            Ok(()) => Flow::GoesOn,
-            Err(error) => Flow::Ends(failed(error)),
-        },
-        Ok(Taken::Halts(due, last)) => match write_due(alloc, &due, sink) {
-            Ok(()) => Flow::Ends(put_last(&last, sink)),
-            Err(error) => Flow::Ends(failed(error)),
-        },
-        Err(Stop::Refused(refusal)) => Flow::Ends(refuse(alloc, lines + 1, refusal, sink)),
-        Err(Stop::OutOfMemory) => Flow::Ends(Status::NoMemory),
+    // Takes an event, and writes at once what it makes due.
+    fn take_event<K: Sink>(&mut self, event: &Event, lines: u64, sink: &mut K) -> Flow
+        requires few_lines { lines < LONGEST_TRACE }
+        requires few_events { P.events self.old.program ≤ lines }
+        requires may_take { MayTake P.events T.pre }
+        requires takes { TakesEvents P.meaning P.state T.step }
+        requires counts { CountsEvents P.events T.step }
+        ensures takes { TakesLine (line_effect (P.meaning.takes (P.state self.old.program) event.now) lines (P.state self.new.program)) (sink_change (stream_of K.held K.faults sink.old) (stream_of K.held K.faults sink.new)) result }
+        ensures few { P.events self.new.program ≤ P.events self.old.program + 1 }
+        ensures later { K.faults sink.old ≤ K.faults sink.new }
+    {
+        match (self.take)(&mut self.program, event) {
+            Ok(Taken::GoesOn(due)) => match write_due(self.alloc, &due, sink) {
+                Ok(()) => Flow::GoesOn,
+                Err(error) => Flow::Ends(failed(error)),
+            },
+            Ok(Taken::Halts(due, last)) => match write_due(self.alloc, &due, sink) {
+                Ok(()) => Flow::Ends(put_last(&last, sink)),
+                Err(error) => Flow::Ends(failed(error)),
+            },
+            Err(Stop::Refused(refusal)) => {
+                Flow::Ends(refuse(self.alloc, lines + 1, refusal, sink))
+            }
+            Err(Stop::OutOfMemory) => Flow::Ends(Status::NoMemory),
+        }
     }
 }

@@ -11,11 +11,11 @@ use Rattle.trace_audit.proofs.Collected.{is_reported}
 use Rattle.trace_audit.proofs.auditing.audit_trace.Goals as goal
 
 pub returns-in_default : goal.returns-in_default
-returns-in_default g c = nothing_written (trace_report LONGEST_TRACE (audit_report (rules_by c.args.plan.paths c.args.plan.react))) _ _ refl
+returns-in_default g c = nothing_written (trace_report LONGEST_TRACE (audit_report (rules_by c.args.audit.plan.paths c.args.audit.plan.react))) _ _ refl
 
 pub returns : goal.returns
 returns g c =
-    let rules = rules_by c.args.plan.paths c.args.plan.react in
+    let rules = rules_by c.args.audit.plan.paths c.args.audit.plan.react in
     let old = seen (stream_of g.S.Source.left g.S.Source.faults c.args.source.now) (stream_of g.K.Sink.held g.K.Sink.faults c.args.sink.now) in
     let new = seen (stream_of g.S.Source.left g.S.Source.faults c.run.new.source) (stream_of g.K.Sink.held g.K.Sink.faults c.run.new.sink) in
     equal_reports LONGEST_TRACE (report_by audit_meaning (auditor_state rules c.in-Ok.auditor)) (audit_report rules) old new c.run.result

@@ -1,23 +1,23 @@
 use Rattle.std.proofs.Common.{refl, arith}
 use Rattle.trace_run.proofs.Progress.{begins_at, line_taken, line_within, line_leaves_fewer}
 use Rattle.trace_run.proofs.Endings.{finished, line_too_long, trace_too_long, line_ends, cut_short, nothing_written}
-use Rattle.trace_run.proofs.running.run.Goals as goal
+use Rattle.trace_run.proofs.running.TraceRun.run.Goals as goal
 
 pub trace-init : goal.trace-init
 trace-init g c =
-    (begins_at g.P.Program.meaning c.args.limit _ _ _ c.in-Ok.ensures, (let new = c.requires.new in omega (arith, new)), c.requires.ready)
+    (begins_at g.P.Program.meaning c.args.self.limit _ _ _ c.in-Ok.ensures, (let new = c.requires.new in omega (arith, new)), c.requires.ready)
 
 pub returns-in-Ends : goal.returns-in-Ends
 returns-in-Ends g c =
     let steps = rw c.in-Ok-Some.field-0-is at c.in-Ok-Some.ensures.1 in
-    line_ends g.P.Program.meaning _ _ _ _ _ _ _ _ _ _ _ _ _ c.trace.invariant.0 steps c.line-line.ensures c.in-Ends.ensures.takes
+    line_ends g.P.Program.meaning _ _ _ _ _ _ _ _ _ _ _ _ _ c.trace.invariant.0 steps c.line.ensures c.in-Ends.ensures.takes
 
 pub trace-preserved : goal.trace-preserved
 trace-preserved g c =
     let steps = rw c.in-Ok-Some.field-0-is at c.in-Ok-Some.ensures.1 in
     let taken = c.in-GoesOn.ensures.takes in
     let within = line_within g.P.Program.meaning _ _ _ _ _ _ _ _ _ _ _ c.trace.invariant.0 steps in (
-      line_taken g.P.Program.meaning _ _ _ _ _ _ _ _ _ _ _ _ _ _ c.trace.invariant.0 steps c.line-line.ensures taken.1 taken.2 c.take_line.ensures.later,
+      line_taken g.P.Program.meaning _ _ _ _ _ _ _ _ _ _ _ _ _ _ c.trace.invariant.0 steps c.line.ensures taken.1 taken.2 c.take_line.ensures.later,
       (let before = c.trace.invariant.1 in let few = c.take_line.ensures.few in let next = within.1 in omega (arith, before, few, next)),
       c.look_ahead.ensures,
     )
