@@ -11,23 +11,16 @@ use heap_trace::{Kit, Traced, trace};
 use std::thread::Threads;
 use verdicts::verdicts;
 
-// So many cells pay for a second worker: for its memory, and for the thread that is started for it, which takes as long as to trace
-// some thousand objects.
-const CELLS_OF_TWO_WORKERS: u32 = 4_096;
-
-// So many more pay for each further worker.
-const CELLS_A_WORKER: u32 = 8_192;
+// So many cells pay for a second worker, and as many more for each further one: for its memory, and for the thread that is started for
+// it. A thread may wait a millisecond or two before it runs, in which another traces this many objects.
+const CELLS_A_WORKER: u32 = 32_768;
 
 // How many workers, at most so many, trace a table of so many cells.
 fn workers_for(cells: u32, most: u32) -> u32
     requires { 0 < most }
     ensures { (0 < result) × (result ≤ most) }
 {
-    if cells < CELLS_OF_TWO_WORKERS {
-        1
-    } else {
-        (2 + cells / CELLS_A_WORKER).min(most)
-    }
+    (1 + cells / CELLS_A_WORKER).min(most)
 }
 
 impl Auditor {

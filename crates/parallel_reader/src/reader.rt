@@ -8,10 +8,11 @@ use std::thread::Threads;
 use trace_reader::{EventReader, LineReader};
 
 // So many bytes are read ahead at once where the source has them: with fewer, threads would be started more often.
-const AHEAD: usize = 524_288;
+const AHEAD: usize = 1_048_576;
 
-// A thread is started for so many bytes at least. It costs about as much as reading 200 lines.
-const LEAST_PART: usize = 16_384;
+// A thread is started for so many bytes at least. It may wait a millisecond or two before it runs, in which another reads some
+// thousand lines.
+const LEAST_PART: usize = 131_072;
 
 // Where nothing could be read ahead, as when out of memory, so many lines are read one by one before it is tried again.
 const PAUSE: u32 = 1_000;
