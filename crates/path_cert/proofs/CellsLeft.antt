@@ -2,15 +2,12 @@
 use Rattle.std.proofs.Common.{◌≡◌, ℕ, zero, suc, ◌+◌, ◌<◌, ◌≤◌, Bool, true, false, ◌||◌, not, cond, ⊎_elim, [], ◌∷◌, sym, refl, ap, ◌∙◌, arith, eqb-true, eq-eqb, ◌==◌}
 use Rattle.std.specs.Prelude.{count_by}
 use Rattle.std.specs.List.{range_with_len}
+use Rattle.std.proofs.Math.Bool.{or-false}
 use Rattle.std.proofs.lemmas.Bool.{cases_eq, or_left, or_right, false_from_ne_true}
 use Rattle.std.proofs.lemmas.List.Sums.{sum_by-cons}
 use Rattle.graph_meaning.specs.Reach.{has_id}
 
 -- ---- how many cells are left
-
-or_false : (b : Bool) → (b || false) ≡ b
-or_false true = refl
-or_false false = refl
 
 abbrev bit_of : Bool → ℕ
 bit_of b = cond b 1 0
@@ -20,7 +17,7 @@ module _ (met later : ℕ → Bool) (cell : ℕ) (same : (x : ℕ) → later x �
   other x apart =
       same x
       ∙ ap (λ b. met x || (b || false)) (false_from_ne_true (cell == x) (λ e. apart (eqb-true cell x e)))
-      ∙ or_false (met x)
+      ∙ or-false (met x)
 
   here : later cell ≡ true
   here = same cell ∙ or_right _ _ (or_left _ _ (eq-eqb cell cell refl))

@@ -2,6 +2,7 @@
 use Rattle.std.proofs.Common.{◌≡◌, ℕ, ◌<◌, ◌≢◌, Bool, true, false, ◌&&◌, ◌||◌, not, cond, ⊎_elim, List, [], ◌∷◌, ◌++◌, length, slice_set, sym, refl}
 use Rattle.std.proofs.Common.{ap, subst, ◌∙◌, append-nil, append_assoc, eqb-true, eq-eqb, ◌==◌, IsTrue}
 use Rattle.std.specs.Prelude.{IsSome}
+use Rattle.std.proofs.Math.Bool.{or-false}
 use Rattle.std.proofs.lemmas.Bool.{cases_eq, false≢true, or_cases, false_from_ne_true}
 use Rattle.std.proofs.lemmas.List.{length-set, get_or-set_same, get_or-set_other}
 use Rattle.graph_meaning.specs.Reach.{has_id}
@@ -76,21 +77,17 @@ put-order : (new : Bool) (order : List ℕ) (cell : ℕ) → cond new (order ++ 
 put-order true order cell = refl
 put-order false order cell = sym (append-nil order)
 
-or_false : (b : Bool) → (b || false) ≡ b
-or_false true = refl
-or_false false = refl
-
 fresh-here : (new : Bool) (cell : ℕ) → has_id (fresh_of new cell) cell ≡ new
-fresh-here true cell = or_false (cell == cell) ∙ eq-eqb cell cell refl
+fresh-here true cell = or-false (cell == cell) ∙ eq-eqb cell cell refl
 fresh-here false cell = refl
 
 fresh-other : (new : Bool) (cell c : ℕ) → c ≢ cell → has_id (fresh_of new cell) c ≡ false
 fresh-other true cell c other =
-    or_false (cell == c) ∙ false_from_ne_true (cell == c) (λ same. other (sym (eqb-true cell c same)))
+    or-false (cell == c) ∙ false_from_ne_true (cell == c) (λ same. other (sym (eqb-true cell c same)))
 fresh-other false cell c other = refl
 
 fresh-only : (new : Bool) (cell c : ℕ) → has_id (fresh_of new cell) c ≡ true → cell ≡ c
-fresh-only true cell c at = eqb-true cell c (sym (or_false (cell == c)) ∙ at)
+fresh-only true cell c at = eqb-true cell c (sym (or-false (cell == c)) ∙ at)
 fresh-only false cell c at = absurd (false≢true at)
 
 and_true : (b : Bool) → b ≡ (b && true)

@@ -4,7 +4,7 @@ use Rattle.std.proofs.Common.{ap, subst, ◌∙◌, arith, eqb-true, eq-eqb, ◌
 use Rattle.std.specs.Prelude.{find, AllPairs}
 use Rattle.std.specs.Option.{is_some, option_map}
 use Rattle.std.proofs.Math.Seq.{drop-append_seam}
-use Rattle.std.proofs.lemmas.Bool.{or_right, and_parts, and_from, false≢true, false_from_ne_true}
+use Rattle.std.proofs.lemmas.Bool.{not-true, or_right, and_parts, and_from, false≢true, false_from_ne_true}
 use Rattle.std.proofs.lemmas.List.{take-append-drop, drop_all}
 use Rattle.graph_meaning.specs.Heap.{ids, edges, targets}
 use Rattle.graph_meaning.specs.Reach.{Graph, has_id, within, level, distance, predecessor}
@@ -23,10 +23,6 @@ use Rattle.path_cert.proofs.Rounds.{find-least, within-node, level-within, level
 
 not_equal : (a b : ℕ) → a ≢ b → (a == b) ≡ false
 not_equal a b other = false_from_ne_true (a == b) (λ same. other (eqb-true a b same))
-
-not_true : (b : Bool) → not b ≡ true → b ≡ false
-not_true true is = absurd (false≢true is)
-not_true false is = refl
 
 has_id-drop : (place : ℕ) (xs : List ℕ) (x : ℕ) → IsTrue (has_id (drop place xs) x) → IsTrue (has_id xs x)
 has_id-drop place xs x at =
@@ -115,7 +111,7 @@ module _ (p : Placed) (placed : IsPlaced p) (rising : AllPairs (λ a b. a < b) (
           cell.0,
           cell.1,
           now.last cell.0 x cell.1 ∙ eq-eqb (level_at f cell.0) (suc n) (level-of n f place now cell.0 x cell.1 at),
-          sym (by_cell cell.0 x cell.1) ∙ not_true (s.is_shut x) passes,
+          sym (by_cell cell.0 x cell.1) ∙ not-true (s.is_shut x) passes,
           ap (λ y. is_some (find (λ e. e.1 == id) (edges p.table y))) (id-held p cell.0 x cell.1) ∙ sym (edge-some x id) ∙ target,
         )
 

@@ -1,7 +1,8 @@
 -- What the search of an owner keeps, and what it has found at its end.
 use Rattle.std.proofs.Common.{◌≡◌, ℕ, Bool, true, false, ◌&&◌, ◌||◌, not, ⊎_elim, ◌⊎◌, inl, inr, List, [], ◌∷◌, ◌++◌, sym, refl, ap, subst, ◌∙◌, eqb-true, eq-eqb, ◌==◌, IsTrue, Option, None, Some}
 use Rattle.std.specs.Prelude.{IsSome, IsSomeAnd}
-use Rattle.std.proofs.lemmas.Bool.{or_cases, or_left, or_right, and_parts, false≢true}
+use Rattle.std.proofs.Math.Bool.{or-false, or_assoc}
+use Rattle.std.proofs.lemmas.Bool.{not-true, or_cases, or_left, or_right, and_parts, false≢true}
 use Rattle.graph_meaning.specs.Heap.{targets}
 use Rattle.graph_meaning.specs.Reach.{Graph, has_id}
 use Rattle.graph_meaning.specs.Roles.{RoleTable, id_at}
@@ -16,22 +17,6 @@ use Rattle.path_cert.specs.Quests.{Sought, MeetsAll, Reaches, Quest, IsFollowed,
 use Rattle.path_cert.proofs.ByIds.{by_id-held, by_id-true}
 use Rattle.path_cert.proofs.HeldObjects.{held-id, id-held}
 
-or_false : (b : Bool) → (b || false) ≡ b
-or_false true = refl
-or_false false = refl
-
-or_assoc : (a b c : Bool) → ((a || b) || c) ≡ (a || (b || c))
-or_assoc true b c = refl
-or_assoc false b c = refl
-
-not_true : (b : Bool) → not b ≡ true → b ≡ false
-not_true true is = absurd (false≢true is)
-not_true false is = refl
-
-not_not : (b : Bool) → not (not b) ≡ b
-not_not true = refl
-not_not false = refl
-
 -- ---- cells that are met
 
 none_new : (w m n : Bool) → w ≡ (w || ((m && not m) && n))
@@ -41,14 +26,14 @@ none_new false false n = refl
 
 MeetsAll-none : (r : RoleTable) (s : Sought) → MeetsAll r [] s s
 MeetsAll-none r s = record {
-  met = λ x. sym (or_false (s.met x));
+  met = λ x. sym (or-false (s.met x));
   work = λ x. none_new (has_id s.work x) (s.met x) (not (is_border_cell r x));
 }
 
 work_both : (w a p q n : Bool) → ((w || (((a || p) && not a) && n)) || ((((a || p) || q) && not (a || p)) && n)) ≡ (w || ((((a || p) || q) && not a) && n))
 work_both true a p q n = refl
 work_both false true p q n = refl
-work_both false false true q n = or_false n
+work_both false false true q n = or-false n
 work_both false false false q n = refl
 
 MeetsAll-more : (r : RoleTable) (cells : List ℕ) (cell : ℕ) (a b c : Sought) → MeetsAll r cells a b → MeetsAll r (cell ∷ []) b c → MeetsAll r (cells ++ cell ∷ []) a c
@@ -179,7 +164,7 @@ module _ (q : Quest) (placed : IsPlaced q.placed) where
       waiting = λ x at.
           ⊎_elim
           (λ old. (still x (now.waiting x old).0, (now.waiting x old).1))
-          (λ new. let parts = and_parts _ _ new in ((and_parts _ _ parts.0).0, not_true (is_border_cell q.roles x) parts.1))
+          (λ new. let parts = and_parts _ _ new in ((and_parts _ _ parts.0).0, not-true (is_border_cell q.roles x) parts.1))
           (or_cases _ _ (sym (reaches.meets.work x) ∙ at));
       closed = closed-next;
     }
@@ -223,7 +208,7 @@ module _ (q : Quest) (placed : IsPlaced q.placed) where
       along_edges = λ x id at passes edge.
           let from = by_id-true p s.met x at in
           let to = placed.somewhere id (sym (has_id-ids p.table id) ∙ edge.1) in
-          let inner = sym (by_id-held p placed (is_border_cell q.roles) from.0 x from.1) ∙ not_true (by_id p (is_border_cell q.roles) x) passes in
+          let inner = sym (by_id-held p placed (is_border_cell q.roles) from.0 x from.1) ∙ not-true (by_id p (is_border_cell q.roles) x) passes in
           by_id-held p placed s.met to.0 id to.1
           ∙ ⊎_elim
           (λ waits. absurd (false≢true (sym (ap (λ xs. has_id xs from.0) empty) ∙ waits)))
@@ -264,7 +249,7 @@ work-held p r ids s t cell work reaches taken held x at =
     (λ new.
     let both = and_parts (t.met x) (not (s.met x)) (and_parts (t.met x && not (s.met x)) (not (is_border_cell r x)) new).0 in
     ⊎_elim
-    (λ met. absurd (false≢true (sym (not_true (s.met x) both.1) ∙ met)))
+    (λ met. absurd (false≢true (sym (not-true (s.met x) both.1) ∙ met)))
     (λ met. reaches.held x met)
     (or_cases (s.met x) (has_id reaches.cells x) (sym (reaches.meets.met x) ∙ both.0)))
     (or_cases (has_id s.work x) fresh (sym (reaches.meets.work x) ∙ at))
