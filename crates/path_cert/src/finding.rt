@@ -1,11 +1,11 @@
 //! What an owner finds.
-ghost use Rattle.std.specs.Prelude.{◌≡◌, ◌≤◌, ◌<◌, ◌||◌, ◌∷◌, ℕ, List, [], length, map, false, All, IfOk, OnOk, IsTrue, IsSome};
 ghost use Rattle.graph_meaning.specs.Heap.{targets};
 ghost use Rattle.graph_meaning.specs.Reach.{has_id};
 ghost use Rattle.graph_meaning.specs.Roles.{AreRolesOf, cells_of, id_at};
 ghost use Rattle.object_table.specs.Placed.{id_in, IsPlaced};
 ghost use Rattle.path_cert.specs.Finds.{is_border_cell, finds_in};
 ghost use Rattle.path_cert.specs.Quests.{MeetsAll, Reaches, KeepsSearching, remaining};
+ghost use Rattle.std.specs.Prelude.{◌≡◌, ◌≤◌, ◌<◌, ◌||◌, ◌∷◌, ℕ, List, [], length, map, false, All, IfOk, OnOk, IsTrue, IsSome};
 
 use graph_meaning::Roles;
 use heap_base::OutOfMemory;
@@ -73,8 +73,21 @@ impl OwnerSearch {
         ensures cells { self.new ≡ self.old }
         ensures found { IfOk result (λ found. found.items ≡ map (finds_in table.now roles.now owner) ownees.now) }
     {
-        self.search.ask(table, roles, owner, ownees)
+        let quest = Quest {
+            table,
+            roles,
+            owner,
+        };
+        self.search.ask(quest, ownees)
     }
+}
+
+// The search of an owner in a table with its roles.
+#[derive(Clone, Copy)]
+pub(crate) struct Quest<'a> {
+    table: &'a ObjectTable,
+    roles: &'a Roles,
+    owner: u32,
 }
 
 // For each cell the number of the last round in which its object was met, and 0 where it never was; the number of the round that is
@@ -102,20 +115,19 @@ impl Search {
     }
 
     // One round: whether the owner finds each of these.
-    fn ask(
-        &mut self,
-        table: &ObjectTable,
-        roles: &Roles,
-        owner: u32,
-        ownees: &[u32],
-    ) -> Result<Vec<bool>, OutOfMemory>
-        requires each { length self.old.met_in.items ≡ length table.now.cells }
-        requires roles { AreRolesOf table.now.cells (length table.now.table.kinds) roles.now }
-        requires owner { IsSome (id_in table.now owner) }
-        requires ownees { All (λ ownee. IsSome (id_in table.now ownee)) ownees.now }
+    fn ask(&mut self, quest: Quest<'_>, ownees: &[u32]) -> Result<Vec<bool>, OutOfMemory>
+        requires each { length self.old.met_in.items ≡ length quest.table.now.cells }
+        requires roles { AreRolesOf quest.table.now.cells (length quest.table.now.table.kinds) quest.roles.now }
+        requires owner { IsSome (id_in quest.table.now quest.owner) }
+        requires ownees { All (λ ownee. IsSome (id_in quest.table.now ownee)) ownees.now }
         ensures each { length self.new.met_in.items ≡ length self.old.met_in.items }
-        ensures found { IfOk result (λ found. found.items ≡ map (finds_in table.now roles.now owner) ownees.now) }
+        ensures found { IfOk result (λ found. found.items ≡ map (finds_in quest.entry.table.now quest.entry.roles.now quest.entry.owner) ownees.now) }
     {
+        let Quest {
+            table,
+            roles,
+            owner,
+        } = quest;
         let cells = table.cells();
         prove!(owner < cells);
         let mut found = Vec::with_capacity(*self.work.allocator(), ownees.len())?;

@@ -9,8 +9,8 @@ use Rattle.path_cert.proofs.finding.Search.ask.Goals as goal
 pub loop-ownee-init : goal.loop-ownee-init
 loop-ownee-init c =
     let placed = c.cells-cells.ensures.placed in
-    let owner = c.args.owner in
-    let q : Quest = record { placed = c.args.table.now; roles = c.args.roles.now; owner = c.args.owner } in
+    let owner = c.args.quest.owner in
+    let q : Quest = record { placed = c.args.quest.table.now; roles = c.args.quest.roles.now; owner = c.args.quest.owner } in
     let begin = sought_in c.begin.new.self in
     let first = sought_in c.follow.new.self in
     let begun = searching-begin q placed begin c.begin.ensures.met c.begin.ensures.work in
@@ -27,15 +27,15 @@ loop-ownee-init c =
 
 pub loop-ownee-preserved : goal.loop-ownee-preserved
 loop-ownee-preserved c =
-    let p = c.args.table.now in
-    let r = c.args.roles.now in
-    let q : Quest = record { placed = c.args.table.now; roles = c.args.roles.now; owner = c.args.owner } in
+    let p = c.args.quest.table.now in
+    let r = c.args.quest.roles.now in
+    let q : Quest = record { placed = c.args.quest.table.now; roles = c.args.quest.roles.now; owner = c.args.quest.owner } in
     let i = c.loop-ownee.ownee-index in
     let ownees = c.args.ownees.now in
     let ownee = get_or c.args.ownees.now c.loop-ownee.ownee-index 0 in
-    let finds = finds_in p r c.args.owner in
+    let finds = finds_in p r c.args.quest.owner in
     let was = c.loop-ownee.invariant in
-    let now = c.in_ok-seek.ensures.searching c.args.owner was.followed was.searching in
+    let now = c.in_ok-seek.ensures.searching c.args.quest.owner was.followed was.searching in
     let met = c.in_ok-seek.ensures.met in
     let held = c.requires.ownees i 0 c.loop-ownee-test.true in
     let is = met ∙ met-finds q c.cells-cells.ensures.placed (sought_in c.seek.new.self) now.1 now.0 ownee held (λ none. c.in_ok-seek.ensures.done (met ∙ none)) in
