@@ -1,6 +1,6 @@
 //! The ancestors of objects that long paths lead to, so that no path is walked over the steps that it leaves out.
-ghost use Rattle.std.specs.Prelude.{◌≡◌, ◌<◌, length, IfOk, None, slice_index_or};
 ghost use Rattle.path_cert.specs.Ancestors.{AreAncestors, AncestorOf};
+ghost use Rattle.std.specs.Prelude.{◌≡◌, ◌<◌, length, IfOk, None, slice_index_or};
 
 use crate::arrival::Arrival;
 use heap_base::{END_STEPS, OutOfMemory};

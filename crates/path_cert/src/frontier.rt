@@ -1,9 +1,9 @@
 //! How far a search by levels has come.
-ghost use Rattle.std.specs.Prelude.{◌≡◌, ◌==◌, ◌≤◌, ◌<◌, ◌+◌, ◌++◌, ◌∷◌, [], length, IfOk, IsSome, replicate, slice_set, count_by, vec_len, vec_capacity, true, if◌then◌else◌};
 ghost use Rattle.object_table.specs.Placed.{id_in};
-ghost use Rattle.path_cert.specs.declared.arrival.TheConstants.{NOWHERE};
-ghost use Rattle.path_cert.specs.Levels.{arrival_in, is_new};
 ghost use Rattle.path_cert.specs.Frontiers.{better};
+ghost use Rattle.path_cert.specs.Levels.{arrival_in, is_new};
+ghost use Rattle.path_cert.specs.declared.arrival.TheConstants.{NOWHERE};
+ghost use Rattle.std.specs.Prelude.{◌≡◌, ◌==◌, ◌≤◌, ◌<◌, ◌+◌, ◌++◌, ◌∷◌, [], length, IfOk, IsSome, replicate, slice_set, count_by, vec_len, vec_capacity, true, if◌then◌else◌};
 
 use crate::arrival::{Arrival, NOWHERE};
 use crate::objects::object_id;

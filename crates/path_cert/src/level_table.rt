@@ -1,15 +1,15 @@
 //! What levels say of each object.
-ghost use Rattle.std.specs.Prelude.{◌≡◌, ◌≤◌, ◌<◌, ◌*◌, ◌^◌, List, length, Some, IsTrue, IfOk, IsSome, IfSome, option_map, option_and_then};
-ghost use Rattle.heap_base.specs.declared.limits.TheConstants.{END_STEPS};
 ghost use Rattle.graph_meaning.specs.Heap.{edge_of};
 ghost use Rattle.graph_meaning.specs.Paths.{view_of};
 ghost use Rattle.graph_meaning.specs.Views.{heap_view, is_path};
-ghost use Rattle.object_table.specs.Placed.{id_in, slots_in, slot_in};
 ghost use Rattle.graph_meaning.specs.declared.paths.PathStep.{PathStep};
-ghost use Rattle.path_cert.specs.Levels.{Search, arrival_in, level_in, way_in, AreLevelsOf, AreLevelsIn};
-ghost use Rattle.path_cert.specs.Trails.{path_steps, HasShown, with_steps, MayStart, IsStart};
-ghost use Rattle.path_cert.specs.Steps.{way_by_slot};
+ghost use Rattle.heap_base.specs.declared.limits.TheConstants.{END_STEPS};
+ghost use Rattle.object_table.specs.Placed.{id_in, slots_in, slot_in};
 ghost use Rattle.path_cert.specs.Ancestors.{AreAncestors, AncestorOf};
+ghost use Rattle.path_cert.specs.Levels.{Search, arrival_in, level_in, way_in, AreLevelsOf, AreLevelsIn};
+ghost use Rattle.path_cert.specs.Steps.{way_by_slot};
+ghost use Rattle.path_cert.specs.Trails.{path_steps, HasShown, with_steps, MayStart, IsStart};
+ghost use Rattle.std.specs.Prelude.{◌≡◌, ◌≤◌, ◌<◌, ◌*◌, ◌^◌, List, length, Some, IsTrue, IfOk, IsSome, IfSome, option_map, option_and_then};
 
 use crate::ancestors::{ANCESTOR_LEVEL, known_ancestor};
 use crate::arrival::Arrival;

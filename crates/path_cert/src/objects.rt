@@ -1,9 +1,9 @@
 //! What is read of the object in a cell.
-ghost use Rattle.std.specs.Prelude.{◌≡◌, ◌<◌, Some, IfOk, IsSome, option_map, length};
 ghost use Rattle.graph_meaning.specs.Heap.{kind_at, edge_of};
 ghost use Rattle.graph_meaning.specs.Roles.{id_at};
 ghost use Rattle.object_table.specs.Placed.{id_in, slots_in, slot_in};
 ghost use Rattle.path_cert.specs.Steps.{step_to};
+ghost use Rattle.std.specs.Prelude.{◌≡◌, ◌<◌, Some, IfOk, IsSome, option_map, length};
 
 use graph_meaning::PathStep;
 use heap_base::{Name, OutOfMemory};

@@ -1,11 +1,11 @@
 //! The paths by one reference alone: a root, or a slot of an owner.
-ghost use Rattle.std.specs.Prelude.{◌≡◌, ◌<◌, Some, IsTrue, IfOk, IsSome, IfSome, option_map, slice_get, length};
 ghost use Rattle.graph_meaning.specs.Heap.{edge_of};
 ghost use Rattle.graph_meaning.specs.Paths.{root_way, owner_way, view_of};
-ghost use Rattle.graph_meaning.specs.Views.{heap_view, is_path};
 ghost use Rattle.graph_meaning.specs.Roles.{id_at};
+ghost use Rattle.graph_meaning.specs.Views.{heap_view, is_path};
 ghost use Rattle.object_table.specs.Placed.{id_in, slots_in, slot_in};
 ghost use Rattle.path_cert.specs.Steps.{way_by_slot};
+ghost use Rattle.std.specs.Prelude.{◌≡◌, ◌<◌, Some, IsTrue, IfOk, IsSome, IfSome, option_map, slice_get, length};
 
 use crate::objects::{edge_cell, object_id, object_kind, step_to};
 use graph_meaning::{PathFrom, PathView, StepList};

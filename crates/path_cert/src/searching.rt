@@ -1,13 +1,13 @@
 //! The search by levels.
-ghost use Rattle.std.specs.Prelude.{◌≡◌, ◌==◌, ◌≤◌, ◌<◌, ◌+◌, ◌-◌, ◌^◌, ◌++◌, ◌∷◌, [], ℕ, List, length, map, drop, IfOk, IsSome, All, replicate, slice_set, count_by, vec_len, vec_capacity, Some, if◌then◌else◌};
 ghost use Rattle.graph_meaning.specs.Heap.{edges};
 ghost use Rattle.graph_meaning.specs.Paths.{Way, way_by_edge, owner_way, root_ways, ways_from};
 ghost use Rattle.graph_meaning.specs.Roles.{AreRolesOf, id_at};
 ghost use Rattle.object_table.specs.Placed.{id_in, IsPlaced, IsSound};
-ghost use Rattle.path_cert.specs.declared.start.Start.TheVariants.{Roots, Owners};
-ghost use Rattle.path_cert.specs.Levels.{Search, search_of, arrival_in, AreLevelsOf};
 ghost use Rattle.path_cert.specs.Frontiers.{Grows, HasTaken, Round, by_object, AreByObjects, GoesUpTo, IsUnderWay, IsAtFirstLevel, ShutByCell, levels_by};
 ghost use Rattle.path_cert.specs.Fronts.{front_of};
+ghost use Rattle.path_cert.specs.Levels.{Search, search_of, arrival_in, AreLevelsOf};
+ghost use Rattle.path_cert.specs.declared.start.Start.TheVariants.{Roots, Owners};
+ghost use Rattle.std.specs.Prelude.{◌≡◌, ◌==◌, ◌≤◌, ◌<◌, ◌+◌, ◌-◌, ◌^◌, ◌++◌, ◌∷◌, [], ℕ, List, length, map, drop, IfOk, IsSome, All, replicate, slice_set, count_by, vec_len, vec_capacity, Some, if◌then◌else◌};
 
 use crate::ancestors::ancestors_of;
 use crate::arrival::Arrival;

@@ -1,12 +1,12 @@
 //! The steps of a path that are shown, as they are met on the way back from its end.
-ghost use Rattle.std.specs.Prelude.{◌≡◌, ◌≤◌, ◌+◌, ◌-◌, ◌*◌, ◌^◌, ◌∷◌, [], List, length, reverse, IfOk, OnOk, IsSome};
-ghost use Rattle.heap_base.specs.declared.limits.TheConstants.{END_STEPS};
-ghost use Rattle.graph_meaning.specs.declared.paths.PathStep.{PathStep};
 ghost use Rattle.graph_meaning.specs.Paths.{Way, view_of};
 ghost use Rattle.graph_meaning.specs.Roles.{id_at};
+ghost use Rattle.graph_meaning.specs.declared.paths.PathStep.{PathStep};
+ghost use Rattle.heap_base.specs.declared.limits.TheConstants.{END_STEPS};
 ghost use Rattle.object_table.specs.Placed.{id_in};
 ghost use Rattle.path_cert.specs.Steps.{step_to, is_shown};
 ghost use Rattle.path_cert.specs.Trails.{HasShown};
+ghost use Rattle.std.specs.Prelude.{◌≡◌, ◌≤◌, ◌+◌, ◌-◌, ◌*◌, ◌^◌, ◌∷◌, [], List, length, reverse, IfOk, OnOk, IsSome};
 
 use crate::objects::step_to;
 use graph_meaning::{PathFrom, PathStep, PathView, StepList};
