@@ -50,11 +50,11 @@ module _ (p : Placed) (n cell : ℕ) (within : n < length p.table.roots) (names 
   abbrev pub nth_root : List ℕ × ℕ
   nth_root = get_or p.table.roots n ([], 0)
 
-  pub nth_root-there : slice_get p.table.roots n ≡ Some nth_root
-  nth_root-there = slice_get-get_or p.table.roots n ([], 0) within
-
-  pub nth_root-held : id_in p cell ≡ Some nth_root.1
-  nth_root-held = subst (λ o. IfSome o (λ r. id_in p cell ≡ Some r.1)) nth_root-there names
+  -- it is there, and the cell holds its object
+  pub nth_root-is : (slice_get p.table.roots n ≡ Some nth_root) × (id_in p cell ≡ Some nth_root.1)
+  nth_root-is =
+      let there = slice_get-get_or p.table.roots n ([], 0) within in
+      (there, subst (λ o. IfSome o (λ r. id_in p cell ≡ Some r.1)) there names)
 
   pub nth_root-more : IsOneMore nth_root.1 (by_root nth_root.0) (by_roots (take n p.table.roots)) (by_roots (take (n + 1) p.table.roots))
   nth_root-more =

@@ -1,8 +1,8 @@
 //! References by the cells of a table.
-ghost use Rattle.std.specs.Prelude.{ℕ, List, ◌++◌, ◌∷◌, []};
 ghost use Rattle.graph_meaning.specs.Assertions.{Reference};
 ghost use Rattle.object_table.specs.Placed.{Placed};
 ghost use Rattle.reference_search.specs.References.{reference_of, RefersTo, StartList};
+ghost use Rattle.std.specs.Prelude.{ℕ, List, ◌++◌, ◌∷◌, []};
 
 /// A reference to an object.
 #[derive(Clone, Copy, Debug, PartialEq, Eq)]

@@ -7,4 +7,4 @@ mod search;
 
 pub use cell_reference::{CellReference, FirstReferences};
 pub use first::first_references;
-pub use search::is_scanned;
+pub use search::{TracedTable, is_scanned};

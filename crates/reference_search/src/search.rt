@@ -1,19 +1,30 @@
 //! The search for first references under way.
-ghost use Rattle.std.specs.Prelude.{◌≡◌, ◌<◌, ◌||◌, [], ℕ, List, Bool, false, length, All, IfOk, IsSome, None, Some, slice_get, slice_index_or};
-ghost use Rattle.heap_base.specs.Counting.{IsOnce};
 ghost use Rattle.graph_meaning.specs.Assertions.{roots_to, slots_to};
 ghost use Rattle.graph_meaning.specs.Reach.{has_id};
 ghost use Rattle.graph_meaning.specs.Roles.{cells_of, id_at};
+ghost use Rattle.heap_base.specs.Counting.{IsOnce};
 ghost use Rattle.object_table.specs.Placed.{Placed, id_in, IsPlaced};
-ghost use Rattle.reference_search.specs.References.{reference_of, RefersTo};
-ghost use Rattle.reference_search.specs.Prefixes.{FindsFirst, FindsMore, only_to, scanned_slots, ScannedByCell};
 ghost use Rattle.reference_search.specs.Findings.{finding_in};
+ghost use Rattle.reference_search.specs.Prefixes.{FindsFirst, FindsMore, only_to, scanned_slots, ScannedByCell};
+ghost use Rattle.reference_search.specs.References.{reference_of, RefersTo};
+ghost use Rattle.std.specs.Prelude.{◌≡◌, ◌<◌, ◌||◌, [], ℕ, List, Bool, false, length, All, IfOk, IsSome, None, Some, slice_get, slice_index_or};
 
 use crate::cell_reference::{CellReference, FirstReferences, NO_REFERENCES};
 use graph_meaning::Roles;
 use heap_base::OutOfMemory;
 use object_table::ObjectTable;
 use std::alloc::Global;
+
+/// A table with its roles, of which it is known what is traced.
+#[derive(Clone, Copy)]
+pub struct TracedTable<'a> {
+    /// The table.
+    pub table: &'a ObjectTable,
+    /// What is asserted of its objects.
+    pub roles: &'a Roles,
+    /// For each cell whether it holds a traced object.
+    pub kept: &'a [bool],
+}
 
 // For each cell the place of its object among the asked ones, if it is one of them; and for each asked object the first
 // references to it so far.
@@ -47,13 +58,14 @@ impl Search {
     }
 
     // Takes the edges of the objects whose cells are kept, and of the owners, by their ids.
-    pub(crate) fn take_objects(&mut self, table: &ObjectTable, roles: &Roles, kept: &[bool])
-        requires placed { IsPlaced table.now }
-        requires roles { cells_of roles.now ≡ length table.now.cells }
-        requires kept { length kept.now ≡ length table.now.cells }
+    pub(crate) fn take_objects(&mut self, traced: TracedTable<'_>)
+        requires placed { IsPlaced traced.table.now }
+        requires roles { cells_of traced.roles.now ≡ length traced.table.now.cells }
+        requires kept { length traced.kept.now ≡ length traced.table.now.cells }
         ensures count { length self.new.found.items ≡ length self.old.found.items }
-        ensures finds { (is_scanned : ℕ → Bool) → ScannedByCell table.now roles.now kept.now is_scanned → FindsMore table.now (scanned_slots table.now.table is_scanned) (finding_in self.old) (finding_in self.new) }
+        ensures finds { (is_scanned : ℕ → Bool) → ScannedByCell traced.entry.table.now traced.entry.roles.now traced.entry.kept.now is_scanned → FindsMore traced.entry.table.now (scanned_slots traced.entry.table.now.table is_scanned) (finding_in self.old) (finding_in self.new) }
     {
+        let TracedTable { table, roles, kept } = traced;
         for number in 0..table.live() {
             let cell = table.nth_cell(number);
             if is_scanned(roles, kept, cell) {

@@ -2,7 +2,7 @@ use Rattle.std.proofs.Common.{◌≡◌, ◌<◌, ◌+◌, length, take, take_al
 use Rattle.std.proofs.lemmas.List.{length-set}
 use Rattle.graph_meaning.specs.Assertions.{by_root}
 use Rattle.object_table.proofs.ObjectsByCell.{held-within}
-use Rattle.reference_search.proofs.Listing.{by_roots, nth_root, nth_root-held, nth_root-more}
+use Rattle.reference_search.proofs.Listing.{by_roots, nth_root, nth_root-is, nth_root-more}
 use Rattle.plain_collection.specs.Counting.{AtMost, CountsLists}
 use Rattle.plain_collection.proofs.Counts.{counted-more, most-more}
 use Rattle.plain_collection.proofs.references.count_roots.Goals as goal
@@ -16,7 +16,7 @@ loop-root-preserved c =
     let cell = c.root_cell.result in
     let names = c.root_cell.ensures.cell in
     let root = nth_root p n cell within names in
-    let held = nth_root-held p n cell within names in
+    let held = (nth_root-is p n cell within names).1 in
     let more = nth_root-more p n cell within names in
     let was = c.loop-root.invariant in
     let counts = c.loop-root.counts.items in
@@ -33,7 +33,7 @@ pub count_one-requires-clause-cell : goal.count_one-requires-clause-cell
 count_one-requires-clause-cell c =
     let p = c.args.table.now in
     let within : c.loop-root.root < length c.args.table.now.table.roots = omega arith in
-    let held = nth_root-held p c.loop-root.root c.root_cell.result within c.root_cell.ensures.cell in
+    let held = (nth_root-is p c.loop-root.root c.root_cell.result within c.root_cell.ensures.cell).1 in
     omega (arith, held-within p c.root_cell.result _ held, c.loop-root.invariant.each, c.requires.each)
 
 pub returns-clause-counts : goal.returns-clause-counts

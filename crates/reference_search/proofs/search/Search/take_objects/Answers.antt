@@ -7,36 +7,36 @@ use Rattle.reference_search.proofs.search.Search.take_objects.Goals.{then-is_sca
 
 pub is_scanned-requires-clause-roles : goal.is_scanned-requires-clause-roles
 is_scanned-requires-clause-roles c =
-    let p = c.args.table.now in
-    let within : c.loop-number.number < length c.args.table.now.table.objects = omega arith in
+    let p = c.args.traced.table.now in
+    let within : c.loop-number.number < length c.args.traced.table.now.table.objects = omega arith in
     subst (λ n. c.nth_cell-cell.result < n) (sym c.requires.roles) (nth_object-below p c.loop-number.number c.nth_cell-cell.result within c.nth_cell-cell.ensures.cell)
 
 pub is_scanned-requires-clause-kept : goal.is_scanned-requires-clause-kept
 is_scanned-requires-clause-kept c =
-    let p = c.args.table.now in
-    let within : c.loop-number.number < length c.args.table.now.table.objects = omega arith in
+    let p = c.args.traced.table.now in
+    let within : c.loop-number.number < length c.args.traced.table.now.table.objects = omega arith in
     subst (λ n. c.nth_cell-cell.result < n) (sym c.requires.kept) (nth_object-below p c.loop-number.number c.nth_cell-cell.result within c.nth_cell-cell.ensures.cell)
 
 pub take_slots-requires-clause-holder : goal.take_slots-requires-clause-holder
 take_slots-requires-clause-holder c =
-    let p = c.args.table.now in
-    let within : c.loop-number.number < length c.args.table.now.table.objects = omega arith in
+    let p = c.args.traced.table.now in
+    let within : c.loop-number.number < length c.args.traced.table.now.table.objects = omega arith in
     subst IsSome (sym (nth_object-held p c.loop-number.number c.nth_cell-cell.result within c.nth_cell-cell.ensures.cell)) refl
 
 pub loop-number-init : goal.loop-number-init
 loop-number-init c = record {
   count = refl;
   finds = λ is_scanned said asked before begun.
-      finds-same c.args.table.now asked before (λ id. before id ++ []) (finding_in c.args.self.now) (λ id. sym (append-nil (before id))) begun;
+      finds-same c.args.traced.table.now asked before (λ id. before id ++ []) (finding_in c.args.self.now) (λ id. sym (append-nil (before id))) begun;
 }
 
 pub loop-number-preserved : goal.loop-number-preserved
 loop-number-preserved c =
-    let p = c.args.table.now in
+    let p = c.args.traced.table.now in
     let n = c.loop-number.number in
     let cell = c.nth_cell-cell.result in
     let is = c.nth_cell-cell.ensures.cell in
-    let within : c.loop-number.number < length c.args.table.now.table.objects = omega arith in
+    let within : c.loop-number.number < length c.args.traced.table.now.table.objects = omega arith in
     let held = nth_object-held p n cell within is in
     let was = c.loop-number.invariant in
     elim c.if-is_scanned.branch [
@@ -60,5 +60,5 @@ loop-number-preserved c =
 
 pub returns-clause-finds : goal.returns-clause-finds
 returns-clause-finds c is_scanned said asked before begun =
-    finds-same c.args.table.now asked _ _ (finding_in c.loop-number.self) (scanned-all c.args.table.now.table before is_scanned c.loop-number.number (omega arith))
+    finds-same c.args.traced.table.now asked _ _ (finding_in c.loop-number.self) (scanned-all c.args.traced.table.now.table before is_scanned c.loop-number.number (omega arith))
     (c.loop-number.invariant.finds is_scanned said asked before begun)

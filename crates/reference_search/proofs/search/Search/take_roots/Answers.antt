@@ -2,7 +2,7 @@ use Rattle.std.proofs.Common.{◌<◌, ◌+◌, length, take, take_all, sym, ap,
 use Rattle.std.specs.Option.{option_map}
 use Rattle.reference_search.specs.Findings.{finding_in}
 use Rattle.reference_search.specs.Prefixes.{FindsFirst}
-use Rattle.reference_search.proofs.Listing.{by_roots, finds-same, nth_root, nth_root-there, nth_root-held, nth_root-more}
+use Rattle.reference_search.proofs.Listing.{by_roots, finds-same, nth_root, nth_root-is, nth_root-more}
 use Rattle.reference_search.proofs.search.Search.take_roots.Goals as goal
 
 pub loop-root-preserved : goal.loop-root-preserved
@@ -13,12 +13,13 @@ loop-root-preserved c =
     let cell = c.root_cell.result in
     let names = c.root_cell.ensures.cell in
     let within : c.loop-root.root < length c.args.table.now.table.roots = omega arith in
-    let refers = ap (option_map (λ r. r.1)) (nth_root-there p n cell within names) in
+    let is = nth_root-is p n cell within names in
+    let refers = ap (option_map (λ r. r.1)) is.0 in
     record {
       count = c.put.ensures.count ∙ c.loop-root.invariant.count;
       finds = λ asked begun.
           finds-same p asked _ (by_roots (take (n + 1) roots)) (finding_in c.put.new.self) (λ x. sym (nth_root-more p n cell within names x))
-          (c.put.ensures.finds p (nth_root p n cell within names).1 c.requires.placed (nth_root-held p n cell within names) refers asked
+          (c.put.ensures.finds p (nth_root p n cell within names).1 c.requires.placed is.1 refers asked
           (by_roots (take n roots)) (c.loop-root.invariant.finds asked begun));
     }
 
