@@ -5,7 +5,9 @@ use Rattle.heap_base.specs.declared.limits.TheConstants.{MOST_OBJECTS, MOST_KIND
 use Rattle.graph_meaning.specs.Assertions.{is_traced, reference_count}
 use Rattle.graph_meaning.specs.Collecting.{instances}
 use Rattle.graph_meaning.specs.Heap.{Heap}
+use Rattle.graph_meaning.specs.Roles.{RoleTable}
 use Rattle.object_table.specs.Placed.{Placed, id_in, cell_of}
+use Rattle.assert_registry.specs.Laws.{StandFor}
 
 -- How many cells there are, and for each of them how many references were counted to its object; for each type how many of its
 -- objects are traced; and for each cell whether its object is traced.
@@ -31,6 +33,11 @@ pub record AreCountsOf (p : Placed) (h : Heap) (t : CountTable) : Type 0 where
   pub kept : (cell id : ℕ) → id_in p cell ≡ Some id → slice_index_or t.kept cell false ≡ is_traced h id
   pub many : (cell id : ℕ) → id_in p cell ≡ Some id → nat_le 2 (t.references cell) ≡ nat_le 2 (reference_count h id)
   pub instances : CountsInstances p h t.instances
+
+-- The heap is that of the table and of these roles, and the counts are its.
+pub record CountsHeap (p : Placed) (r : RoleTable) (t : CountTable) (h : Heap) : Type 0 where
+  pub stand : StandFor p r h
+  pub counts : AreCountsOf p h t
 
 -- the count in the cell of the object with this id
 abbrev pub counted_in : Placed → CountTable → ℕ → ℕ

@@ -1,10 +1,10 @@
 -- How a list of verdicts goes on, and by what its paths are shown.
-use Rattle.std.specs.Prelude.{◌≡◌, ℕ, ◌+◌, ◌*◌, List, ◌++◌, map, Bool, true, false, Option, Some, IfSome, unwrap_or, slice_get, option_map}
+use Rattle.std.specs.Prelude.{◌≡◌, ℕ, ◌+◌, ◌*◌, List, ◌++◌, map, Bool, true, false, Some, IfSome, unwrap_or, slice_get, option_map}
 use Rattle.heap_base.specs.declared.limits.TheConstants.{MOST_OBJECTS, MOST_KINDS}
 use Rattle.graph_meaning.specs.declared.collection.Verdict.{Verdict}
 use Rattle.graph_meaning.specs.declared.paths.Shown.{Shown}
 use Rattle.graph_meaning.specs.declared.paths.Shown.TheVariants.{LeftOut}
-use Rattle.graph_meaning.specs.Collecting.{without_paths, first_with_paths, violating_dead, violating_kinds, violating_unshared, dead_verdict, instances_verdict, unshared_verdict}
+use Rattle.graph_meaning.specs.Collecting.{without_paths, first_with_paths, violating_dead, violating_kinds, violating_unshared, dead_verdict, instances_verdict, unshared_verdict, ownedby_verdict}
 use Rattle.graph_meaning.specs.Heap.{Heap}
 use Rattle.graph_meaning.specs.Assertions.{references}
 use Rattle.graph_meaning.specs.Paths.{reference_way, shown_path}
@@ -12,8 +12,11 @@ use Rattle.graph_meaning.specs.Roles.{RoleTable, id_at}
 use Rattle.object_table.specs.Placed.{Placed}
 use Rattle.assert_registry.specs.Assertions.{owner_of}
 use Rattle.assert_registry.specs.Laws.{StandFor}
-use Rattle.object_paths.specs.PlainPaths.{PlainTable, ArePlainLevels}
+use Rattle.object_paths.specs.PlainPaths.{ArePlainLevels}
+use Rattle.reference_search.specs.References.{AreFirstOf}
 use Rattle.verdict_list.specs.declared.instances.KindCount.{KindCount}
+use Rattle.verdict_list.specs.declared.shown_paths.PlainPaths.{PlainPaths}
+use Rattle.verdict_list.specs.declared.unshared.SharedObjects.{SharedObjects}
 use Rattle.verdict_list.specs.Counts.{CountTable, counted_in}
 use Rattle.verdict_list.specs.Kinds.{named_count}
 
@@ -40,11 +43,15 @@ abbrev pub first_verdicts : (ℕ → ℕ) → Heap → List Verdict
 first_verdicts count h =
     (map (dead_verdict h) (violating_dead h) ++ map (instances_verdict h) (violating_kinds h)) ++ map (unshared_verdict count h) (violating_unshared h)
 
--- The heap is that of the table and of roles by which these levels were made, if they were made.
-pub record ShowsPaths (p : Placed) (h : Heap) (levels : Option PlainTable) : Type 0 where
+-- The heap is that of the table and of roles by which the levels were made, if they were made.
+pub record ShowsPaths (plain : PlainPaths) (h : Heap) : Type 0 where
   pub roles : RoleTable
-  pub stand : StandFor p roles h
-  pub made : IfSome levels (ArePlainLevels p roles)
+  pub stand : StandFor plain.table.now roles h
+  pub made : IfSome plain.levels.now (ArePlainLevels plain.table.now roles)
+
+-- the first references to as many of these objects as there are entries for
+abbrev pub KnowsFirst : PlainPaths → Heap → SharedObjects → Type 0
+KnowsFirst plain h shared = AreFirstOf plain.table.now h shared.cells.now shared.references.now
 
 -- the object in a cell and its owner, as a heap has them
 abbrev pub owned_pair : Placed → Heap → ℕ → ℕ × ℕ
@@ -61,3 +68,7 @@ instances_in p h c = instances_verdict h (named_count p c)
 -- the verdict on the object in a cell, with what was counted
 abbrev pub unshared_in : Placed → CountTable → Heap → ℕ → Verdict
 unshared_in p t h cell = unshared_verdict (counted_in p t) h (id_at p.cells cell)
+
+-- the verdict on the ownee in a cell
+abbrev pub ownedby_in : Placed → Heap → ℕ → Verdict
+ownedby_in p h cell = ownedby_verdict h (owned_pair p h cell)

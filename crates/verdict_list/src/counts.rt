@@ -2,6 +2,9 @@
 ghost use Rattle.std.specs.Prelude.{◌≡◌, ◌<◌, length, slice_index};
 ghost use Rattle.verdict_list.specs.Counts.{CountTable};
 
+use graph_meaning::Roles;
+use object_table::ObjectTable;
+
 /// What a trace of a heap counted, whoever made it.
 pub trait HeapCounts {
     /// What was counted.
@@ -20,4 +23,15 @@ pub trait HeapCounts {
     /// For each cell whether it holds a traced object.
     fn kept(&self) -> &[bool]
         ensures { result.now ≡ (counts self.now).kept };
+}
+
+/// A heap, by its table and its roles, and what was counted in it.
+#[derive(Drop)]
+pub struct CountedHeap<'a, T> {
+    /// The table.
+    pub table: &'a ObjectTable,
+    /// What is asserted of its objects.
+    pub roles: &'a Roles,
+    /// What was counted.
+    pub counts: &'a T,
 }

@@ -12,6 +12,6 @@ mod shown_paths;
 mod unshared;
 mod violating;
 
-pub use counts::HeapCounts;
+pub use counts::{CountedHeap, HeapCounts};
 pub use listing::first_verdicts;
-pub use ownees::push_ownees;
+pub use ownees::{CheckedTable, push_ownees};

@@ -1,18 +1,16 @@
 //! The types of which more objects are traced than their limits allow.
-ghost use Rattle.std.specs.Prelude.{◌≡◌, ◌<◌, ◌≤◌, length, map, All, IfOk};
-ghost use Rattle.std.specs.Map.{values_of};
-ghost use Rattle.heap_base.specs.declared.limits.TheConstants.{MOST_KINDS};
 ghost use Rattle.graph_meaning.specs.Collecting.{violating_kinds};
 ghost use Rattle.graph_meaning.specs.Heap.{Heap};
 ghost use Rattle.graph_meaning.specs.Roles.{AreRolesOf, kinds_of};
-ghost use Rattle.assert_registry.specs.Laws.{StandFor};
-ghost use Rattle.verdict_list.specs.Counts.{AreCountsOf};
+ghost use Rattle.heap_base.specs.declared.limits.TheConstants.{MOST_KINDS};
+ghost use Rattle.std.specs.Map.{values_of};
+ghost use Rattle.std.specs.Prelude.{◌≡◌, ◌<◌, ◌≤◌, length, map, All, IfOk};
+ghost use Rattle.verdict_list.specs.Counts.{CountsHeap};
 ghost use Rattle.verdict_list.specs.Kinds.{is_over_limit, named_limit, IsOverLimit};
 
-use crate::counts::HeapCounts;
+use crate::counts::{CountedHeap, HeapCounts};
 use graph_meaning::Roles;
 use heap_base::OutOfMemory;
-use object_table::ObjectTable;
 use std::alloc::Global;
 use std::collections::BTreeMap;
 
@@ -31,23 +29,21 @@ fn is_over_limit<T: HeapCounts>(roles: &Roles, traced: &T, kind: u32) -> bool
 // The types over their limit: the number of each by its name.
 fn by_name<T: HeapCounts>(
     alloc: Global,
-    table: &ObjectTable,
-    roles: &Roles,
-    traced: &T,
+    counted: &CountedHeap<'_, T>,
 ) -> Result<BTreeMap<String, u32>, OutOfMemory>
-    requires roles { AreRolesOf table.now.cells (length table.now.table.kinds) roles.now }
-    requires counts { (h : Heap) × StandFor table.now roles.now h × AreCountsOf table.now h (T.counts traced.now) }
-    ensures over { IfOk result (λ m. (h : Heap) → StandFor table.now roles.now h → AreCountsOf table.now h (T.counts traced.now) → map (named_limit table.now roles.now) (values_of m.entries) ≡ violating_kinds h) }
-    ensures each { IfOk result (λ m. All (IsOverLimit table.now roles.now (T.counts traced.now)) (values_of m.entries)) }
+    requires roles { AreRolesOf counted.now.table.now.cells (length counted.now.table.now.table.kinds) counted.now.roles.now }
+    requires counts { (h : Heap) × CountsHeap counted.now.table.now counted.now.roles.now (T.counts counted.now.counts.now) h }
+    ensures over { let c = counted.now in IfOk result (λ m. (h : Heap) → CountsHeap c.table.now c.roles.now (T.counts c.counts.now) h → map (named_limit c.table.now c.roles.now) (values_of m.entries) ≡ violating_kinds h) }
+    ensures each { IfOk result (λ m. All (IsOverLimit counted.now.table.now counted.now.roles.now (T.counts counted.now.counts.now)) (values_of m.entries)) }
     ensures few { IfOk result (λ m. length m.entries ≤ MOST_KINDS) }
 {
     // what is true of every table
-    let cells = table.cells();
+    let cells = counted.table.cells();
     prove!(cells < u32::MAX);
     let mut numbers = BTreeMap::new(alloc);
-    for kind in 0..table.kinds() {
-        if is_over_limit(roles, traced, kind) {
-            let name = String::from_str(alloc, table.kind_name(kind).as_str())?;
+    for kind in 0..counted.table.kinds() {
+        if is_over_limit(counted.roles, counted.counts, kind) {
+            let name = String::from_str(alloc, counted.table.kind_name(kind).as_str())?;
             numbers.insert(name, kind)?;
         }
     }
@@ -68,16 +64,14 @@ fn values(alloc: Global, numbers: &BTreeMap<String, u32>) -> Result<Vec<u32>, Ou
 /// The types over their limit, by name.
 pub(crate) fn over_limit<T: HeapCounts>(
     alloc: Global,
-    table: &ObjectTable,
-    roles: &Roles,
-    traced: &T,
+    counted: &CountedHeap<'_, T>,
 ) -> Result<Vec<u32>, OutOfMemory>
-    requires roles { AreRolesOf table.now.cells (length table.now.table.kinds) roles.now }
-    requires counts { (h : Heap) × StandFor table.now roles.now h × AreCountsOf table.now h (T.counts traced.now) }
-    ensures over { IfOk result (λ kinds. (h : Heap) → StandFor table.now roles.now h → AreCountsOf table.now h (T.counts traced.now) → map (named_limit table.now roles.now) kinds.items ≡ violating_kinds h) }
-    ensures each { IfOk result (λ kinds. All (IsOverLimit table.now roles.now (T.counts traced.now)) kinds.items) }
+    requires roles { AreRolesOf counted.now.table.now.cells (length counted.now.table.now.table.kinds) counted.now.roles.now }
+    requires counts { (h : Heap) × CountsHeap counted.now.table.now counted.now.roles.now (T.counts counted.now.counts.now) h }
+    ensures over { let c = counted.now in IfOk result (λ kinds. (h : Heap) → CountsHeap c.table.now c.roles.now (T.counts c.counts.now) h → map (named_limit c.table.now c.roles.now) kinds.items ≡ violating_kinds h) }
+    ensures each { IfOk result (λ kinds. All (IsOverLimit counted.now.table.now counted.now.roles.now (T.counts counted.now.counts.now)) kinds.items) }
     ensures few { IfOk result (λ kinds. length kinds.items ≤ MOST_KINDS) }
 {
-    let numbers = by_name(alloc, table, roles, traced)?;
+    let numbers = by_name(alloc, counted)?;
     values(alloc, &numbers)
 }

@@ -1,15 +1,15 @@
 //! The verdicts on ownees.
-ghost use Rattle.std.specs.Prelude.{◌≡◌, ◌≢◌, ◌<◌, ◌+◌, ◌^◌, ℕ, Some, length, map, IsTrue, IfOk, OnOk};
-ghost use Rattle.graph_meaning.specs.declared.roles.OwnerRole.TheVariants.{NotOwned};
-ghost use Rattle.graph_meaning.specs.Collecting.{is_gone, ownedby_verdict};
+ghost use Rattle.assert_registry.specs.ByCell.{owner_at};
+ghost use Rattle.assert_registry.specs.Laws.{StandFor};
+ghost use Rattle.graph_meaning.specs.Collecting.{is_gone};
 ghost use Rattle.graph_meaning.specs.Heap.{Heap};
 ghost use Rattle.graph_meaning.specs.Paths.{shown_path, unowned_way};
 ghost use Rattle.graph_meaning.specs.Reach.{has_id};
 ghost use Rattle.graph_meaning.specs.Roles.{AreRolesOf, owner_in, id_at};
-ghost use Rattle.assert_registry.specs.ByCell.{owner_at};
-ghost use Rattle.assert_registry.specs.Laws.{StandFor};
+ghost use Rattle.graph_meaning.specs.declared.roles.OwnerRole.TheVariants.{NotOwned};
 ghost use Rattle.ownee_check.specs.Ownership.{AreViolating};
-ghost use Rattle.verdict_list.specs.Listed.{path_if, verdict_if, owned_pair, GoesOn};
+ghost use Rattle.std.specs.Prelude.{◌≡◌, ◌≢◌, ◌<◌, ◌+◌, ◌^◌, ℕ, Some, length, map, IsTrue, IfOk, OnOk};
+ghost use Rattle.verdict_list.specs.Listed.{ownedby_in, path_if, verdict_if, GoesOn};
 
 use crate::shown_paths::shown;
 use graph_meaning::{OwnerRole, Roles, Shown, Verdict, VerdictList};
@@ -17,6 +17,17 @@ use heap_base::OutOfMemory;
 use object_table::ObjectTable;
 use ownee_check::OwnershipCheck;
 use path_cert::{object_id, object_kind};
+
+/// A table with its roles, of which it is known which ownees violate.
+#[derive(Clone, Copy)]
+pub struct CheckedTable<'a> {
+    /// The table.
+    pub table: &'a ObjectTable,
+    /// What is asserted of its objects.
+    pub roles: &'a Roles,
+    /// Which ownees violate.
+    pub check: &'a OwnershipCheck,
+}
 
 // The owner of an ownee: its id, and whether it was freed.
 #[derive(Clone, Copy)]
@@ -65,17 +76,20 @@ fn ownee_path(
 
 // The verdict on the ownee in a cell.
 fn ownee_verdict(
-    table: &ObjectTable,
-    roles: &Roles,
-    check: &OwnershipCheck,
+    checked: CheckedTable<'_>,
     cell: u32,
     is_shown: bool,
 ) -> Result<Verdict, OutOfMemory>
-    requires roles { AreRolesOf table.now.cells (length table.now.table.kinds) roles.now }
-    requires check { (h : Heap) × StandFor table.now roles.now h × AreViolating table.now h check.now }
-    requires ownee { IsTrue (has_id check.now.ownees cell) }
-    ensures { IfOk result (λ v. (h : Heap) → StandFor table.now roles.now h → AreViolating table.now h check.now → v ≡ verdict_if is_shown (ownedby_verdict h (owned_pair table.now h cell))) }
+    requires roles { AreRolesOf checked.table.now.cells (length checked.table.now.table.kinds) checked.roles.now }
+    requires check { (h : Heap) × StandFor checked.table.now checked.roles.now h × AreViolating checked.table.now h checked.check.now }
+    requires ownee { IsTrue (has_id checked.check.now.ownees cell) }
+    ensures { let c = checked.entry in IfOk result (λ v. (h : Heap) → StandFor c.table.now c.roles.now h → AreViolating c.table.now h c.check.now → v ≡ verdict_if is_shown (ownedby_in c.table.now h cell)) }
 {
+    let CheckedTable {
+        table,
+        roles,
+        check,
+    } = checked;
     let path = ownee_path(table, check, cell, is_shown)?;
     let kind = object_kind(table, cell)?;
     let id = object_id(table, cell);
@@ -92,20 +106,18 @@ fn ownee_verdict(
 /// Puts the verdicts on the violating ownees last.
 pub fn push_ownees(
     list: &mut VerdictList,
-    table: &ObjectTable,
-    roles: &Roles,
-    check: &OwnershipCheck,
+    checked: CheckedTable<'_>,
     paths: u32,
 ) -> Result<(), OutOfMemory>
-    requires room { length list.old + length check.now.ownees < 2 ^ 32 }
-    requires roles { AreRolesOf table.now.cells (length table.now.table.kinds) roles.now }
-    requires check { (h : Heap) × StandFor table.now roles.now h × AreViolating table.now h check.now }
-    ensures length { OnOk result (length list.new ≡ length list.old + length check.now.ownees) }
-    ensures verdicts { OnOk result ((h : Heap) → StandFor table.now roles.now h → AreViolating table.now h check.now → GoesOn paths list.old (map (λ cell. ownedby_verdict h (owned_pair table.now h cell)) check.now.ownees) list.new) }
+    requires room { length list.old + length checked.check.now.ownees < 2 ^ 32 }
+    requires roles { AreRolesOf checked.table.now.cells (length checked.table.now.table.kinds) checked.roles.now }
+    requires check { (h : Heap) × StandFor checked.table.now checked.roles.now h × AreViolating checked.table.now h checked.check.now }
+    ensures length { OnOk result (length list.new ≡ length list.old + length checked.entry.check.now.ownees) }
+    ensures verdicts { let c = checked.entry in OnOk result ((h : Heap) → StandFor c.table.now c.roles.now h → AreViolating c.table.now h c.check.now → GoesOn paths list.old (map (ownedby_in c.table.now h) c.check.now.ownees) list.new) }
 {
-    for cell in check.ownees() {
+    for cell in checked.check.ownees() {
         let is_shown = list.len() < paths;
-        let verdict = ownee_verdict(table, roles, check, *cell, is_shown)?;
+        let verdict = ownee_verdict(checked, *cell, is_shown)?;
         list.push(verdict)?;
     }
     Ok(())

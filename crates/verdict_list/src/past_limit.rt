@@ -1,15 +1,14 @@
 //! The objects by which types are over their limit.
-ghost use Rattle.std.specs.Prelude.{◌≡◌, ◌<◌, ◌+◌, ◌-◌, ◌^◌, ℕ, replicate, slice_index, slice_set, length, IfOk, IfSome, IsSome, None, slice_index_or};
+ghost use Rattle.assert_registry.specs.Laws.{StandFor};
 ghost use Rattle.graph_meaning.specs.Heap.{Heap};
 ghost use Rattle.graph_meaning.specs.Roles.{AreRolesOf};
 ghost use Rattle.object_table.specs.Placed.{id_in};
-ghost use Rattle.assert_registry.specs.Laws.{StandFor};
 ghost use Rattle.reference_search.specs.References.{KeepsTraced};
+ghost use Rattle.std.specs.Prelude.{◌≡◌, ◌<◌, ◌+◌, ◌-◌, ◌^◌, ℕ, replicate, slice_index, slice_set, length, IfOk, IfSome, IsSome, None, slice_index_or};
 ghost use Rattle.verdict_list.specs.Kinds.{ArePastLimits, first_after};
 
-use graph_meaning::Roles;
 use heap_base::OutOfMemory;
-use object_table::ObjectTable;
+use reference_search::TracedTable;
 use std::alloc::Global;
 
 // The first object past the limit: that in this cell where so many came before it as the limit allows.
@@ -62,16 +61,15 @@ fn count_one(counts: &mut Vec<u32>, places: &mut Vec<Option<u32>>, kind: Limited
 /// For each type with a limit the cell of its first traced object past the limit, by id. It goes once over the objects.
 pub(crate) fn first_past_limits(
     alloc: Global,
-    table: &ObjectTable,
-    roles: &Roles,
-    kept: &[bool],
+    traced: TracedTable<'_>,
 ) -> Result<Vec<Option<u32>>, OutOfMemory>
-    requires roles { AreRolesOf table.now.cells (length table.now.table.kinds) roles.now }
-    requires kept { length kept.now ≡ length table.now.cells }
-    ensures each { IfOk result (λ places. length places.items ≡ length table.now.table.kinds) }
-    ensures held { IfOk result (λ places. (kind : ℕ) → IfSome (slice_index_or places.items kind None) (λ cell. IsSome (id_in table.now cell))) }
-    ensures past { IfOk result (λ places. (h : Heap) → StandFor table.now roles.now h → KeepsTraced table.now h kept.now → ArePastLimits table.now roles.now h places.items) }
+    requires roles { AreRolesOf traced.table.now.cells (length traced.table.now.table.kinds) traced.roles.now }
+    requires kept { length traced.kept.now ≡ length traced.table.now.cells }
+    ensures each { IfOk result (λ places. length places.items ≡ length traced.entry.table.now.table.kinds) }
+    ensures held { IfOk result (λ places. (kind : ℕ) → IfSome (slice_index_or places.items kind None) (λ cell. IsSome (id_in traced.entry.table.now cell))) }
+    ensures past { let p = traced.entry.table.now in let r = traced.entry.roles.now in IfOk result (λ places. (h : Heap) → StandFor p r h → KeepsTraced p h traced.entry.kept.now → ArePastLimits p r h places.items) }
 {
+    let TracedTable { table, roles, kept } = traced;
     // what is true of every table
     let all = table.cells();
     prove!(all < u32::MAX);

@@ -1,18 +1,16 @@
 //! The objects that violate what was asserted of each by itself.
-ghost use Rattle.std.specs.Prelude.{◌≡◌, ◌<◌, ◌≤◌, length, map, All, Some, IfOk, IsSome};
-ghost use Rattle.heap_base.specs.Counting.{IsOnce};
-ghost use Rattle.heap_base.specs.declared.limits.TheConstants.{MOST_OBJECTS};
 ghost use Rattle.graph_meaning.specs.Heap.{Heap};
 ghost use Rattle.graph_meaning.specs.Roles.{AreRolesOf, cells_of};
+ghost use Rattle.heap_base.specs.Counting.{IsOnce};
+ghost use Rattle.heap_base.specs.declared.limits.TheConstants.{MOST_OBJECTS};
 ghost use Rattle.object_table.specs.Placed.{id_in};
-ghost use Rattle.assert_registry.specs.Laws.{StandFor};
-ghost use Rattle.verdict_list.specs.Counts.{AreCountsOf};
+ghost use Rattle.std.specs.Prelude.{◌≡◌, ◌<◌, ◌≤◌, length, map, All, Some, IfOk, IsSome};
+ghost use Rattle.verdict_list.specs.Counts.{CountsHeap};
 ghost use Rattle.verdict_list.specs.Violating.{is_violated_in, violating};
 
-use crate::counts::HeapCounts;
+use crate::counts::{CountedHeap, HeapCounts};
 use graph_meaning::Roles;
 use heap_base::OutOfMemory;
-use object_table::ObjectTable;
 use std::alloc::Global;
 
 /// What is asserted of one object by itself.
@@ -40,25 +38,23 @@ fn is_violated<T: HeapCounts>(assertion: Assertion, roles: &Roles, traced: &T, c
 /// The cells of the objects that violate the assertion, by id.
 pub(crate) fn violating<T: HeapCounts>(
     alloc: Global,
-    table: &ObjectTable,
-    roles: &Roles,
-    traced: &T,
+    counted: &CountedHeap<'_, T>,
     assertion: Assertion,
 ) -> Result<Vec<u32>, OutOfMemory>
-    requires roles { AreRolesOf table.now.cells (length table.now.table.kinds) roles.now }
-    requires counts { (h : Heap) × StandFor table.now roles.now h × AreCountsOf table.now h (T.counts traced.now) }
-    ensures violating { IfOk result (λ cells. (h : Heap) → StandFor table.now roles.now h → AreCountsOf table.now h (T.counts traced.now) → map (id_in table.now) cells.items ≡ map Some (violating assertion h)) }
-    ensures taken { IfOk result (λ cells. All (λ cell. IsSome (id_in table.now cell)) cells.items) }
+    requires roles { AreRolesOf counted.now.table.now.cells (length counted.now.table.now.table.kinds) counted.now.roles.now }
+    requires counts { (h : Heap) × CountsHeap counted.now.table.now counted.now.roles.now (T.counts counted.now.counts.now) h }
+    ensures violating { let c = counted.now in IfOk result (λ cells. (h : Heap) → CountsHeap c.table.now c.roles.now (T.counts c.counts.now) h → map (id_in c.table.now) cells.items ≡ map Some (violating assertion h)) }
+    ensures taken { IfOk result (λ cells. All (λ cell. IsSome (id_in counted.now.table.now cell)) cells.items) }
     ensures once { IfOk result (λ cells. IsOnce cells.items) }
     ensures few { IfOk result (λ cells. length cells.items ≤ MOST_OBJECTS) }
 {
     // what is true of every table
-    let all = table.cells();
+    let all = counted.table.cells();
     prove!(all < u32::MAX);
     let mut cells = Vec::new(alloc);
-    for number in 0..table.live() {
-        let cell = table.nth_cell(number);
-        if is_violated(assertion, roles, traced, cell) {
+    for number in 0..counted.table.live() {
+        let cell = counted.table.nth_cell(number);
+        if is_violated(assertion, counted.roles, counted.counts, cell) {
             cells.push(cell)?;
         }
     }

@@ -9,13 +9,13 @@ use Rattle.verdict_list.proofs.dead.push_dead.Goals as goal
 
 pub loop-cell-init : goal.loop-cell-init
 loop-cell-init c = record {
-  gone = λ h shows. begins c.args.paths (λ cell. dead_verdict h (id_at c.args.table.now.cells cell)) c.args.list.now c.args.cells.now;
+  gone = λ h shows. begins c.args.plain.most (λ cell. dead_verdict h (id_at c.args.plain.table.now.cells cell)) c.args.list.now c.args.cells.now;
   number = omega arith;
 }
 
 pub dead_verdict-requires-clause-there : goal.dead_verdict-requires-clause-there
 dead_verdict-requires-clause-there c is_shown =
-    let less : c.len.result < c.args.paths = ltb-true c.len.result c.args.paths is_shown in
+    let less : c.len.result < c.args.plain.most = ltb-true c.len.result c.args.plain.most is_shown in
     c.requires.there (omega (arith, less, c.len.ensures, c.loop-cell.invariant.number)) (omega (arith, c.loop-cell-test.true))
 
 pub push-requires : goal.push-requires
@@ -24,10 +24,10 @@ push-requires c = omega (arith, c.loop-cell.invariant.number, c.requires.room, c
 pub loop-cell-preserved : goal.loop-cell-preserved
 loop-cell-preserved c = rw c.in_ok-push.ensures.ok (record {
   gone =
-      λ h shows. goes_by_nth c.args.paths (λ cell. dead_verdict h (id_at c.args.table.now.cells cell)) c.args.list.now c.loop-cell.list
+      λ h shows. goes_by_nth c.args.plain.most (λ cell. dead_verdict h (id_at c.args.plain.table.now.cells cell)) c.args.list.now c.loop-cell.list
       c.args.cells.now c.loop-cell.cell-index 0 c.in_ok-verdict.verdict c.loop-cell-test.true
       (c.in_ok-verdict.ensures h shows
-      ∙ ap (λ n. verdict_if (nat_lt n c.args.paths) (dead_verdict h (id_at c.args.table.now.cells (get_or c.args.cells.now c.loop-cell.cell-index 0)))) c.len.ensures)
+      ∙ ap (λ n. verdict_if (nat_lt n c.args.plain.most) (dead_verdict h (id_at c.args.plain.table.now.cells (get_or c.args.cells.now c.loop-cell.cell-index 0)))) c.len.ensures)
       (c.loop-cell.invariant.gone h shows);
   number = omega (arith, c.loop-cell.invariant.number, length-append c.loop-cell.list (c.in_ok-verdict.verdict ∷ []));
 })
@@ -37,5 +37,5 @@ returns-clause-length c = omega (arith, c.loop-cell.invariant.number, c.loop-cel
 
 pub returns-clause-verdicts : goal.returns-clause-verdicts
 returns-clause-verdicts c h shows =
-    ends_at c.args.paths (λ cell. dead_verdict h (id_at c.args.table.now.cells cell)) c.args.list.now c.loop-cell.list c.args.cells.now
+    ends_at c.args.plain.most (λ cell. dead_verdict h (id_at c.args.plain.table.now.cells cell)) c.args.list.now c.loop-cell.list c.args.cells.now
     c.loop-cell.cell-index c.loop-cell-test.false (c.loop-cell.invariant.gone h shows)

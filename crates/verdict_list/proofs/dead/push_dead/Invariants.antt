@@ -8,6 +8,6 @@ use Rattle.verdict_list.proofs.dead.push_dead.Given as goal
 
 abbrev pub invariant-loop-cell : goal.invariant-loop-cell
 invariant-loop-cell l = record {
-  gone : (h : Heap) → ShowsPaths l.table h l.levels → HasGoneOn l.paths (λ cell. dead_verdict h (id_at l.table.cells cell)) l.fn.list l.list (drop l.cell-index l.cells) l.cells;
+  gone : (h : Heap) → ShowsPaths l.plain h → HasGoneOn l.plain.most (λ cell. dead_verdict h (id_at l.plain.table.now.cells cell)) l.fn.list l.list (drop l.cell-index l.cells) l.cells;
   number : length l.list ≡ length l.fn.list + l.cell-index;
 }

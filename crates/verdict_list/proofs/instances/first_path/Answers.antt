@@ -10,5 +10,6 @@ pub returns-in-Some : goal.returns-in-Some
 returns-in-Some c =
     IfOk-weaker c.plain_path.result _ _
     (λ s is h id shows first. is h shows
-    ∙ first_shown c.args.table.now c.in-Some.cell id c.args.is_shown (λ x. shown_path (plain_way h x)) (λ is_shown. ap (option_and_then (id_in c.args.table.now)) (sym c.in-Some.is) ∙ first is_shown))
+    ∙ first_shown c.args.plain.table.now c.in-Some.cell id c.args.is_shown (λ x. shown_path (plain_way h x))
+    (λ is_shown. ap (option_and_then (id_in c.args.plain.table.now)) (sym c.in-Some.is) ∙ first is_shown))
     c.plain_path.ensures

@@ -6,7 +6,7 @@ use Rattle.verdict_list.proofs.instances.found.Goals as goal
 
 pub overflow_cast-result : goal.overflow_cast-result
 overflow_cast-result g c =
-    let (h, r, stand, trace) = c.requires.counts in
-    let p = c.args.table.now in
-    let named = trace.instances c.args.kind (name_of p c.args.kind) (named_at p c.args.kind c.requires.kind) in
-    omega (arith, c.instances.ensures, named, instances-few h (name_of p c.args.kind), ap (λ (t : Table). length t.objects) stand.table, c.cells-cells.ensures.sound.limits.objects)
+    let (h, r, are) = c.requires.counts in
+    let p = c.args.counted.now.table.now in
+    let named = are.counts.instances c.args.kind (name_of p c.args.kind) (named_at p c.args.kind c.requires.kind) in
+    omega (arith, c.instances.ensures, named, instances-few h (name_of p c.args.kind), ap (λ (t : Table). length t.objects) are.stand.table, c.cells-cells.ensures.sound.limits.objects)

@@ -12,8 +12,8 @@ pub loop-kind-init : goal.loop-kind-init
 loop-kind-init g c = rw c.new-counts.ensures.items (record {
   kinds = refl;
   many = refl;
-  seen = All-nil (IsSeenIn c.args.table.now);
-  each = All-nil (IsCountedBy c.args.roles.now (g.T.HeapCounts.counts c.args.traced.now) c.args.places.now);
+  seen = All-nil (IsSeenIn c.args.counted.now.table.now);
+  each = All-nil (IsCountedBy c.args.counted.now.roles.now (g.T.HeapCounts.counts c.args.counted.now.counts.now) c.args.places.now);
 })
 
 pub loop-kind-preserved : goal.loop-kind-preserved
@@ -21,13 +21,13 @@ loop-kind-preserved g c = rw c.in_ok-push.ensures.items (record {
   kinds = kinds_more c.loop-kind.counts.items c.args.kinds.now c.loop-kind.kind-index _ (slice_get-get_or c.args.kinds.now c.loop-kind.kind-index 0 c.loop-kind-test.true) c.loop-kind.invariant.kinds;
   many = length-append c.loop-kind.counts.items _ ∙ ap (λ n. n + 1) c.loop-kind.invariant.many;
   seen =
-      All-push (IsSeenIn c.args.table.now) c.loop-kind.counts.items _ c.loop-kind.invariant.seen
+      All-push (IsSeenIn c.args.counted.now.table.now) c.loop-kind.counts.items _ c.loop-kind.invariant.seen
       (record {
         seen = (c.requires.over c.loop-kind.kind-index 0 c.loop-kind-test.true).seen;
-        first = subst (λ o. IfSome o (λ cell. IsSome (id_in c.args.table.now cell))) (sym c.at_kind.ensures) (c.requires.held (get_or c.args.kinds.now c.loop-kind.kind-index 0));
+        first = subst (λ o. IfSome o (λ cell. IsSome (id_in c.args.counted.now.table.now cell))) (sym c.at_kind.ensures) (c.requires.held (get_or c.args.kinds.now c.loop-kind.kind-index 0));
       });
   each =
-      All-push (IsCountedBy c.args.roles.now (g.T.HeapCounts.counts c.args.traced.now) c.args.places.now) c.loop-kind.counts.items _
+      All-push (IsCountedBy c.args.counted.now.roles.now (g.T.HeapCounts.counts c.args.counted.now.counts.now) c.args.places.now) c.loop-kind.counts.items _
       c.loop-kind.invariant.each (record { limit = c.limit_of.ensures; found = c.found.ensures; first = c.at_kind.ensures });
 })
 

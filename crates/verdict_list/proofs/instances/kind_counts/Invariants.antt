@@ -7,6 +7,6 @@ abbrev pub invariant-loop-kind : goal.invariant-loop-kind
 invariant-loop-kind g l = record {
   kinds : map (λ c. c.kind) l.counts.items ++ drop l.kind-index l.kinds ≡ l.kinds;
   many : length l.counts.items ≡ l.kind-index;
-  seen : All (IsSeenIn l.table) l.counts.items;
-  each : All (IsCountedBy l.roles (g.T.HeapCounts.counts l.traced) l.places) l.counts.items;
+  seen : All (IsSeenIn l.counted.table.now) l.counts.items;
+  each : All (IsCountedBy l.counted.roles.now (g.T.HeapCounts.counts l.counted.counts.now) l.places) l.counts.items;
 }

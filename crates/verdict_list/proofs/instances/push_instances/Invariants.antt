@@ -8,7 +8,7 @@ use Rattle.verdict_list.proofs.instances.push_instances.Given as goal
 
 abbrev pub invariant-loop-count : goal.invariant-loop-count
 invariant-loop-count l = record {
-  gone : (h : Heap) → ShowsPaths l.table h l.levels → TellOf l.table h (length l.fn.list < l.paths) l.counts →
-      HasGoneOn l.paths (λ c. instances_verdict h (named_count l.table c)) l.fn.list l.list (drop l.count-index l.counts) l.counts;
+  gone : (h : Heap) → ShowsPaths l.plain h → TellOf l.plain.table.now h (length l.fn.list < l.plain.most) l.counts →
+      HasGoneOn l.plain.most (λ c. instances_verdict h (named_count l.plain.table.now c)) l.fn.list l.list (drop l.count-index l.counts) l.counts;
   number : length l.list ≡ length l.fn.list + l.count-index;
 }

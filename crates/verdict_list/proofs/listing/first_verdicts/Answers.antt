@@ -10,32 +10,34 @@ use Rattle.verdict_list.proofs.WholeLists.{first_three, map_held, map_pairs, kin
 use Rattle.verdict_list.proofs.listing.first_verdicts.Goals as goal
 
 pub past_limits-requires-clause-kept : goal.past_limits-requires-clause-kept
-past_limits-requires-clause-kept g c = ap length c.kept-kept.ensures ∙ c.requires.counts.2.each
+past_limits-requires-clause-kept g c = ap length c.kept.ensures ∙ c.requires.counts.1.counts.each
 
 pub references_of-requires-clause-kept : goal.references_of-requires-clause-kept
-references_of-requires-clause-kept g c = ap length c.kept-kept.ensures ∙ c.requires.counts.2.each
+references_of-requires-clause-kept g c = ap length c.kept.ensures ∙ c.requires.counts.1.counts.each
 
 pub push_unshared-requires-clause-references : goal.push_unshared-requires-clause-references
 push_unshared-requires-clause-references g c =
-    let (h, stand, trace) = c.requires.counts in (
+    let (h, are) = c.requires.counts in (
       h,
       rw (c.deref-6.ensures.value, c.deref-7.ensures.value)
-          ((rw c.deref-3.ensures.value at c.in_ok-references.ensures.first) h stand
-          (λ x id held. ap (λ ks. get_or ks x false) c.kept-kept.ensures ∙ trace.kept x id held)),
+          ((rw c.deref-3.ensures.value at c.in_ok-references.ensures.first) h are.stand
+          (λ x id held. ap (λ ks. get_or ks x false) c.kept.ensures ∙ are.counts.kept x id held)),
     )
 
 pub returns-clause-verdicts : goal.returns-clause-verdicts
-returns-clause-verdicts g c h stand trace =
-    let p = c.args.table.now in
-    let t = g.T.HeapCounts.counts c.args.traced.now in
-    let r = c.args.roles.now in
+returns-clause-verdicts g c h are =
+    let stand = are.stand in
+    let trace = are.counts in
+    let p = c.args.counted.now.table.now in
+    let t = g.T.HeapCounts.counts c.args.counted.now.counts.now in
+    let r = c.args.counted.now.roles.now in
     let n = c.args.paths in
     let count = counted_in p t in
-    let keeps : KeepsTraced p h c.kept-kept.result.now = λ x id held. ap (λ ks. get_or ks x false) c.kept-kept.ensures ∙ trace.kept x id held in
+    let keeps : KeepsTraced p h c.kept.result.now = λ x id held. ap (λ ks. get_or ks x false) c.kept.ensures ∙ trace.kept x id held in
     let places = c.in_ok-places.places.items in
     let counts = c.in_ok-counts.counts.items in
     let kinds = c.in_ok-kinds.kinds.items in
-    let shows : ShowsPaths p h c.in_ok-levels.levels = record { roles = r; stand = stand; made = c.in_ok-levels.ensures.levels } in
+    let shows : ShowsPaths _ h = record { roles = r; stand = stand; made = c.in_ok-levels.ensures.levels } in
     let each = rw (c.deref-2.ensures.value) at c.in_ok-counts.ensures.each in
     let same = c.in_ok-counts.ensures.kinds ∙ c.deref.ensures.value in
     let says = all_say p r t places h trace counts each c.in_ok-counts.ensures.seen in
@@ -56,11 +58,11 @@ returns-clause-verdicts g c h stand trace =
     let dead : GoesOn n c.empty-list.result (map (dead_verdict h) (violating_dead h)) c.push_dead.new.list =
     subst (λ vs. GoesOn n c.empty-list.result vs c.push_dead.new.list)
     (map_held (id_in p) (dead_verdict h) c.deref-4.result.now (violating_dead h)
-    (ap (map (id_in p)) c.deref-4.ensures.value ∙ c.in_ok-dead.ensures.violating h stand trace)) (c.in_ok-push_dead.ensures.verdicts h shows) in
+    (ap (map (id_in p)) c.deref-4.ensures.value ∙ c.in_ok-dead.ensures.violating h are)) (c.in_ok-push_dead.ensures.verdicts h shows) in
     let instances : GoesOn n c.push_dead.new.list (map (instances_verdict h) (violating_kinds h)) c.push_instances.new.list =
     subst (λ vs. GoesOn n c.push_dead.new.list vs c.push_instances.new.list)
     (map_pairs (instances_verdict h) (named_count p) c.deref-5.result.now (violating_kinds h)
-    (ap (map (named_count p)) c.deref-5.ensures.value ∙ kinds-are p r t places h counts kinds each same (c.in_ok-kinds.ensures.over h stand trace)))
+    (ap (map (named_count p)) c.deref-5.ensures.value ∙ kinds-are p r t places h counts kinds each same (c.in_ok-kinds.ensures.over h are)))
     (c.in_ok-push_instances.ensures.verdicts h shows (record {
       says = subst (All (SaysOf p h)) (sym c.deref-5.ensures.value) says;
       first = λ less. subst (All (HasFirst p h)) (sym c.deref-5.ensures.value) (first less);
@@ -68,7 +70,7 @@ returns-clause-verdicts g c h stand trace =
     let unshared : GoesOn n c.push_instances.new.list (map (unshared_verdict count h) (violating_unshared h)) c.push_unshared.new.list =
     subst (λ vs. GoesOn n c.push_instances.new.list vs c.push_unshared.new.list)
     (map_held (id_in p) (unshared_verdict count h) c.deref-6.result.now (violating_unshared h)
-    (ap (map (id_in p)) c.deref-6.ensures.value ∙ c.in_ok-unshared.ensures.violating h stand trace))
+    (ap (map (id_in p)) c.deref-6.ensures.value ∙ c.in_ok-unshared.ensures.violating h are))
     (c.in_ok-push_unshared.ensures.verdicts h shows (rw (c.deref-6.ensures.value, c.deref-7.ensures.value) ((rw c.deref-3.ensures.value at c.in_ok-references.ensures.first) h stand keeps))) in
     first_three n c.empty-list.result c.push_dead.new.list c.push_instances.new.list c.push_unshared.new.list count h c.empty-list.ensures dead instances unshared
 

@@ -9,7 +9,7 @@ first_references-requires-clause-once c = once_taken c.min-shown.result c.args.c
 
 pub returns-clause-first : goal.returns-clause-first
 returns-clause-first c =
-    IfOk-both c.first_references.result _ _ (λ found. (h : _) → _ → _ → AreFirstOf c.args.table.now h c.args.cells.now found.items)
+    IfOk-both c.first_references.result _ _ (λ found. (h : _) → _ → _ → AreFirstOf c.args.traced.table.now h c.args.cells.now found.items)
     (λ found each first h stand trace n cell f at here.
     let within : n < length (take c.min-shown.result c.args.cells.now) = subst (λ m. n < m) each (slice_get_within found.items n f here) in
     first h stand trace n cell f (take_get c.min-shown.result c.args.cells.now n within ∙ at) here)

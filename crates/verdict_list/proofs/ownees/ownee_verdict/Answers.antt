@@ -12,26 +12,26 @@ use Rattle.verdict_list.proofs.ownees.ownee_verdict.Goals as goal
 pub object_kind-requires : goal.object_kind-requires
 object_kind-requires c =
     let (h, stand, violating) = c.requires.check in
-    let (o, held, owned) = ownee_at c.args.table.now c.args.roles.now h c.args.check.now stand violating c.args.cell c.requires.ownee in
+    let (o, held, owned) = ownee_at c.args.checked.table.now c.args.checked.roles.now h c.args.checked.check.now stand violating c.args.cell c.requires.ownee in
     ap is_some held
 
 pub object_id-id-requires : goal.object_id-id-requires
 object_id-id-requires c =
     let (h, stand, violating) = c.requires.check in
-    let (o, held, owned) = ownee_at c.args.table.now c.args.roles.now h c.args.check.now stand violating c.args.cell c.requires.ownee in
+    let (o, held, owned) = ownee_at c.args.checked.table.now c.args.checked.roles.now h c.args.checked.check.now stand violating c.args.cell c.requires.ownee in
     ap is_some held
 
 pub owner_of-owner-requires-clause-owned : goal.owner_of-owner-requires-clause-owned
 owner_of-owner-requires-clause-owned c =
     let (h, stand, violating) = c.requires.check in
-    is_owned c.args.table.now c.args.roles.now h c.args.check.now stand violating c.args.cell c.requires.ownee
+    is_owned c.args.checked.table.now c.args.checked.roles.now h c.args.checked.check.now stand violating c.args.cell c.requires.ownee
 
 pub returns : goal.returns
 returns c h stand violating =
-    let p = c.args.table.now in
+    let p = c.args.checked.table.now in
     let cell = c.args.cell in
-    let (o, held, owned) = ownee_at p c.args.roles.now h c.args.check.now stand violating cell c.requires.ownee in
-    let by = owner-is p c.args.roles.now h c.args.check.now stand violating cell o held owned in
+    let (o, held, owned) = ownee_at p c.args.checked.roles.now h c.args.checked.check.now stand violating cell c.requires.ownee in
+    let by = owner-is p c.args.checked.roles.now h c.args.checked.check.now stand violating cell o held owned in
     let id = id-held p cell o.0 held in
     ownedby-is c.args.is_shown h o c.object_id-id.result c.in_ok-kind.kind c.owner_of-owner.result.id c.owner_of-owner.result.gone c.in_ok-path.path
     (c.object_id-id.ensures.id ∙ id)
@@ -39,4 +39,4 @@ returns c h stand violating =
     (c.owner_of-owner.ensures.id h o.1 stand by)
     (c.owner_of-owner.ensures.gone h o.1 stand by)
     (c.in_ok-path.ensures h violating ∙ ap (λ x. path_if c.args.is_shown (shown_path (unowned_way h x))) id)
-    ∙ ap (λ x. verdict_if c.args.is_shown (ownedby_verdict h x)) (sym (pair-is p c.args.roles.now h c.args.check.now stand violating cell o held owned))
+    ∙ ap (λ x. verdict_if c.args.is_shown (ownedby_verdict h x)) (sym (pair-is p c.args.checked.roles.now h c.args.checked.check.now stand violating cell o held owned))

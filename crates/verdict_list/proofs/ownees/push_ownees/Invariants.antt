@@ -9,7 +9,7 @@ use Rattle.verdict_list.proofs.ownees.push_ownees.Given as goal
 
 abbrev pub invariant-loop-cell : goal.invariant-loop-cell
 invariant-loop-cell l = record {
-  gone : (h : Heap) → StandFor l.table l.roles h → AreViolating l.table h l.check →
-      HasGoneOn l.paths (λ cell. ownedby_verdict h (owned_pair l.table h cell)) l.fn.list l.list (drop l.cell-index l.cell-items) l.cell-items;
+  gone : (h : Heap) → StandFor l.checked.table.now l.checked.roles.now h → AreViolating l.checked.table.now h l.checked.check.now →
+      HasGoneOn l.paths (λ cell. ownedby_verdict h (owned_pair l.checked.table.now h cell)) l.fn.list l.list (drop l.cell-index l.cell-items) l.cell-items;
   number : length l.list ≡ length l.fn.list + l.cell-index;
 }

@@ -15,36 +15,39 @@ use Rattle.verdict_list.proofs.past_limit.first_past_limits.Goals.{After-kind_at
 
 pub loop-number-init : goal.loop-number-init
 loop-number-init c =
-    let p = c.args.table.now in
+    let p = c.args.traced.table.now in
     let n = c.kinds-kinds.result in
     rw (c.in_ok-counts.ensures, c.in_ok-places.ensures) (record {
       counts = length-replicate n 0 ∙ c.kinds-kinds.ensures.count;
       places = length-replicate n None ∙ c.kinds-kinds.ensures.count;
       few = no_count n;
       held = λ kind. subst (λ o. IfSome o (λ cell. IsSome (id_in p cell))) (sym (get_or-replicate_same n kind None)) tt;
-      counted = λ h stand trace. counted_none p c.args.roles.now h (replicate n 0) (replicate n None) (λ kind. get_or-replicate_same n kind 0) (λ kind. get_or-replicate_same n kind None);
+      counted = λ h stand trace. counted_none p c.args.traced.roles.now h (replicate n 0) (replicate n None) (λ kind. get_or-replicate_same n kind 0) (λ kind. get_or-replicate_same n kind None);
     })
 
 module _ (c : After-nth_cell-cell) where
   -- the object in the cell is the one with this number, by id
-  nth : (id : ℕ) × (id_in c.args.table.now c.nth_cell-cell.result ≡ Some id) × (slice_get (ids c.args.table.now.table) c.loop-number.number ≡ Some id)
+  nth : (id : ℕ) × (id_in c.args.traced.table.now c.nth_cell-cell.result ≡ Some id) × (slice_get (ids c.args.traced.table.now.table) c.loop-number.number ≡ Some id)
   nth =
-      nth_id c.args.table.now c.loop-number.number c.nth_cell-cell.result c.live-number-end.result c.nth_cell-cell.ensures.cell c.loop-number-test.true
+      nth_id c.args.traced.table.now c.loop-number.number c.nth_cell-cell.result c.live-number-end.result c.nth_cell-cell.ensures.cell c.loop-number-test.true
       c.live-number-end.ensures.count
 
 pub bounds-kept-cell : goal.bounds-kept-cell
 bounds-kept-cell c =
     let (id, held, at) = nth (goal.at.bounds-kept-cell c).After-nth_cell-cell in
-    omega (arith, held-within c.args.table.now c.nth_cell-cell.result id held, c.requires.kept)
+    omega (arith, held-within c.args.traced.table.now c.nth_cell-cell.result id held, c.requires.kept)
 
 -- the object's type is one of the table's
 module _ (c : After-kind_at-kind) where
-  in_range : c.kind_at-kind.result < length c.args.table.now.table.kinds
+  in_range : c.kind_at-kind.result < length c.args.traced.table.now.table.kinds
   in_range =
       let (id, held, at) =
-      nth_id c.args.table.now c.loop-number.number c.nth_cell-cell.result c.live-number-end.result c.nth_cell-cell.ensures.cell c.loop-number-test.true
+      nth_id c.args.traced.table.now c.loop-number.number c.nth_cell-cell.result c.live-number-end.result c.nth_cell-cell.ensures.cell c.loop-number-test.true
       c.live-number-end.ensures.count in
-      kind-in_range c.args.table.now c.cells-all.ensures.placed c.nth_cell-cell.result c.kind_at-kind.result (ap is_some held) c.kind_at-kind.ensures.number
+      kind-in_range c.args.traced.table.now c.cells-all.ensures.placed c.nth_cell-cell.result c.kind_at-kind.result (ap is_some held) c.kind_at-kind.ensures.number
+
+pub limit-requires : goal.limit-requires
+limit-requires c = omega (arith, in_range (goal.at.limit-requires c).After-kind_at-kind, c.requires.roles.many_kinds)
 
 pub count_one-requires-clause-counts : goal.count_one-requires-clause-counts
 count_one-requires-clause-counts c = omega (arith, in_range (goal.at.count_one-requires-clause-counts c).After-kind_at-kind, c.loop-number.invariant.counts)
@@ -58,7 +61,7 @@ count_one-requires-clause-small c =
 
 pub loop-number-preserved : goal.loop-number-preserved
 loop-number-preserved c =
-    let p = c.args.table.now in
+    let p = c.args.traced.table.now in
     let i = c.loop-number.invariant in
     let (id, held, at) = nth (goal.at.loop-number-preserved c).After-nth_cell-cell in
     elim c.if-kept-cell.branch [
@@ -74,11 +77,11 @@ loop-number-preserved c =
             places = length-set c.loop-number.places.items number _ ∙ i.places;
             few = few_more c.loop-number.counts.items number c.loop-number.number (omega (arith, within, i.counts)) i.few;
             held =
-                held_more p c.loop-number.places.items (limit_in c.args.roles.now number) (get_or c.loop-number.counts.items number 0)
+                held_more p c.loop-number.places.items (limit_in c.args.traced.roles.now number) (get_or c.loop-number.counts.items number 0)
                 c.nth_cell-cell.result number (omega (arith, within, i.places)) taken i.held;
             counted = λ h stand trace.
                 let traced : is_traced h id ≡ true = sym (trace c.nth_cell-cell.result id held) ∙ w.if-kept-cell.true in
-                counted_more p c.args.roles.now h c.cells-all.ensures.sound.kinds c.loop-number.counts.items c.loop-number.places.items
+                counted_more p c.args.traced.roles.now h c.cells-all.ensures.sound.kinds c.loop-number.counts.items c.loop-number.places.items
                 c.loop-number.number id c.nth_cell-cell.result number at traced held within named i.counts i.places (i.counted h stand trace);
           })
       | else-kept-cell w ↦ rw (w.counts-is, w.places-is) (record {
@@ -88,7 +91,7 @@ loop-number-preserved c =
         held = i.held;
         counted = λ h stand trace.
             let untraced : is_traced h id ≡ false = sym (trace c.nth_cell-cell.result id held) ∙ w.if-kept-cell.false in
-            counted_past p c.args.roles.now h c.loop-number.counts.items c.loop-number.places.items c.loop-number.number id at untraced (i.counted h stand trace);
+            counted_past p c.args.traced.roles.now h c.loop-number.counts.items c.loop-number.places.items c.loop-number.number id at untraced (i.counted h stand trace);
       })
     ]
 
@@ -100,5 +103,5 @@ returns-clause-held c = c.loop-number.invariant.held
 
 pub returns-clause-past : goal.returns-clause-past
 returns-clause-past c h stand trace =
-    counted_all c.args.table.now c.args.roles.now h c.loop-number.counts.items c.loop-number.places.items c.loop-number.number stand.table
+    counted_all c.args.traced.table.now c.args.traced.roles.now h c.loop-number.counts.items c.loop-number.places.items c.loop-number.number stand.table
     (omega (arith, c.loop-number-test.false, c.live-number-end.ensures.count)) (c.loop-number.invariant.counted h stand trace)

@@ -9,7 +9,7 @@ use Rattle.verdict_list.proofs.unshared.unshared_verdict.Goals as goal
 
 pub returns : goal.returns
 returns g c h shows first =
-    let p = c.args.table.now in
+    let p = c.args.plain.table.now in
     let cell = c.args.cell in
     let id = id_at p.cells cell in
     unshared-is (is_some c.args.found) (counted_in p (g.T.HeapCounts.counts c.args.traced.now)) h id c.object_id-id.result c.in_ok-kind.kind

@@ -13,22 +13,22 @@ use Rattle.verdict_list.proofs.violating.violating.Goals.{After-nth_cell-cell, t
 
 pub loop-number-init : goal.loop-number-init
 loop-number-init g c = rw c.new-cells.ensures.items (record {
-  gathered = λ h stand trace.
+  gathered = λ h are.
       ap (map Some)
-      (sym (violating-is c.args.assertion h stand.refers stand.ordered (subst IdsRise (sym stand.table) c.cells-all.ensures.sound.ids)
-      ∙ ap (λ (t : Table). filter (is_violated_by c.args.assertion h) (ids t)) stand.table));
+      (sym (violating-is c.args.assertion h are.stand.refers are.stand.ordered (subst IdsRise (sym are.stand.table) c.cells-all.ensures.sound.ids)
+      ∙ ap (λ (t : Table). filter (is_violated_by c.args.assertion h) (ids t)) are.stand.table));
   few = omega arith;
 })
 
 module _ (g : given.Over) (c : After-nth_cell-cell g) where
   -- the object in the cell is the one with this number, by id
-  nth : (id : ℕ) × (id_in c.args.table.now c.nth_cell-cell.result ≡ Some id) × (slice_get (ids c.args.table.now.table) c.loop-number.number ≡ Some id)
+  nth : (id : ℕ) × (id_in c.args.counted.now.table.now c.nth_cell-cell.result ≡ Some id) × (slice_get (ids c.args.counted.now.table.now.table) c.loop-number.number ≡ Some id)
   nth =
-      nth_id c.args.table.now c.loop-number.number c.nth_cell-cell.result c.live-number-end.result c.nth_cell-cell.ensures.cell c.loop-number-test.true
+      nth_id c.args.counted.now.table.now c.loop-number.number c.nth_cell-cell.result c.live-number-end.result c.nth_cell-cell.ensures.cell c.loop-number-test.true
       c.live-number-end.ensures.count
 
-  within : c.nth_cell-cell.result < length c.args.table.now.cells
-  within = held-within c.args.table.now c.nth_cell-cell.result nth.0 nth.1
+  within : c.nth_cell-cell.result < length c.args.counted.now.table.now.cells
+  within = held-within c.args.counted.now.table.now c.nth_cell-cell.result nth.0 nth.1
 
 pub is_violated-requires-clause-roles : goal.is_violated-requires-clause-roles
 is_violated-requires-clause-roles g c =
@@ -36,53 +36,55 @@ is_violated-requires-clause-roles g c =
 
 pub is_violated-requires-clause-kept : goal.is_violated-requires-clause-kept
 is_violated-requires-clause-kept g c =
-    omega (arith, within g (goal.at.is_violated-requires-clause-kept g c).After-nth_cell-cell, c.requires.counts.2.each)
+    omega (arith, within g (goal.at.is_violated-requires-clause-kept g c).After-nth_cell-cell, c.requires.counts.1.counts.each)
 
 pub is_violated-requires-clause-words : goal.is_violated-requires-clause-words
 is_violated-requires-clause-words g c =
-    omega (arith, within g (goal.at.is_violated-requires-clause-words g c).After-nth_cell-cell, c.requires.counts.2.cells)
+    omega (arith, within g (goal.at.is_violated-requires-clause-words g c).After-nth_cell-cell, c.requires.counts.1.counts.cells)
 
 pub loop-number-preserved : goal.loop-number-preserved
 loop-number-preserved g c =
     let (id, held, at) = nth g (goal.at.loop-number-preserved g c).After-nth_cell-cell in
     elim c.if-is_violated.branch [
       | then-is_violated+in_ok-push w ↦ rw (w.cells-is, w.in_ok-push.ensures.items) (record {
-        gathered = λ h stand trace.
+        gathered = λ h are.
             let passes : is_violated_by c.args.assertion h id ≡ true =
-            sym (violated-agrees c.args.table.now c.args.roles.now (g.T.HeapCounts.counts c.args.traced.now) h stand trace c.args.assertion c.nth_cell-cell.result id held)
+            sym (violated-agrees c.args.counted.now.table.now c.args.counted.now.roles.now (g.T.HeapCounts.counts c.args.counted.now.counts.now) h
+            are.stand are.counts c.args.assertion c.nth_cell-cell.result id held)
             ∙ sym c.is_violated.ensures ∙ w.if-is_violated.true in
-            gather_one (id_in c.args.table.now) (is_violated_by c.args.assertion h) (map Some (violating c.args.assertion h))
-            (ids c.args.table.now.table) c.loop-number.cells.items c.loop-number.number c.nth_cell-cell.result id at held passes
-            (c.loop-number.invariant.gathered h stand trace);
+            gather_one (id_in c.args.counted.now.table.now) (is_violated_by c.args.assertion h) (map Some (violating c.args.assertion h))
+            (ids c.args.counted.now.table.now.table) c.loop-number.cells.items c.loop-number.number c.nth_cell-cell.result id at held passes
+            (c.loop-number.invariant.gathered h are);
         few = omega (arith, c.loop-number.invariant.few, length-append c.loop-number.cells.items (c.nth_cell-cell.result ∷ []));
       })
       | else-is_violated w ↦ rw w.cells-is (record {
-        gathered = λ h stand trace.
+        gathered = λ h are.
             let fails : is_violated_by c.args.assertion h id ≡ false =
-            sym (violated-agrees c.args.table.now c.args.roles.now (g.T.HeapCounts.counts c.args.traced.now) h stand trace c.args.assertion c.nth_cell-cell.result id held)
+            sym (violated-agrees c.args.counted.now.table.now c.args.counted.now.roles.now (g.T.HeapCounts.counts c.args.counted.now.counts.now) h
+            are.stand are.counts c.args.assertion c.nth_cell-cell.result id held)
             ∙ sym c.is_violated.ensures ∙ w.if-is_violated.false in
-            pass_one (id_in c.args.table.now) (is_violated_by c.args.assertion h) (map Some (violating c.args.assertion h))
-            (ids c.args.table.now.table) c.loop-number.cells.items c.loop-number.number id at fails (c.loop-number.invariant.gathered h stand trace);
+            pass_one (id_in c.args.counted.now.table.now) (is_violated_by c.args.assertion h) (map Some (violating c.args.assertion h))
+            (ids c.args.counted.now.table.now.table) c.loop-number.cells.items c.loop-number.number id at fails (c.loop-number.invariant.gathered h are);
         few = omega (arith, c.loop-number.invariant.few);
       })
     ]
 
 pub returns-clause-violating : goal.returns-clause-violating
-returns-clause-violating g c h stand trace =
-    let t = c.args.table.now.table in
-    gathered (id_in c.args.table.now) (is_violated_by c.args.assertion h) (map Some (violating c.args.assertion h)) (ids t) c.loop-number.cells.items c.loop-number.number
-    (omega (arith, c.loop-number-test.false, c.live-number-end.ensures.count, length-map t.objects (λ o. o.id))) (c.loop-number.invariant.gathered h stand trace)
+returns-clause-violating g c h are =
+    let t = c.args.counted.now.table.now.table in
+    gathered (id_in c.args.counted.now.table.now) (is_violated_by c.args.assertion h) (map Some (violating c.args.assertion h)) (ids t) c.loop-number.cells.items c.loop-number.number
+    (omega (arith, c.loop-number-test.false, c.live-number-end.ensures.count, length-map t.objects (λ o. o.id))) (c.loop-number.invariant.gathered h are)
 
 pub returns-clause-few : goal.returns-clause-few
 returns-clause-few g c = omega (arith, c.loop-number.invariant.few, c.loop-number.auto.number-end, c.live-number-end.ensures.count, c.cells-all.ensures.sound.limits.objects)
 
 pub returns-clause-taken : goal.returns-clause-taken
 returns-clause-taken g c =
-    let (h, stand, trace) = c.requires.counts in
-    all_taken (id_in c.args.table.now) c.loop-number.cells.items (violating c.args.assertion h) (returns-clause-violating g c h stand trace)
+    let (h, are) = c.requires.counts in
+    all_taken (id_in c.args.counted.now.table.now) c.loop-number.cells.items (violating c.args.assertion h) (returns-clause-violating g c h are)
 
 pub returns-clause-once : goal.returns-clause-once
 returns-clause-once g c =
-    let (h, stand, trace) = c.requires.counts in
-    once_held (id_in c.args.table.now) c.loop-number.cells.items (violating c.args.assertion h) (returns-clause-violating g c h stand trace)
-    (violating-rise c.args.assertion h stand.refers stand.ordered (subst IdsRise (sym stand.table) c.cells-all.ensures.sound.ids))
+    let (h, are) = c.requires.counts in
+    once_held (id_in c.args.counted.now.table.now) c.loop-number.cells.items (violating c.args.assertion h) (returns-clause-violating g c h are)
+    (violating-rise c.args.assertion h are.stand.refers are.stand.ordered (subst IdsRise (sym are.stand.table) c.cells-all.ensures.sound.ids))
