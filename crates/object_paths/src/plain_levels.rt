@@ -1,15 +1,15 @@
 //! Plain paths: by the roots, and where these don't lead to an object, by the owners.
-ghost use Rattle.std.specs.Prelude.{◌≡◌, ◌<◌, ◌≤◌, ◌*◌, ℕ, length, Some, IsTrue, IfOk, IsSome, IfSome};
-ghost use Rattle.heap_base.specs.declared.limits.TheConstants.{END_STEPS};
-ghost use Rattle.std.specs.Option.{option_map};
 ghost use Rattle.graph_meaning.specs.Assertions.{by_slot};
 ghost use Rattle.graph_meaning.specs.Heap.{Heap, edge_of};
 ghost use Rattle.graph_meaning.specs.Paths.{plain_way, reference_way, view_of};
 ghost use Rattle.graph_meaning.specs.Roles.{RoleTable, AreRolesOf, id_at};
 ghost use Rattle.graph_meaning.specs.Views.{heap_view, is_path};
+ghost use Rattle.heap_base.specs.declared.limits.TheConstants.{END_STEPS};
+ghost use Rattle.object_paths.specs.PlainPaths.{ArePlainLevels, WhereLevelsOf};
 ghost use Rattle.object_table.specs.Placed.{id_in, slots_in, slot_in};
 ghost use Rattle.reference_search.specs.References.{reference_of, RefersTo};
-ghost use Rattle.object_paths.specs.PlainPaths.{ArePlainLevels, WhereLevelsOf};
+ghost use Rattle.std.specs.Option.{option_map};
+ghost use Rattle.std.specs.Prelude.{◌≡◌, ◌<◌, ◌≤◌, ◌*◌, ℕ, length, Some, IsTrue, IfOk, IsSome, IfSome};
 
 use graph_meaning::{PathView, Roles};
 use heap_base::OutOfMemory;
