@@ -5,9 +5,11 @@ use Rattle.graph_meaning.specs.Assertions.{Reference, by_root, by_slot, is_trace
 use Rattle.graph_meaning.specs.Heap.{Heap, edge_of}
 use Rattle.graph_meaning.specs.Roles.{id_at}
 use Rattle.object_table.specs.Placed.{Placed, id_in, slots_in, slot_in}
+use Rattle.assert_registry.specs.Laws.{StandFor}
 use Rattle.reference_search.specs.declared.cell_reference.CellReference.{CellReference}
 use Rattle.reference_search.specs.declared.cell_reference.CellReference.TheVariants.{Root, Slot}
 use Rattle.reference_search.specs.declared.cell_reference.FirstReferences.{FirstReferences}
+use Rattle.reference_search.specs.declared.search.TracedTable.{TracedTable}
 
 -- the reference as a heap has it: a root by its name, or a slot by the id of its object and its number
 abbrev pub reference_of : Placed → CellReference → Reference
@@ -22,6 +24,11 @@ RefersTo p (Slot holder slot) id = (slot < length (slots_in p holder)) × (edge_
 -- the kept cells are those of the traced objects
 abbrev pub KeepsTraced : Placed → Heap → List Bool → Type 0
 KeepsTraced p h kept = (cell id : ℕ) → id_in p cell ≡ Some id → slice_index_or kept cell false ≡ is_traced h id
+
+-- The heap is that of the table and the roles, and the kept cells are those of its traced objects.
+pub record IsTracedTableOf (h : Heap) (t : TracedTable) : Type 0 where
+  pub stand : StandFor t.table.now t.roles.now h
+  pub keeps : KeepsTraced t.table.now h t.kept.now
 
 -- This is the reference, to the object with this id; and nothing where there is none.
 pub record IsReference (p : Placed) (id : ℕ) (reference : Option Reference) (r : Option CellReference) : Type 0 where

@@ -1,10 +1,9 @@
 //! The search for the first two references.
-ghost use Rattle.assert_registry.specs.Laws.{StandFor};
 ghost use Rattle.graph_meaning.specs.Heap.{Heap};
 ghost use Rattle.graph_meaning.specs.Roles.{AreRolesOf};
 ghost use Rattle.heap_base.specs.Counting.{IsOnce};
 ghost use Rattle.object_table.specs.Placed.{id_in};
-ghost use Rattle.reference_search.specs.References.{KeepsTraced, AreFirstOf};
+ghost use Rattle.reference_search.specs.References.{AreFirstOf, IsTracedTableOf};
 ghost use Rattle.std.specs.Prelude.{◌≡◌, length, All, IfOk, IsSome};
 
 use crate::cell_reference::FirstReferences;
@@ -25,7 +24,7 @@ pub fn first_references(
     requires asked { All (λ cell. IsSome (id_in traced.table.now cell)) asked.now }
     requires once { IsOnce asked.now }
     ensures each { IfOk result (λ found. length found.items ≡ length asked.now) }
-    ensures first { IfOk result (λ found. (h : Heap) → StandFor traced.entry.table.now traced.entry.roles.now h → KeepsTraced traced.entry.table.now h traced.entry.kept.now → AreFirstOf traced.entry.table.now h asked.now found.items) }
+    ensures first { IfOk result (λ found. (h : Heap) → IsTracedTableOf h traced.entry → AreFirstOf traced.entry.table.now h asked.now found.items) }
 {
     let mut search = Search::begin(alloc, traced.table.cells(), asked)?;
     search.take_roots(traced.table);

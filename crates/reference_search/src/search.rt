@@ -63,7 +63,7 @@ impl Search {
         requires roles { cells_of traced.roles.now ≡ length traced.table.now.cells }
         requires kept { length traced.kept.now ≡ length traced.table.now.cells }
         ensures count { length self.new.found.items ≡ length self.old.found.items }
-        ensures finds { (is_scanned : ℕ → Bool) → ScannedByCell traced.entry.table.now traced.entry.roles.now traced.entry.kept.now is_scanned → FindsMore traced.entry.table.now (scanned_slots traced.entry.table.now.table is_scanned) (finding_in self.old) (finding_in self.new) }
+        ensures finds { let t = traced.entry in let p = t.table.now in (scanned : ℕ → Bool) → ScannedByCell p t.roles.now t.kept.now scanned → FindsMore p (scanned_slots p.table scanned) (finding_in self.old) (finding_in self.new) }
     {
         let TracedTable { table, roles, kept } = traced;
         for number in 0..table.live() {
