@@ -3,7 +3,7 @@ use Rattle.std.proofs.Common.{◌≡◌, ℕ, ◌+◌, ◌<◌, Bool, true, fals
 use Rattle.std.specs.Prelude.{◌==◌, IsSome, unwrap_or}
 use Rattle.std.specs.List.{All, filter, slice_get}
 use Rattle.std.proofs.lemmas.Bool.{or_right}
-use Rattle.std.proofs.lemmas.List.{get_or-map, length-map}
+use Rattle.std.proofs.lemmas.List.{append-nil, get_or-map, length-map}
 use Rattle.std.proofs.lemmas.List.Elements.{All-cons, filter_more}
 use Rattle.std.proofs.lemmas.Option.{slice_get-get_or}
 use Rattle.graph_meaning.specs.Heap.{Object, ids, is_live}
@@ -72,8 +72,21 @@ module _ (p : Placed) (placed : IsPlaced p) where
   count-cells = length-map (ids p.table) at_id ∙ length-map p.table.objects (λ (o : Object). o.id)
 
   -- one object more, if its cell passes a test
-  pub cells-more : (test : ℕ → Bool) (n cell : ℕ) → n < length p.table.objects → id_in p cell ≡ slice_get (ids p.table) n →
+  cells-more : (test : ℕ → Bool) (n cell : ℕ) → n < length p.table.objects → id_in p cell ≡ slice_get (ids p.table) n →
       filter test (take (n + 1) (cells_by_id p)) ≡ filter test (take n (cells_by_id p)) ++ cond (test cell) (cell ∷ []) []
   cells-more test n cell within held =
       filter_more test (cells_by_id p) n 0 (omega (arith, within, count-cells))
       ∙ ap (λ x. filter test (take n (cells_by_id p)) ++ cond (test x) (x ∷ []) []) (nth-cell n cell within held)
+
+  -- the cells that pass, where the next does
+  pub passing-more : (test : ℕ → Bool) (n cell : ℕ) → n < length p.table.objects → id_in p cell ≡ slice_get (ids p.table) n → test cell ≡ true →
+      filter test (take n (cells_by_id p)) ++ cell ∷ [] ≡ filter test (take (n + 1) (cells_by_id p))
+  passing-more test n cell within held passes =
+      ap (λ b. filter test (take n (cells_by_id p)) ++ cond b (cell ∷ []) []) (sym passes) ∙ sym (cells-more test n cell within held)
+
+  -- and where it doesn't
+  pub passing-same : (test : ℕ → Bool) (n cell : ℕ) → n < length p.table.objects → id_in p cell ≡ slice_get (ids p.table) n → test cell ≡ false →
+      filter test (take n (cells_by_id p)) ≡ filter test (take (n + 1) (cells_by_id p))
+  passing-same test n cell within held fails =
+      sym (append-nil (filter test (take n (cells_by_id p)))) ∙ ap (λ b. filter test (take n (cells_by_id p)) ++ cond b (cell ∷ []) []) (sym fails)
+      ∙ sym (cells-more test n cell within held)

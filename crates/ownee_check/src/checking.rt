@@ -1,15 +1,15 @@
 //! The ownees that are met and that their owner doesn't find.
-ghost use Rattle.std.specs.Prelude.{◌≡◌, ◌<◌, length, All, IfOk, IfSome, IsSome, IsSomeAnd, IsTrue, option_map};
+ghost use Rattle.assert_registry.specs.Laws.{StandFor};
 ghost use Rattle.graph_meaning.specs.Heap.{Heap};
 ghost use Rattle.graph_meaning.specs.Paths.{unowned_way, view_of};
 ghost use Rattle.graph_meaning.specs.Reach.{has_id};
 ghost use Rattle.graph_meaning.specs.Roles.{AreRolesOf, id_at};
-ghost use Rattle.assert_registry.specs.Laws.{StandFor};
 ghost use Rattle.object_table.specs.Placed.{id_in};
-ghost use Rattle.path_cert.specs.Levels.{Search, AreLevelsOf, AreLevelsIn, way_in};
 ghost use Rattle.ownee_check.specs.Ownership.{AreDoubts, AreViolating};
+ghost use Rattle.path_cert.specs.Levels.{Search, AreLevelsOf, AreLevelsIn, way_in};
+ghost use Rattle.std.specs.Prelude.{◌≡◌, ◌<◌, length, All, IfOk, IfSome, IsSome, IsSomeAnd, IsTrue, option_map};
 
-use crate::settling::not_found;
+use crate::settling::{AskedOwnees, not_found};
 use crate::unowned::{unowned_levels, with_level};
 use graph_meaning::{PathView, Roles};
 use heap_base::OutOfMemory;
@@ -59,7 +59,12 @@ pub fn check_ownees(
     }
     let levels = unowned_levels(alloc, table, roles)?;
     let met = with_level(alloc, &levels, doubts.as_slice())?;
-    let ownees = not_found(alloc, table, roles, met.as_slice())?;
+    let asked = AskedOwnees {
+        table,
+        roles,
+        ownees: met.as_slice(),
+    };
+    let ownees = not_found(alloc, asked)?;
     Ok(OwnershipCheck {
         ownees,
         levels: Some(levels),

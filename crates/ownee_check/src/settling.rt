@@ -1,11 +1,11 @@
 //! Which ownees their owners find. Each owner is asked once for all of its ownees that are in doubt.
-ghost use Rattle.std.specs.Prelude.{◌≡◌, ◌<◌, ◌&&◌, ◌++◌, ◌∷◌, ℕ, List, Bool, not, [], length, filter, map, All, IfOk, OnOk, IsSome};
 ghost use Rattle.graph_meaning.specs.Reach.{has_id};
 ghost use Rattle.graph_meaning.specs.Roles.{RoleTable, AreRolesOf};
 ghost use Rattle.object_table.specs.Placed.{Placed, id_in};
 ghost use Rattle.ownee_check.specs.Cells.{is_kept};
 ghost use Rattle.ownee_check.specs.Settling.{IsOfObjects, is_found_in, flag_of, Flags, HasAsked};
 ghost use Rattle.ownee_check.specs.declared.settling.Ownership.{Ownership};
+ghost use Rattle.std.specs.Prelude.{◌≡◌, ◌<◌, ◌&&◌, ◌++◌, ◌∷◌, ℕ, List, Bool, not, [], length, filter, map, All, IfOk, OnOk, IsSome};
 
 use graph_meaning::{OwnerRole, Roles};
 use heap_base::OutOfMemory;
@@ -13,18 +13,26 @@ use object_table::ObjectTable;
 use path_cert::OwnerSearch;
 use std::alloc::Global;
 
+/// Ownees of a table with its roles, which are asked for.
+#[derive(Clone, Copy)]
+pub(crate) struct AskedOwnees<'a> {
+    pub(crate) table: &'a ObjectTable,
+    pub(crate) roles: &'a Roles,
+    pub(crate) ownees: &'a [u32],
+}
+
 /// Those of the ownees that their owner doesn't find, or whose owner is gone, in the same order.
-pub(crate) fn not_found(
-    alloc: Global,
-    table: &ObjectTable,
-    roles: &Roles,
-    ownees: &[u32],
-) -> Result<Vec<u32>, OutOfMemory>
-    requires roles { AreRolesOf table.now.cells (length table.now.table.kinds) roles.now }
-    requires ownees { All (λ ownee. IsSome (id_in table.now ownee)) ownees.now }
-    ensures violating { IfOk result (λ violating. violating.items ≡ filter (λ ownee. not (is_kept table.now roles.now ownee)) ownees.now) }
+pub(crate) fn not_found(alloc: Global, asked: AskedOwnees<'_>) -> Result<Vec<u32>, OutOfMemory>
+    requires roles { AreRolesOf asked.table.now.cells (length asked.table.now.table.kinds) asked.roles.now }
+    requires ownees { All (λ ownee. IsSome (id_in asked.table.now ownee)) asked.ownees.now }
+    ensures violating { let a = asked.entry in IfOk result (λ violating. violating.items ≡ filter (λ ownee. not (is_kept a.table.now a.roles.now ownee)) a.ownees.now) }
 {
-    let mut pairs = pairs_of(alloc, table, roles, ownees)?;
+    let AskedOwnees {
+        table,
+        roles,
+        ownees,
+    } = asked;
+    let mut pairs = pairs_of(alloc, asked)?;
     // Pairs of one owner stand together then.
     pairs.sort_unstable();
     let found = ask_owners(alloc, table, roles, pairs.as_slice())?;
@@ -39,22 +47,17 @@ struct Ownership {
 }
 
 // The pairs of those ownees whose owner isn't gone.
-fn pairs_of(
-    alloc: Global,
-    table: &ObjectTable,
-    roles: &Roles,
-    ownees: &[u32],
-) -> Result<Vec<Ownership>, OutOfMemory>
-    requires roles { AreRolesOf table.now.cells (length table.now.table.kinds) roles.now }
-    requires ownees { All (λ ownee. IsSome (id_in table.now ownee)) ownees.now }
-    ensures objects { IfOk result (λ pairs. All (IsOfObjects table.now) pairs.items) }
-    ensures found { IfOk result (λ pairs. (x : ℕ) → is_found_in table.now roles.now pairs.items x ≡ (has_id ownees.now x && is_kept table.now roles.now x)) }
+fn pairs_of(alloc: Global, asked: AskedOwnees<'_>) -> Result<Vec<Ownership>, OutOfMemory>
+    requires roles { AreRolesOf asked.table.now.cells (length asked.table.now.table.kinds) asked.roles.now }
+    requires ownees { All (λ ownee. IsSome (id_in asked.table.now ownee)) asked.ownees.now }
+    ensures objects { IfOk result (λ pairs. All (IsOfObjects asked.entry.table.now) pairs.items) }
+    ensures found { let a = asked.entry in IfOk result (λ pairs. (x : ℕ) → is_found_in a.table.now a.roles.now pairs.items x ≡ (has_id a.ownees.now x && is_kept a.table.now a.roles.now x)) }
 {
-    let cells = table.cells();
+    let cells = asked.table.cells();
     let mut pairs = Vec::new(alloc);
-    for ownee in ownees {
+    for ownee in asked.ownees {
         prove!(*ownee < cells);
-        if let OwnerRole::OwnerCell(owner) = roles.owner(*ownee) {
+        if let OwnerRole::OwnerCell(owner) = asked.roles.owner(*ownee) {
             pairs.push(Ownership {
                 owner,
                 ownee: *ownee,

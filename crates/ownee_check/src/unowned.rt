@@ -1,13 +1,12 @@
 //! Which ownees are met: those to which a path from a root leads that goes on from nothing under owners, and from no
 //! owner.
-ghost use Rattle.std.specs.Prelude.{◌≡◌, ◌<◌, ℕ, length, filter, is_some, All, IfOk};
 ghost use Rattle.assert_registry.specs.Laws.{StandFor};
 ghost use Rattle.graph_meaning.specs.Heap.{Heap};
 ghost use Rattle.graph_meaning.specs.Roles.{AreRolesOf, cells_of};
-ghost use Rattle.path_cert.specs.Levels.{AreLevelsOf, AreLevelsIn, level_in};
 ghost use Rattle.ownee_check.specs.Cells.{is_owned_cell};
 ghost use Rattle.ownee_check.specs.Ownership.{unowned_search};
-ghost use Rattle.ownee_check.specs.Settling.{flag_of};
+ghost use Rattle.path_cert.specs.Levels.{AreLevelsOf, AreLevelsIn, level_in};
+ghost use Rattle.std.specs.Prelude.{◌≡◌, ◌<◌, ℕ, false, length, filter, is_some, slice_index_or, All, IfOk};
 
 use graph_meaning::Roles;
 use heap_base::OutOfMemory;
@@ -42,7 +41,7 @@ fn owned_cells(
     requires roles { cells ≡ cells_of roles.now }
     requires levels { cells ≡ length under.now.arrivals }
     ensures each { IfOk result (λ owned. length owned.items ≡ cells) }
-    ensures owned { IfOk result (λ owned. (cell : ℕ) → cell < cells → flag_of owned.items cell ≡ is_owned_cell roles.now under.now cell) }
+    ensures owned { IfOk result (λ owned. (cell : ℕ) → cell < cells → slice_index_or owned.items cell false ≡ is_owned_cell roles.now under.now cell) }
 {
     let mut owned = Vec::with_capacity(alloc, cells as usize)?;
     for cell in 0..cells {

@@ -9,14 +9,14 @@ use Rattle.ownee_check.proofs.settling.pairs_of.Goals.{in-OwnerCell+in_ok-push, 
 
 pub loop-ownee-preserved : goal.loop-ownee-preserved
 loop-ownee-preserved c =
-    let p = c.args.table.now in
-    let r = c.args.roles.now in
-    let ownees = c.args.ownees.now in
+    let p = c.args.asked.table.now in
+    let r = c.args.asked.roles.now in
+    let ownees = c.args.asked.ownees.now in
     let i = c.loop-ownee.ownee-index in
-    let y = get_or c.args.ownees.now i 0 in
+    let y = get_or c.args.asked.ownees.now i 0 in
     let pairs = c.loop-ownee.pairs.items in
     let was = c.loop-ownee.invariant in
-    let held : IsSome (id_in c.args.table.now (get_or c.args.ownees.now c.loop-ownee.ownee-index 0)) = c.requires.ownees i 0 c.loop-ownee-test.true in
+    let held : IsSome (id_in c.args.asked.table.now (get_or c.args.asked.ownees.now c.loop-ownee.ownee-index 0)) = c.requires.ownees i 0 c.loop-ownee-test.true in
     elim c.match-owner.branch [
       | in-OwnerCell+in_ok-push w ↦
           let owner = w.in-OwnerCell.owner in

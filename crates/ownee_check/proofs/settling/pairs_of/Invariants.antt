@@ -8,6 +8,6 @@ use Rattle.ownee_check.proofs.settling.pairs_of.Given as goal
 -- of the ownees so far
 abbrev pub invariant-loop-ownee : goal.invariant-loop-ownee
 invariant-loop-ownee l = record {
-  objects : All (IsOfObjects l.table) l.pairs.items;
-  found : (x : ℕ) → is_found_in l.table l.roles l.pairs.items x ≡ (has_id (take l.ownee-index l.ownees) x && is_kept l.table l.roles x);
+  objects : All (IsOfObjects l.asked.table.now) l.pairs.items;
+  found : (x : ℕ) → is_found_in l.asked.table.now l.asked.roles.now l.pairs.items x ≡ (has_id (take l.ownee-index l.asked.ownees.now) x && is_kept l.asked.table.now l.asked.roles.now x);
 }
