@@ -1,12 +1,12 @@
 //! The ownees that are met and that their owner doesn't find.
-ghost use Rattle.std.specs.Prelude.{◌≡◌, length, All, IfOk, IfSome, IsSome};
+ghost use Rattle.assert_registry.specs.Laws.{StandFor};
 ghost use Rattle.graph_meaning.specs.Heap.{Heap};
 ghost use Rattle.graph_meaning.specs.Roles.{AreRolesOf};
-ghost use Rattle.assert_registry.specs.Laws.{StandFor};
-ghost use Rattle.object_table.specs.Placed.{id_in};
-ghost use Rattle.path_cert.specs.Levels.{AreLevelsIn};
 ghost use Rattle.heap_trace.specs.Traces.{IsTraceOf};
+ghost use Rattle.object_table.specs.Placed.{id_in};
 ghost use Rattle.ownee_check.specs.Ownership.{AreViolating};
+ghost use Rattle.path_cert.specs.Levels.{AreLevelsIn};
+ghost use Rattle.std.specs.Prelude.{◌≡◌, length, All, IfOk, IfSome, IsSome};
 
 use crate::doubts::doubtful_ownees;
 use graph_meaning::Roles;

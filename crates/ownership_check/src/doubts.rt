@@ -1,9 +1,9 @@
 //! The ownees that the marks of a trace leave in doubt.
-ghost use Rattle.std.specs.Prelude.{◌≡◌, ◌<◌, length, filter, IfOk};
 ghost use Rattle.graph_meaning.specs.Roles.{cells_of};
 ghost use Rattle.object_table.specs.Placed.{IsPlaced, IsSound};
 ghost use Rattle.ownee_check.specs.Cells.{cells_by_id};
 ghost use Rattle.ownership_check.specs.Cells.{is_in_doubt};
+ghost use Rattle.std.specs.Prelude.{◌≡◌, ◌<◌, length, filter, IfOk};
 
 use graph_meaning::Roles;
 use header_rule::Words;

@@ -1,8 +1,6 @@
-use Rattle.std.proofs.Common.{◌++◌, [], ◌∷◌, cond, take, filter, sym, ap, ◌∙◌, arith}
-use Rattle.std.proofs.lemmas.List.{append-nil}
-use Rattle.ownee_check.specs.Cells.{cells_by_id}
+use Rattle.std.proofs.Common.{◌++◌, [], ◌∷◌, sym, ap, ◌∙◌, arith}
 use Rattle.ownership_check.specs.Cells.{is_in_doubt}
-use Rattle.ownee_check.proofs.CellsById.{nth-held, cells-more}
+use Rattle.ownee_check.proofs.CellsById.{nth-held, passing-more, passing-same}
 use Rattle.ownership_check.proofs.doubts.doubtful_ownees.Goals as goal
 use Rattle.ownership_check.proofs.doubts.doubtful_ownees.Goals.{then-is_in_doubt+in_ok-push, else-is_in_doubt}
 
@@ -13,18 +11,17 @@ prove-unreachable-requires c =
 
 pub loop-number-preserved : goal.loop-number-preserved
 loop-number-preserved c =
-    let cell = c.nth_cell-cell.result in
     let test = is_in_doubt c.args.roles.now c.args.words.now in
-    let done = filter test (take c.loop-number.number (cells_by_id c.args.table.now)) in
-    let more = cells-more c.args.table.now c.cells-cells.ensures.placed test c.loop-number.number cell (omega arith) c.nth_cell-cell.ensures.cell in
-    let was = c.loop-number.invariant in
+    let cell = c.nth_cell-cell.result in
     elim c.if-is_in_doubt.branch [
       | then-is_in_doubt+in_ok-push w ↦
           rw w.doubts-is
-          (w.in_ok-push.ensures.items ∙ ap (λ xs. xs ++ cell ∷ []) was
-          ∙ ap (λ b. done ++ cond b (cell ∷ []) []) (sym w.if-is_in_doubt.true ∙ c.is_in_doubt.ensures) ∙ sym more)
+          (w.in_ok-push.ensures.items ∙ ap (λ xs. xs ++ cell ∷ []) c.loop-number.invariant
+          ∙ passing-more c.args.table.now c.cells-cells.ensures.placed test c.loop-number.number cell (omega arith) c.nth_cell-cell.ensures.cell
+          (sym c.is_in_doubt.ensures ∙ w.if-is_in_doubt.true))
       | else-is_in_doubt w ↦
           rw w.doubts-is
-          (was ∙ sym (append-nil done)
-          ∙ ap (λ b. done ++ cond b (cell ∷ []) []) (sym w.if-is_in_doubt.false ∙ c.is_in_doubt.ensures) ∙ sym more)
+          (c.loop-number.invariant
+          ∙ passing-same c.args.table.now c.cells-cells.ensures.placed test c.loop-number.number cell (omega arith) c.nth_cell-cell.ensures.cell
+          (sym c.is_in_doubt.ensures ∙ w.if-is_in_doubt.false))
     ]
