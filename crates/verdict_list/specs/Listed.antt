@@ -4,7 +4,7 @@ use Rattle.heap_base.specs.declared.limits.TheConstants.{MOST_OBJECTS, MOST_KIND
 use Rattle.graph_meaning.specs.declared.collection.Verdict.{Verdict}
 use Rattle.graph_meaning.specs.declared.paths.Shown.{Shown}
 use Rattle.graph_meaning.specs.declared.paths.Shown.TheVariants.{LeftOut}
-use Rattle.graph_meaning.specs.Collecting.{without_paths, first_with_paths, violating_dead, violating_kinds, violating_unshared, dead_verdict, instances_verdict, unshared_verdict, ownedby_verdict}
+use Rattle.graph_meaning.specs.Collecting.{all_verdicts, without_paths, first_with_paths, violating_dead, violating_kinds, violating_unshared, dead_verdict, instances_verdict, unshared_verdict, ownedby_verdict}
 use Rattle.graph_meaning.specs.Heap.{Heap}
 use Rattle.graph_meaning.specs.Assertions.{references}
 use Rattle.graph_meaning.specs.Paths.{reference_way, shown_path}
@@ -42,6 +42,10 @@ GoesOn paths old verdicts new = (before : List Verdict) → old ≡ first_with_p
 abbrev pub first_verdicts : (ℕ → ℕ) → Heap → List Verdict
 first_verdicts count h =
     (map (dead_verdict h) (violating_dead h) ++ map (instances_verdict h) (violating_kinds h)) ++ map (unshared_verdict count h) (violating_unshared h)
+
+-- all verdicts with what was counted, of which so many of the first carry their paths
+abbrev pub verdicts_in : Placed → CountTable → ℕ → Heap → List Verdict
+verdicts_in p t paths h = first_with_paths paths (all_verdicts (counted_in p t) h)
 
 -- The heap is that of the table and of roles by which the levels were made, if they were made.
 pub record ShowsPaths (plain : PlainPaths) (h : Heap) : Type 0 where

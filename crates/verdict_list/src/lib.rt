@@ -13,5 +13,4 @@ mod unshared;
 mod violating;
 
 pub use counts::{CountedHeap, HeapCounts};
-pub use listing::first_verdicts;
-pub use ownees::{CheckedTable, push_ownees};
+pub use listing::all_verdicts;

@@ -20,13 +20,10 @@ use path_cert::{object_id, object_kind};
 
 /// A table with its roles, of which it is known which ownees violate.
 #[derive(Clone, Copy)]
-pub struct CheckedTable<'a> {
-    /// The table.
-    pub table: &'a ObjectTable,
-    /// What is asserted of its objects.
-    pub roles: &'a Roles,
-    /// Which ownees violate.
-    pub check: &'a OwnershipCheck,
+pub(crate) struct CheckedTable<'a> {
+    pub(crate) table: &'a ObjectTable,
+    pub(crate) roles: &'a Roles,
+    pub(crate) check: &'a OwnershipCheck,
 }
 
 // The owner of an ownee: its id, and whether it was freed.
@@ -104,7 +101,7 @@ fn ownee_verdict(
 }
 
 /// Puts the verdicts on the violating ownees last.
-pub fn push_ownees(
+pub(crate) fn push_ownees(
     list: &mut VerdictList,
     checked: CheckedTable<'_>,
     paths: u32,

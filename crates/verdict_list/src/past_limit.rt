@@ -1,10 +1,9 @@
 //! The objects by which types are over their limit.
-ghost use Rattle.assert_registry.specs.Laws.{StandFor};
 ghost use Rattle.graph_meaning.specs.Heap.{Heap};
 ghost use Rattle.graph_meaning.specs.Roles.{AreRolesOf};
 ghost use Rattle.object_table.specs.Placed.{id_in};
-ghost use Rattle.reference_search.specs.References.{KeepsTraced};
-ghost use Rattle.std.specs.Prelude.{◌≡◌, ◌<◌, ◌+◌, ◌-◌, ◌^◌, ℕ, replicate, slice_index, slice_set, length, IfOk, IfSome, IsSome, None, slice_index_or};
+ghost use Rattle.reference_search.specs.References.{IsTracedTableOf};
+ghost use Rattle.std.specs.Prelude.{true, ◌≡◌, ◌<◌, ◌+◌, ◌-◌, ◌^◌, ℕ, replicate, slice_index, slice_set, length, IfOk, IfSome, IsSome, None, slice_index_or};
 ghost use Rattle.verdict_list.specs.Kinds.{ArePastLimits, first_after};
 
 use heap_base::OutOfMemory;
@@ -58,8 +57,8 @@ fn count_one(counts: &mut Vec<u32>, places: &mut Vec<Option<u32>>, kind: Limited
     counts[number] = count + 1;
 }
 
-/// For each type with a limit the cell of its first traced object past the limit, by id. It goes once over the objects.
-pub(crate) fn first_past_limits(
+// For each type with a limit the cell of its first traced object past the limit, by id. It goes once over the objects.
+fn first_past_limits(
     alloc: Global,
     traced: TracedTable<'_>,
 ) -> Result<Vec<Option<u32>>, OutOfMemory>
@@ -67,7 +66,7 @@ pub(crate) fn first_past_limits(
     requires kept { length traced.kept.now ≡ length traced.table.now.cells }
     ensures each { IfOk result (λ places. length places.items ≡ length traced.entry.table.now.table.kinds) }
     ensures held { IfOk result (λ places. (kind : ℕ) → IfSome (slice_index_or places.items kind None) (λ cell. IsSome (id_in traced.entry.table.now cell))) }
-    ensures past { let p = traced.entry.table.now in let r = traced.entry.roles.now in IfOk result (λ places. (h : Heap) → StandFor p r h → KeepsTraced p h traced.entry.kept.now → ArePastLimits p r h places.items) }
+    ensures past { let t = traced.entry in IfOk result (λ places. (h : Heap) → IsTracedTableOf h t → ArePastLimits t.table.now t.roles.now h places.items) }
 {
     let TracedTable { table, roles, kept } = traced;
     // what is true of every table
@@ -88,4 +87,22 @@ pub(crate) fn first_past_limits(
         }
     }
     Ok(places)
+}
+
+/// For each type the cell of its first traced object past its limit, where they are wanted.
+pub(crate) fn past_limits(
+    alloc: Global,
+    traced: TracedTable<'_>,
+    is_wanted: bool,
+) -> Result<Vec<Option<u32>>, OutOfMemory>
+    requires roles { AreRolesOf traced.table.now.cells (length traced.table.now.table.kinds) traced.roles.now }
+    requires kept { length traced.kept.now ≡ length traced.table.now.cells }
+    ensures held { IfOk result (λ places. (kind : ℕ) → IfSome (slice_index_or places.items kind None) (λ cell. IsSome (id_in traced.entry.table.now cell))) }
+    ensures past { let t = traced.entry in IfOk result (λ places. is_wanted ≡ true → (h : Heap) → IsTracedTableOf h t → ArePastLimits t.table.now t.roles.now h places.items) }
+{
+    if is_wanted {
+        first_past_limits(alloc, traced)
+    } else {
+        Ok(Vec::new(alloc))
+    }
 }

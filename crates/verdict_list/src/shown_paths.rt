@@ -1,17 +1,18 @@
 //! Paths as verdicts show them.
 ghost use Rattle.graph_meaning.specs.Heap.{Heap};
 ghost use Rattle.graph_meaning.specs.Paths.{plain_way, shown_path, Way, view_of};
-ghost use Rattle.graph_meaning.specs.Roles.{RoleTable, id_at};
+ghost use Rattle.graph_meaning.specs.Roles.{AreRolesOf, RoleTable, id_at};
 ghost use Rattle.object_paths.specs.PlainPaths.{ArePlainLevels};
 ghost use Rattle.object_table.specs.Placed.{id_in};
 ghost use Rattle.std.specs.Option.{option_map};
-ghost use Rattle.std.specs.Prelude.{◌≡◌, true, IfOk, IsSome, IfSome, Option};
+ghost use Rattle.std.specs.Prelude.{◌≡◌, true, length, IfOk, IsSome, IfSome, Option};
 ghost use Rattle.verdict_list.specs.Listed.{path_if, ShowsPaths};
 
-use graph_meaning::{PathView, Shown};
+use graph_meaning::{PathView, Roles, Shown};
 use heap_base::OutOfMemory;
 use object_paths::PlainLevels;
 use object_table::ObjectTable;
+use std::alloc::Global;
 
 /// The plain paths that verdicts show: in this table, by its levels, if these were made, and for so many of the first verdicts.
 #[derive(Clone, Copy)]
@@ -19,6 +20,24 @@ pub(crate) struct PlainPaths<'a> {
     pub(crate) table: &'a ObjectTable,
     pub(crate) levels: &'a Option<PlainLevels>,
     pub(crate) most: u32,
+}
+
+/// The levels of plain paths, where they are wanted.
+pub(crate) fn plain_levels(
+    alloc: Global,
+    table: &ObjectTable,
+    roles: &Roles,
+    is_wanted: bool,
+) -> Result<Option<PlainLevels>, OutOfMemory>
+    requires roles { AreRolesOf table.now.cells (length table.now.table.kinds) roles.now }
+    ensures levels { IfOk result (λ levels. IfSome levels (ArePlainLevels table.now roles.now)) }
+    ensures there { IfOk result (λ levels. is_wanted ≡ true → IsSome levels) }
+{
+    if is_wanted {
+        Ok(Some(PlainLevels::make(alloc, table, roles)?))
+    } else {
+        Ok(None)
+    }
 }
 
 /// The path as a verdict shows it, if there is one.

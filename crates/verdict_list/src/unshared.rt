@@ -1,10 +1,11 @@
 //! The verdicts on objects that are asserted unshared.
 ghost use Rattle.graph_meaning.specs.Assertions.{references};
 ghost use Rattle.graph_meaning.specs.Heap.{Heap};
-ghost use Rattle.graph_meaning.specs.Roles.{RoleTable, id_at};
+ghost use Rattle.graph_meaning.specs.Roles.{AreRolesOf, RoleTable, id_at};
+ghost use Rattle.heap_base.specs.Counting.{IsOnce};
 ghost use Rattle.object_paths.specs.PlainPaths.{ArePlainLevels};
 ghost use Rattle.object_table.specs.Placed.{id_in};
-ghost use Rattle.reference_search.specs.References.{IsReference, AreFirst};
+ghost use Rattle.reference_search.specs.References.{IsReference, AreFirst, AreFirstOf, IsTracedTableOf};
 ghost use Rattle.std.specs.Prelude.{◌≡◌, ◌<◌, ◌+◌, ◌-◌, ◌^◌, ℕ, Some, length, map, min, All, IsSome, IfSome, IfOk, OnOk, is_some, slice_get};
 ghost use Rattle.verdict_list.specs.Listed.{path_if, reference_path, unshared_in, verdict_if, GoesOn, ShowsPaths, KnowsFirst};
 
@@ -13,7 +14,29 @@ use crate::shown_paths::PlainPaths;
 use graph_meaning::{Shown, Verdict, VerdictList};
 use heap_base::OutOfMemory;
 use path_cert::{object_id, object_kind};
-use reference_search::{CellReference, FirstReferences};
+use reference_search::{CellReference, FirstReferences, TracedTable, first_references};
+use std::alloc::Global;
+
+/// The first references to the objects in so many of these cells.
+pub(crate) fn references_of(
+    alloc: Global,
+    traced: TracedTable<'_>,
+    cells: &[u32],
+    most: usize,
+) -> Result<Vec<FirstReferences>, OutOfMemory>
+    requires roles { AreRolesOf traced.table.now.cells (length traced.table.now.table.kinds) traced.roles.now }
+    requires kept { length traced.kept.now ≡ length traced.table.now.cells }
+    requires cells { All (λ cell. IsSome (id_in traced.table.now cell)) cells.now }
+    requires once { IsOnce cells.now }
+    ensures each { IfOk result (λ found. length found.items ≡ min (length cells.now) most) }
+    ensures first { IfOk result (λ found. (h : Heap) → IsTracedTableOf h traced.entry → AreFirstOf traced.entry.table.now h cells.now found.items) }
+{
+    let shown = cells.len().min(most);
+    if shown == 0 {
+        return Ok(Vec::new(alloc));
+    }
+    first_references(alloc, traced, &cells[..shown])
+}
 
 // The path by a reference, if there is one, as a verdict shows it. The levels are there then.
 fn reference_path(

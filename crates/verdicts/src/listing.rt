@@ -1,10 +1,10 @@
 //! The list of the verdicts, in order.
-ghost use Rattle.std.specs.Prelude.{◌≡◌, ◌≤◌, length, IfOk};
+ghost use Rattle.assert_registry.specs.Laws.{StandFor};
 ghost use Rattle.graph_meaning.specs.Collecting.{first_with_paths, all_verdicts};
 ghost use Rattle.graph_meaning.specs.Heap.{Heap};
 ghost use Rattle.graph_meaning.specs.Roles.{AreRolesOf};
-ghost use Rattle.assert_registry.specs.Laws.{StandFor};
 ghost use Rattle.heap_trace.specs.Traces.{IsTraceOf};
+ghost use Rattle.std.specs.Prelude.{◌≡◌, ◌≤◌, length, IfOk};
 ghost use Rattle.verdict_list.specs.Listed.{most_verdicts};
 ghost use Rattle.verdicts.specs.Verdicts.{counted_in};
 
@@ -15,7 +15,7 @@ use heap_trace::Traced;
 use object_table::ObjectTable;
 use ownership_check::check_owners;
 use std::alloc::Global;
-use verdict_list::{first_verdicts, push_ownees};
+use verdict_list::{CountedHeap, all_verdicts};
 
 /// The violated assertions of a heap that was traced, in order: what is asserted dead, by id; the types over their limit, by name; what
 /// is asserted unshared, by id; and the ownees, by id. So many of the first carry their paths. The counts are those of the trace.
@@ -31,12 +31,12 @@ pub fn verdicts(
     ensures verdicts { IfOk result (λ v. (h : Heap) → StandFor table.now roles.now h → IsTraceOf table.now h traced.now → v ≡ first_with_paths paths (all_verdicts (counted_in table.now traced.now) h)) }
     ensures few { IfOk result (λ v. length v ≤ most_verdicts) }
 {
-    // what is true of every table
-    let cells = table.cells();
-    prove!(cells < u32::MAX);
     let check = check_owners(alloc, table, roles, traced)?;
     let counts = CountedTrace { traced };
-    let mut list = first_verdicts(alloc, table, roles, &counts, paths)?;
-    push_ownees(&mut list, table, roles, &check, paths)?;
-    Ok(list)
+    let counted = CountedHeap {
+        table,
+        roles,
+        counts: &counts,
+    };
+    all_verdicts(alloc, &counted, &check, paths)
 }

@@ -20,8 +20,8 @@ push_unshared-requires-clause-references g c =
     let (h, are) = c.requires.counts in (
       h,
       rw (c.deref-6.ensures.value, c.deref-7.ensures.value)
-          ((rw c.deref-3.ensures.value at c.in_ok-references.ensures.first) h are.stand
-          (λ x id held. ap (λ ks. get_or ks x false) c.kept.ensures ∙ are.counts.kept x id held)),
+          ((rw c.deref-3.ensures.value at c.in_ok-references.ensures.first) h
+          (record { stand = are.stand; keeps = λ x id held. ap (λ ks. get_or ks x false) c.kept.ensures ∙ are.counts.kept x id held })),
     )
 
 pub returns-clause-verdicts : goal.returns-clause-verdicts
@@ -33,11 +33,10 @@ returns-clause-verdicts g c h are =
     let r = c.args.counted.now.roles.now in
     let n = c.args.paths in
     let count = counted_in p t in
-    let keeps : KeepsTraced p h c.kept.result.now = λ x id held. ap (λ ks. get_or ks x false) c.kept.ensures ∙ trace.kept x id held in
     let places = c.in_ok-places.places.items in
     let counts = c.in_ok-counts.counts.items in
     let kinds = c.in_ok-kinds.kinds.items in
-    let shows : ShowsPaths _ h = record { roles = r; stand = stand; made = c.in_ok-levels.ensures.levels } in
+    let keeps : KeepsTraced p h c.kept.result.now = λ x id held. ap (λ ks. get_or ks x false) c.kept.ensures ∙ trace.kept x id held in
     let each = rw (c.deref-2.ensures.value) at c.in_ok-counts.ensures.each in
     let same = c.in_ok-counts.ensures.kinds ∙ c.deref.ensures.value in
     let says = all_say p r t places h trace counts each c.in_ok-counts.ensures.seen in
@@ -54,7 +53,8 @@ returns-clause-verdicts g c h are =
       ap length c.empty-list.ensures,
       ap length c.deref-4.ensures.value,
     )) (omega (arith, within, c.len-5.ensures, c.in_ok-counts.ensures.many, ap length c.deref.ensures.value))) h
-    stand keeps) k d within in
+    (record { stand = stand; keeps = keeps })) k d within in
+    let shows : ShowsPaths _ h = record { roles = r; stand = stand; made = c.in_ok-levels.ensures.levels } in
     let dead : GoesOn n c.empty-list.result (map (dead_verdict h) (violating_dead h)) c.push_dead.new.list =
     subst (λ vs. GoesOn n c.empty-list.result vs c.push_dead.new.list)
     (map_held (id_in p) (dead_verdict h) c.deref-4.result.now (violating_dead h)
@@ -71,7 +71,9 @@ returns-clause-verdicts g c h are =
     subst (λ vs. GoesOn n c.push_instances.new.list vs c.push_unshared.new.list)
     (map_held (id_in p) (unshared_verdict count h) c.deref-6.result.now (violating_unshared h)
     (ap (map (id_in p)) c.deref-6.ensures.value ∙ c.in_ok-unshared.ensures.violating h are))
-    (c.in_ok-push_unshared.ensures.verdicts h shows (rw (c.deref-6.ensures.value, c.deref-7.ensures.value) ((rw c.deref-3.ensures.value at c.in_ok-references.ensures.first) h stand keeps))) in
+    (c.in_ok-push_unshared.ensures.verdicts h shows
+    (rw (c.deref-6.ensures.value, c.deref-7.ensures.value)
+    ((rw c.deref-3.ensures.value at c.in_ok-references.ensures.first) h (record { stand = stand; keeps = keeps })))) in
     first_three n c.empty-list.result c.push_dead.new.list c.push_instances.new.list c.push_unshared.new.list count h c.empty-list.ensures dead instances unshared
 
 pub returns-clause-few : goal.returns-clause-few

@@ -102,6 +102,6 @@ pub returns-clause-held : goal.returns-clause-held
 returns-clause-held c = c.loop-number.invariant.held
 
 pub returns-clause-past : goal.returns-clause-past
-returns-clause-past c h stand trace =
-    counted_all c.args.traced.table.now c.args.traced.roles.now h c.loop-number.counts.items c.loop-number.places.items c.loop-number.number stand.table
-    (omega (arith, c.loop-number-test.false, c.live-number-end.ensures.count)) (c.loop-number.invariant.counted h stand trace)
+returns-clause-past c h known =
+    counted_all c.args.traced.table.now c.args.traced.roles.now h c.loop-number.counts.items c.loop-number.places.items c.loop-number.number known.stand.table
+    (omega (arith, c.loop-number-test.false, c.live-number-end.ensures.count)) (c.loop-number.invariant.counted h known.stand known.keeps)

@@ -36,7 +36,7 @@ pub loop-place-preserved : goal.loop-place-preserved
 loop-place-preserved g c = rw c.in_ok-push.ensures.ok (record {
   gone = λ h shows first.
       let here =
-          unshared_verdict (counted_in c.args.plain.table.now (g.T.HeapCounts.counts c.args.traced.now)) h (id_at c.args.plain.table.now.cells (get_or c.args.shared.cells.now c.loop-place.place 0)) in
+      unshared_verdict (counted_in c.args.plain.table.now (g.T.HeapCounts.counts c.args.traced.now)) h (id_at c.args.plain.table.now.cells (get_or c.args.shared.cells.now c.loop-place.place 0)) in
       let shown : is_some c.at_place-found.result ≡ nat_lt (length c.loop-place.list) c.args.plain.most = ap is_some c.at_place-found.ensures
       ∙ is_some-slice_get c.args.shared.references.now c.loop-place.place
       ∙ shown_here c.loop-place.place (length c.args.shared.cells.now) (length c.args.shared.references.now) c.args.plain.most (length c.args.list.now)
