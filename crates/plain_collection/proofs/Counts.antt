@@ -48,18 +48,6 @@ counted-more p before after counts cell id r placed held within more are c x at 
         ∙ are c x at
         ∙ ap length (sym (more x ∙ ap (λ b. before x ++ cond b (r ∷ []) []) (false_from_ne_true (id == x) (λ e. ne (eqb-true id x e))) ∙ append-nil (before x)))
 
--- one more is at most one more
-pub most-more : (counts : List ℕ) (cell most : ℕ) → cell < length counts → AtMost most counts → AtMost (most + 1) (set counts cell (get_or counts cell 0 + 1))
-most-more counts cell most within few c = ⊎_elim same other (cases_eq c cell)
-  where
-    same : c ≡ cell → get_or (set counts cell (get_or counts cell 0 + 1)) c 0 ≤ most + 1
-    same e =
-        let is = ap (λ k. get_or (set counts cell (get_or counts cell 0 + 1)) k 0) e ∙ get_or-set_same counts cell (get_or counts cell 0 + 1) 0 within in
-        omega (arith, is, few cell)
-
-    other : c ≢ cell → get_or (set counts cell (get_or counts cell 0 + 1)) c 0 ≤ most + 1
-    other ne = let is = get_or-set_other counts cell c (get_or counts cell 0 + 1) 0 ne in omega (arith, is, few c)
-
 -- at most so many are at most more
 pub most-weaker : (counts : List ℕ) (most more : ℕ) → most ≤ more → AtMost most counts → AtMost more counts
 most-weaker counts most more le few c = let at = few c in omega arith

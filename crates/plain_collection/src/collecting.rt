@@ -1,8 +1,8 @@
 //! A collection: what is traced is found, the assertions are checked, and what is not traced is freed.
-ghost use Rattle.std.specs.Prelude.{◌≡◌, ◌≤◌, length, IfOk, OnOk, OnErr};
 ghost use Rattle.graph_meaning.specs.Collecting.{after_collection, collection_of};
-ghost use Rattle.verdict_list.specs.Listed.{most_verdicts};
 ghost use Rattle.plain_collection.specs.Verdicts.{plain_rules};
+ghost use Rattle.std.specs.Prelude.{◌≡◌, ◌≤◌, length, IfOk, OnOk, OnErr};
+ghost use Rattle.verdict_list.specs.Listed.{most_verdicts};
 
 use crate::plain_trace::PlainTrace;
 use graph_meaning::Collection;

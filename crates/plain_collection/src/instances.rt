@@ -1,7 +1,7 @@
 //! How many objects of each type are traced.
-ghost use Rattle.std.specs.Prelude.{◌≡◌, ◌+◌, ◌-◌, ◌^◌, ◌<◌, length, replicate, slice_index, slice_set, IfOk};
 ghost use Rattle.graph_meaning.specs.Heap.{Heap};
 ghost use Rattle.reference_search.specs.References.{KeepsTraced};
+ghost use Rattle.std.specs.Prelude.{◌≡◌, ◌+◌, ◌-◌, ◌^◌, ◌<◌, length, replicate, slice_index, slice_set, IfOk};
 ghost use Rattle.verdict_list.specs.Counts.{CountsInstances};
 
 use heap_base::OutOfMemory;

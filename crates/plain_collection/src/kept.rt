@@ -1,10 +1,10 @@
 //! Which objects are traced: those to which owners or roots lead.
-ghost use Rattle.std.specs.Prelude.{◌≡◌, ◌<◌, ℕ, false, length, slice_index_or, IfOk};
 ghost use Rattle.assert_registry.specs.Laws.{StandFor};
 ghost use Rattle.graph_meaning.specs.Heap.{Heap};
 ghost use Rattle.graph_meaning.specs.Roles.{AreRolesOf};
-ghost use Rattle.reference_search.specs.References.{KeepsTraced};
 ghost use Rattle.plain_collection.specs.Counting.{is_reached_in};
+ghost use Rattle.reference_search.specs.References.{KeepsTraced};
+ghost use Rattle.std.specs.Prelude.{◌≡◌, ◌<◌, ℕ, false, length, slice_index_or, IfOk};
 
 use graph_meaning::Roles;
 use heap_base::OutOfMemory;

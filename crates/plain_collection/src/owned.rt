@@ -1,8 +1,8 @@
 //! The ownees of a heap.
-ghost use Rattle.std.specs.Prelude.{◌≡◌, ◌<◌, length, filter, IfOk};
 ghost use Rattle.graph_meaning.specs.Roles.{cells_of, owner_in, has_owner};
 ghost use Rattle.object_table.specs.Placed.{IsPlaced};
 ghost use Rattle.ownee_check.specs.Cells.{cells_by_id};
+ghost use Rattle.std.specs.Prelude.{◌≡◌, ◌<◌, length, filter, IfOk};
 
 use graph_meaning::Roles;
 use heap_base::OutOfMemory;

@@ -1,9 +1,9 @@
 //! What is counted in a heap on one thread.
-ghost use Rattle.std.specs.Prelude.{◌≡◌, length, IfOk};
 ghost use Rattle.assert_registry.specs.Laws.{StandFor};
 ghost use Rattle.graph_meaning.specs.Heap.{Heap};
 ghost use Rattle.graph_meaning.specs.Roles.{AreRolesOf};
 ghost use Rattle.plain_collection.specs.PlainTraces.{counts_of, IsPlainTraceOf};
+ghost use Rattle.std.specs.Prelude.{◌≡◌, length, IfOk};
 
 use crate::instances::count_instances;
 use crate::kept::traced_cells;

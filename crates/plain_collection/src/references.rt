@@ -1,13 +1,13 @@
 //! How many references there are to each object.
-ghost use Rattle.std.specs.Prelude.{◌≡◌, ◌+◌, ◌-◌, ◌*◌, ◌^◌, ◌<◌, ◌≤◌, ℕ, Bool, [], length, Some, IsSome, IfOk, replicate, slice_index, slice_set};
 ghost use Rattle.assert_registry.specs.Laws.{StandFor};
 ghost use Rattle.graph_meaning.specs.Assertions.{roots_to, slots_to, reference_count};
 ghost use Rattle.graph_meaning.specs.Heap.{Heap};
 ghost use Rattle.graph_meaning.specs.Roles.{AreRolesOf, cells_of, id_at};
 ghost use Rattle.object_table.specs.Placed.{id_in, IsPlaced, IsSound};
+ghost use Rattle.plain_collection.specs.Counting.{AtMost, CountsLists, CountsMore};
 ghost use Rattle.reference_search.specs.Prefixes.{ScannedByCell, scanned_slots};
 ghost use Rattle.reference_search.specs.References.{KeepsTraced};
-ghost use Rattle.plain_collection.specs.Counting.{AtMost, CountsLists, CountsMore};
+ghost use Rattle.std.specs.Prelude.{◌≡◌, ◌+◌, ◌-◌, ◌*◌, ◌^◌, ◌<◌, ◌≤◌, ℕ, Bool, [], length, Some, IsSome, IfOk, replicate, slice_index, slice_set};
 
 use graph_meaning::Roles;
 use heap_base::OutOfMemory;

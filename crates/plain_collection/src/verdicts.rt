@@ -1,12 +1,12 @@
 //! The list of the verdicts, in order.
-ghost use Rattle.std.specs.Prelude.{◌≡◌, ◌≤◌, length, IfOk};
 ghost use Rattle.assert_registry.specs.Laws.{StandFor};
 ghost use Rattle.graph_meaning.specs.Assertions.{reference_count};
 ghost use Rattle.graph_meaning.specs.Collecting.{first_with_paths, all_verdicts};
 ghost use Rattle.graph_meaning.specs.Heap.{Heap};
 ghost use Rattle.graph_meaning.specs.Roles.{AreRolesOf};
-ghost use Rattle.verdict_list.specs.Listed.{most_verdicts};
 ghost use Rattle.plain_collection.specs.PlainTraces.{IsPlainTraceOf};
+ghost use Rattle.std.specs.Prelude.{◌≡◌, ◌≤◌, length, IfOk};
+ghost use Rattle.verdict_list.specs.Listed.{most_verdicts};
 
 use crate::owned::ownees_of;
 use crate::plain_trace::PlainTrace;
@@ -15,7 +15,7 @@ use heap_base::OutOfMemory;
 use object_table::ObjectTable;
 use ownee_check::check_ownees;
 use std::alloc::Global;
-use verdict_list::{first_verdicts, push_ownees};
+use verdict_list::{CountedHeap, all_verdicts};
 
 impl PlainTrace {
     /// The violated assertions of the heap that was traced, in order: what is asserted dead, by id; the types over their limit, by
@@ -37,8 +37,11 @@ impl PlainTrace {
         prove!(cells < u32::MAX);
         let ownees = ownees_of(alloc, table, roles)?;
         let check = check_ownees(alloc, table, roles, ownees)?;
-        let mut list = first_verdicts(alloc, table, roles, self, paths)?;
-        push_ownees(&mut list, table, roles, &check, paths)?;
-        Ok(list)
+        let counted = CountedHeap {
+            table,
+            roles,
+            counts: self,
+        };
+        all_verdicts(alloc, &counted, &check, paths)
     }
 }

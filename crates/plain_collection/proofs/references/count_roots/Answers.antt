@@ -4,7 +4,8 @@ use Rattle.graph_meaning.specs.Assertions.{by_root}
 use Rattle.object_table.proofs.ObjectsByCell.{held-within}
 use Rattle.reference_search.proofs.Listing.{by_roots, nth_root, nth_root-is, nth_root-more}
 use Rattle.plain_collection.specs.Counting.{AtMost, CountsLists}
-use Rattle.plain_collection.proofs.Counts.{counted-more, most-more}
+use Rattle.verdict_list.proofs.Counting.{few_more}
+use Rattle.plain_collection.proofs.Counts.{counted-more}
 use Rattle.plain_collection.proofs.references.count_roots.Goals as goal
 
 pub loop-root-preserved : goal.loop-root-preserved
@@ -26,7 +27,7 @@ loop-root-preserved c =
           subst (CountsLists p (by_roots (take (n + 1) roots))) (sym c.count_one.ensures)
           (counted-more p (by_roots (take n roots)) (by_roots (take (n + 1) roots)) counts cell root.1 (by_root root.0) c.requires.placed held inside more (was.counts begun));
       each = ap length c.count_one.ensures ∙ length-set counts cell _ ∙ was.each;
-      few = subst (AtMost (n + 1)) (sym c.count_one.ensures) (most-more counts cell n inside was.few);
+      few = subst (AtMost (n + 1)) (sym c.count_one.ensures) (few_more counts cell n inside was.few);
     }
 
 pub count_one-requires-clause-cell : goal.count_one-requires-clause-cell

@@ -8,7 +8,8 @@ use Rattle.object_table.specs.Placed.{slots_in, slot_in}
 use Rattle.object_table.proofs.ObjectsByCell.{held-within, target-held, no-edge}
 use Rattle.reference_search.proofs.Listing.{with_slots, slot-more, slot-none, slots-all}
 use Rattle.plain_collection.specs.Counting.{AtMost, CountsLists}
-use Rattle.plain_collection.proofs.Counts.{counts-same, counted-more, most-more, most-weaker}
+use Rattle.verdict_list.proofs.Counting.{few_more}
+use Rattle.plain_collection.proofs.Counts.{counts-same, counted-more, most-weaker}
 use Rattle.plain_collection.proofs.references.count_slots.Goals as goal
 use Rattle.plain_collection.proofs.references.count_slots.Goals.{in-Some, in_default}
 
@@ -51,7 +52,7 @@ loop-slot-preserved c =
             each = ap length w.count_one.ensures ∙ length-set counts w.in-Some.target _ ∙ was.each;
             few = λ most begun.
                 subst (AtMost (most + (slot + 1))) (sym w.count_one.ensures)
-                (most-weaker _ (most + slot + 1) (most + (slot + 1)) (omega arith) (most-more counts w.in-Some.target (most + slot) inside (was.few most begun)));
+                (most-weaker _ (most + slot + 1) (most + (slot + 1)) (omega arith) (few_more counts w.in-Some.target (most + slot) inside (was.few most begun)));
           })
       | in_default w ↦
           let none = no-edge (edge_of (slot_in p c.args.holder slot)) (sym (sym (ap is_some w.in_default.is) ∙ c.slot_at.ensures.in_a_cell)) in
