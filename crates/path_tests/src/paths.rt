@@ -1,10 +1,10 @@
 //! Paths: a worked example of each call that gives one.
-ghost use Rattle.std.specs.Prelude.{◌<◌, length, IfSome, IsSome};
 ghost use Rattle.graph_meaning.specs.Heap.{edge_of};
 ghost use Rattle.graph_meaning.specs.Roles.{RoleTable, AreRolesOf};
 ghost use Rattle.object_paths.specs.PlainPaths.{ArePlainLevels};
 ghost use Rattle.object_table.specs.Placed.{slots_in, slot_in};
 ghost use Rattle.path_cert.specs.Levels.{AreLevelsIn};
+ghost use Rattle.std.specs.Prelude.{◌<◌, length, IfSome, IsSome};
 
 use graph_meaning::{PathFrom, PathView, Roles, is_path};
 use heap_base::OutOfMemory;

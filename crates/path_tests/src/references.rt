@@ -1,11 +1,11 @@
 //! The first two references to an object.
-ghost use Rattle.std.specs.Prelude.{length};
 ghost use Rattle.graph_meaning.specs.Roles.{AreRolesOf};
+ghost use Rattle.std.specs.Prelude.{length};
 
 use graph_meaning::Roles;
 use object_table::ObjectTable;
 use path_heaps::{LEAF, PAIR, TWICE};
-use reference_search::{CellReference, first_references};
+use reference_search::{CellReference, TracedTable, first_references};
 use std::alloc::Global;
 use std::test::Fail;
 use test_support::{SampleHeap, cell, flags, id_or_zero, roles_in, table_of};
@@ -68,7 +68,12 @@ fn references_to(
 {
     let kept = flags(alloc, table, case.traced, true)?;
     let cell = cell(table, case.object).ok_or("the object isn't live")?;
-    let found = first_references(alloc, table, roles, kept.as_slice(), &[cell])?;
+    let traced = TracedTable {
+        table,
+        roles,
+        kept: kept.as_slice(),
+    };
+    let found = first_references(alloc, traced, &[cell])?;
     let found = found.first().ok_or("nothing was asked")?;
     Ok([
         found.first.map(|reference| by_id(table, reference)),
