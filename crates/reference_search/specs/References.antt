@@ -9,7 +9,7 @@ use Rattle.assert_registry.specs.Laws.{StandFor}
 use Rattle.reference_search.specs.declared.cell_reference.CellReference.{CellReference}
 use Rattle.reference_search.specs.declared.cell_reference.CellReference.TheVariants.{Root, Slot}
 use Rattle.reference_search.specs.declared.cell_reference.FirstReferences.{FirstReferences}
-use Rattle.reference_search.specs.declared.search.TracedTable.{TracedTable}
+use Rattle.reference_search.specs.declared.traced.TracedTable.{TracedTable}
 
 -- the reference as a heap has it: a root by its name, or a slot by the id of its object and its number
 abbrev pub reference_of : Placed → CellReference → Reference

@@ -7,7 +7,8 @@ ghost use Rattle.reference_search.specs.References.{AreFirstOf, IsTracedTableOf}
 ghost use Rattle.std.specs.Prelude.{◌≡◌, length, All, IfOk, IsSome};
 
 use crate::cell_reference::FirstReferences;
-use crate::search::{Search, TracedTable};
+use crate::search::Search;
+use crate::traced::TracedTable;
 use heap_base::OutOfMemory;
 use std::alloc::Global;
 

@@ -4,7 +4,8 @@
 mod cell_reference;
 mod first;
 mod search;
+mod traced;
 
 pub use cell_reference::{CellReference, FirstReferences};
 pub use first::first_references;
-pub use search::{TracedTable, is_scanned};
+pub use traced::{TracedTable, is_scanned};

@@ -1,30 +1,18 @@
 //! The search for first references under way.
 ghost use Rattle.graph_meaning.specs.Assertions.{roots_to, slots_to};
-ghost use Rattle.graph_meaning.specs.Reach.{has_id};
 ghost use Rattle.graph_meaning.specs.Roles.{cells_of, id_at};
 ghost use Rattle.heap_base.specs.Counting.{IsOnce};
 ghost use Rattle.object_table.specs.Placed.{Placed, id_in, IsPlaced};
 ghost use Rattle.reference_search.specs.Findings.{finding_in};
 ghost use Rattle.reference_search.specs.Prefixes.{FindsFirst, FindsMore, only_to, scanned_slots, ScannedByCell};
 ghost use Rattle.reference_search.specs.References.{reference_of, RefersTo};
-ghost use Rattle.std.specs.Prelude.{◌≡◌, ◌<◌, ◌||◌, [], ℕ, List, Bool, false, length, All, IfOk, IsSome, None, Some, slice_get, slice_index_or};
+ghost use Rattle.std.specs.Prelude.{◌≡◌, ◌<◌, [], ℕ, List, Bool, length, All, IfOk, IsSome, None, Some, slice_get, slice_index_or};
 
 use crate::cell_reference::{CellReference, FirstReferences, NO_REFERENCES};
-use graph_meaning::Roles;
+use crate::traced::{TracedTable, is_scanned};
 use heap_base::OutOfMemory;
 use object_table::ObjectTable;
 use std::alloc::Global;
-
-/// A table with its roles, of which it is known what is traced.
-#[derive(Clone, Copy)]
-pub struct TracedTable<'a> {
-    /// The table.
-    pub table: &'a ObjectTable,
-    /// What is asserted of its objects.
-    pub roles: &'a Roles,
-    /// For each cell whether it holds a traced object.
-    pub kept: &'a [bool],
-}
 
 // For each cell the place of its object among the asked ones, if it is one of them; and for each asked object the first
 // references to it so far.
@@ -115,15 +103,6 @@ impl Search {
         let Search { places: _, found } = self;
         found
     }
-}
-
-/// Whether the slots of the object in a cell count: those of traced objects and of owners do.
-pub fn is_scanned(roles: &Roles, kept: &[bool], cell: u32) -> bool
-    requires roles { cell < cells_of roles.now }
-    requires kept { cell < length kept.now }
-    ensures { result ≡ (slice_index_or kept.now cell false || has_id roles.now.owners cell) }
-{
-    kept[cell as usize] || roles.is_owner(cell)
 }
 
 // For each cell its place among the asked ones, if it is one of them.

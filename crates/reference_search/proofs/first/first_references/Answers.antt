@@ -1,7 +1,6 @@
 use Rattle.std.proofs.Common.{◌≡◌, ◌||◌, length, Some, ap, subst, ◌∙◌}
 use Rattle.std.specs.List.{slice_get}
 use Rattle.graph_meaning.specs.Assertions.{references, roots_to, is_traced, is_owner}
-use Rattle.graph_meaning.specs.Roles.{id_at}
 use Rattle.reference_search.specs.Findings.{finding_in}
 use Rattle.reference_search.proofs.Listing.{finds-same, references-are, scanned-by_cell}
 use Rattle.reference_search.proofs.first.first_references.Goals as goal
