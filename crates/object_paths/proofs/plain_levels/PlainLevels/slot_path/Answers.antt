@@ -16,7 +16,8 @@ use Rattle.object_paths.proofs.PlainWays.{by-first, no-first, by-second, by-star
 use Rattle.object_paths.proofs.plain_levels.PlainLevels.slot_path.Goals as goal
 
 -- the levels from the roots and from the owners are those of the plain levels
-module _ (p : Placed) (r : RoleTable) (plain : PlainTable) (levels : ArePlainLevels p r plain) (from_roots from_owners : LevelTable) (are : (let l : PlainTable = record { roots = from_roots; owners = from_owners } in l) ≡ plain) where
+module _ (p : Placed) (r : RoleTable) (plain : PlainTable) (levels : ArePlainLevels p r plain) (from_roots from_owners : LevelTable)
+    (are : (let l : PlainTable = record { roots = from_roots; owners = from_owners } in l) ≡ plain) where
   at_roots : AreLevelsOf p (search_of p r Roots (none_shut p)) from_roots
   at_roots = subst (λ (l : LevelTable). AreLevelsOf p (search_of p r Roots (none_shut p)) l) (sym (ap (λ (l : PlainTable). l.roots) are)) levels.roots
 
