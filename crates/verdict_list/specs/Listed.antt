@@ -1,5 +1,5 @@
 -- How a list of verdicts goes on, and by what its paths are shown.
-use Rattle.std.specs.Prelude.{◌≡◌, ℕ, ◌+◌, ◌*◌, List, ◌++◌, map, Bool, true, false, Some, IfSome, unwrap_or, slice_get, option_map}
+use Rattle.std.specs.Prelude.{◌≡◌, ℕ, ◌+◌, ◌*◌, List, ◌++◌, map, Bool, true, false, IfSome, unwrap_or, slice_get, option_map}
 use Rattle.heap_base.specs.declared.limits.TheConstants.{MOST_OBJECTS, MOST_KINDS}
 use Rattle.graph_meaning.specs.declared.collection.Verdict.{Verdict}
 use Rattle.graph_meaning.specs.declared.paths.Shown.{Shown}
@@ -14,7 +14,9 @@ use Rattle.assert_registry.specs.Assertions.{owner_of}
 use Rattle.assert_registry.specs.Laws.{StandFor}
 use Rattle.object_paths.specs.PlainPaths.{ArePlainLevels}
 use Rattle.reference_search.specs.References.{AreFirstOf}
+use Rattle.ownee_check.specs.Ownership.{AreViolating}
 use Rattle.verdict_list.specs.declared.instances.KindCount.{KindCount}
+use Rattle.verdict_list.specs.declared.ownees.CheckedTable.{CheckedTable}
 use Rattle.verdict_list.specs.declared.shown_paths.PlainPaths.{PlainPaths}
 use Rattle.verdict_list.specs.declared.unshared.SharedObjects.{SharedObjects}
 use Rattle.verdict_list.specs.Counts.{CountTable, counted_in}
@@ -52,6 +54,11 @@ pub record ShowsPaths (plain : PlainPaths) (h : Heap) : Type 0 where
   pub roles : RoleTable
   pub stand : StandFor plain.table.now roles h
   pub made : IfSome plain.levels.now (ArePlainLevels plain.table.now roles)
+
+-- The heap is that of the table and the roles, and the ownees of the check are those that violate.
+pub record ChecksHeap (c : CheckedTable) (h : Heap) : Type 0 where
+  pub stand : StandFor c.table.now c.roles.now h
+  pub violating : AreViolating c.table.now h c.check.now
 
 -- the first references to as many of these objects as there are entries for
 abbrev pub KnowsFirst : PlainPaths → Heap → SharedObjects → Type 0

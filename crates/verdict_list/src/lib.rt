@@ -7,6 +7,7 @@ mod instances;
 mod listing;
 mod over_limit;
 mod ownees;
+mod owner;
 mod past_limit;
 mod shown_paths;
 mod unshared;

@@ -18,7 +18,7 @@ push_ownees-requires-clause-room g c =
     omega (arith, ownees, sound.limits.objects, c.in_ok-list.ensures.few)
 
 pub push_ownees-requires-clause-check : goal.push_ownees-requires-clause-check
-push_ownees-requires-clause-check g c = let (h, are, violating) = c.requires.counts in (h, are.stand, violating)
+push_ownees-requires-clause-check g c = let (h, are, violating) = c.requires.counts in (h, record { stand = are.stand; violating = violating })
 
 pub returns-clause-verdicts : goal.returns-clause-verdicts
 returns-clause-verdicts g c h are violating =
@@ -28,7 +28,7 @@ returns-clause-verdicts g c h are violating =
     subst (λ vs. GoesOn n c.in_ok-list.list vs c.push_ownees.new.list)
     (map_pairs (ownedby_verdict h) (owned_pair p h) c.args.check.now.ownees (violating_ownees h)
     (ownees-are p c.args.counted.now.roles.now h c.args.check.now are.stand violating))
-    (c.in_ok-push_ownees.ensures.verdicts h are.stand violating) in
+    (c.in_ok-push_ownees.ensures.verdicts h (record { stand = are.stand; violating = violating })) in
     whole n c.in_ok-list.list c.push_ownees.new.list (counted_in p (g.T.HeapCounts.counts c.args.counted.now.counts.now)) h (c.in_ok-list.ensures.verdicts h are) ownees
 
 pub returns-clause-few : goal.returns-clause-few

@@ -11,23 +11,31 @@ use Rattle.verdict_list.proofs.ownees.ownee_verdict.Goals as goal
 
 pub object_kind-requires : goal.object_kind-requires
 object_kind-requires c =
-    let (h, stand, violating) = c.requires.check in
+    let (h, are) = c.requires.check in
+    let stand = are.stand in
+    let violating = are.violating in
     let (o, held, owned) = ownee_at c.args.checked.table.now c.args.checked.roles.now h c.args.checked.check.now stand violating c.args.cell c.requires.ownee in
     ap is_some held
 
 pub object_id-id-requires : goal.object_id-id-requires
 object_id-id-requires c =
-    let (h, stand, violating) = c.requires.check in
+    let (h, are) = c.requires.check in
+    let stand = are.stand in
+    let violating = are.violating in
     let (o, held, owned) = ownee_at c.args.checked.table.now c.args.checked.roles.now h c.args.checked.check.now stand violating c.args.cell c.requires.ownee in
     ap is_some held
 
 pub owner_of-owner-requires-clause-owned : goal.owner_of-owner-requires-clause-owned
 owner_of-owner-requires-clause-owned c =
-    let (h, stand, violating) = c.requires.check in
+    let (h, are) = c.requires.check in
+    let stand = are.stand in
+    let violating = are.violating in
     is_owned c.args.checked.table.now c.args.checked.roles.now h c.args.checked.check.now stand violating c.args.cell c.requires.ownee
 
 pub returns : goal.returns
-returns c h stand violating =
+returns c h are =
+    let stand = are.stand in
+    let violating = are.violating in
     let p = c.args.checked.table.now in
     let cell = c.args.cell in
     let (o, held, owned) = ownee_at p c.args.checked.roles.now h c.args.checked.check.now stand violating cell c.requires.ownee in

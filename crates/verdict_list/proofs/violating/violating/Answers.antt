@@ -1,11 +1,12 @@
-use Rattle.std.proofs.Common.{◌≡◌, ℕ, ◌<◌, ◌∷◌, [], length, true, false, map, Some, ap, sym, subst, ◌∙◌, arith}
+use Rattle.std.proofs.Common.{◌≡◌, ℕ, ◌<◌, ◌∷◌, [], length, map, Some, ap, sym, subst, ◌∙◌, arith}
 use Rattle.std.specs.List.{filter, slice_get}
 use Rattle.std.proofs.lemmas.List.{length-map, length-append}
-use Rattle.graph_meaning.specs.Heap.{Table, ids}
+use Rattle.graph_meaning.specs.Heap.{Heap, Table, ids}
 use Rattle.graph_meaning.specs.Laws.{IdsRise}
 use Rattle.object_table.specs.Placed.{id_in}
 use Rattle.path_cert.proofs.HeldObjects.{held-within}
-use Rattle.verdict_list.specs.Violating.{is_violated_by, violating}
+use Rattle.verdict_list.specs.Counts.{CountsHeap}
+use Rattle.verdict_list.specs.Violating.{is_violated_by, is_violated_in, violating}
 use Rattle.verdict_list.proofs.ByIds.{violating-is, violated-agrees, gather_one, pass_one, gathered, nth_id, all_taken, once_held, violating-rise}
 use Rattle.verdict_list.proofs.violating.violating.Given as given
 use Rattle.verdict_list.proofs.violating.violating.Goals as goal
@@ -30,6 +31,13 @@ module _ (g : given.Over) (c : After-nth_cell-cell g) where
   within : c.nth_cell-cell.result < length c.args.counted.now.table.now.cells
   within = held-within c.args.counted.now.table.now c.nth_cell-cell.result nth.0 nth.1
 
+  -- what the roles and the counts say of the cell, the heap says of its object
+  says : (h : Heap) → CountsHeap c.args.counted.now.table.now c.args.counted.now.roles.now (g.T.HeapCounts.counts c.args.counted.now.counts.now) h →
+      is_violated_by c.args.assertion h nth.0 ≡ is_violated_in c.args.assertion c.args.counted.now.roles.now (g.T.HeapCounts.counts c.args.counted.now.counts.now) c.nth_cell-cell.result
+  says h are =
+      sym (violated-agrees c.args.counted.now.table.now c.args.counted.now.roles.now (g.T.HeapCounts.counts c.args.counted.now.counts.now) h
+      are.stand are.counts c.args.assertion c.nth_cell-cell.result nth.0 nth.1)
+
 pub is_violated-requires-clause-roles : goal.is_violated-requires-clause-roles
 is_violated-requires-clause-roles g c =
     omega (arith, within g (goal.at.is_violated-requires-clause-roles g c).After-nth_cell-cell, c.requires.roles.many_cells)
@@ -48,10 +56,7 @@ loop-number-preserved g c =
     elim c.if-is_violated.branch [
       | then-is_violated+in_ok-push w ↦ rw (w.cells-is, w.in_ok-push.ensures.items) (record {
         gathered = λ h are.
-            let passes : is_violated_by c.args.assertion h id ≡ true =
-            sym (violated-agrees c.args.counted.now.table.now c.args.counted.now.roles.now (g.T.HeapCounts.counts c.args.counted.now.counts.now) h
-            are.stand are.counts c.args.assertion c.nth_cell-cell.result id held)
-            ∙ sym c.is_violated.ensures ∙ w.if-is_violated.true in
+            let passes = says g (goal.at.loop-number-preserved g c).After-nth_cell-cell h are ∙ sym c.is_violated.ensures ∙ w.if-is_violated.true in
             gather_one (id_in c.args.counted.now.table.now) (is_violated_by c.args.assertion h) (map Some (violating c.args.assertion h))
             (ids c.args.counted.now.table.now.table) c.loop-number.cells.items c.loop-number.number c.nth_cell-cell.result id at held passes
             (c.loop-number.invariant.gathered h are);
@@ -59,10 +64,7 @@ loop-number-preserved g c =
       })
       | else-is_violated w ↦ rw w.cells-is (record {
         gathered = λ h are.
-            let fails : is_violated_by c.args.assertion h id ≡ false =
-            sym (violated-agrees c.args.counted.now.table.now c.args.counted.now.roles.now (g.T.HeapCounts.counts c.args.counted.now.counts.now) h
-            are.stand are.counts c.args.assertion c.nth_cell-cell.result id held)
-            ∙ sym c.is_violated.ensures ∙ w.if-is_violated.false in
+            let fails = says g (goal.at.loop-number-preserved g c).After-nth_cell-cell h are ∙ sym c.is_violated.ensures ∙ w.if-is_violated.false in
             pass_one (id_in c.args.counted.now.table.now) (is_violated_by c.args.assertion h) (map Some (violating c.args.assertion h))
             (ids c.args.counted.now.table.now.table) c.loop-number.cells.items c.loop-number.number id at fails (c.loop-number.invariant.gathered h are);
         few = omega (arith, c.loop-number.invariant.few);
