@@ -1,5 +1,5 @@
 -- References and instances, counted one after another.
-use Rattle.std.proofs.Common.{◌≡◌, ◌≢◌, ℕ, ◌+◌, ◌<◌, ◌≤◌, Bool, ◌||◌, cond, ⊎_elim, List, [], ◌∷◌, ◌++◌, length, filter, get_or, replicate, set}
+use Rattle.std.proofs.Common.{◌≡◌, ◌≢◌, ℕ, ◌+◌, ◌<◌, ◌≤◌, ◌||◌, cond, ⊎_elim, List, [], ◌∷◌, ◌++◌, length, filter, get_or, replicate, set}
 use Rattle.std.proofs.Common.{Option, Some, sym, ap, ◌∙◌, arith, append-nil, eqb-true, eq-eqb}
 use Rattle.std.specs.Prelude.{◌==◌}
 use Rattle.std.specs.List.{slice_get}

@@ -11,6 +11,7 @@ use crate::references::count_references;
 use graph_meaning::Roles;
 use heap_base::OutOfMemory;
 use object_table::ObjectTable;
+use reference_search::TracedTable;
 use std::alloc::Global;
 use verdict_list::HeapCounts;
 
@@ -32,10 +33,15 @@ impl PlainTrace {
     ) -> Result<PlainTrace, OutOfMemory>
         requires roles { AreRolesOf table.now.cells (length table.now.table.kinds) roles.now }
         ensures each { IfOk result (λ t. length t.kept.items ≡ length table.now.cells) }
-        ensures trace { IfOk result (λ t. (h : Heap) → StandFor table.now roles.now h → IsPlainTraceOf table.now h t) }
+        ensures trace { IfOk result (λ t. (h : Heap) → StandFor table.now roles.now h → IsPlainTraceOf table.now roles.now h t) }
     {
         let kept = traced_cells(alloc, table, roles)?;
-        let references = count_references(alloc, table, roles, kept.as_slice())?;
+        let traced = TracedTable {
+            table,
+            roles,
+            kept: kept.as_slice(),
+        };
+        let references = count_references(alloc, traced)?;
         let instances = count_instances(alloc, table, kept.as_slice())?;
         Ok(PlainTrace {
             references,

@@ -1,33 +1,31 @@
 //! How many references there are to each object.
-ghost use Rattle.assert_registry.specs.Laws.{StandFor};
 ghost use Rattle.graph_meaning.specs.Assertions.{roots_to, slots_to, reference_count};
 ghost use Rattle.graph_meaning.specs.Heap.{Heap};
 ghost use Rattle.graph_meaning.specs.Roles.{AreRolesOf, cells_of, id_at};
 ghost use Rattle.object_table.specs.Placed.{id_in, IsPlaced, IsSound};
 ghost use Rattle.plain_collection.specs.Counting.{AtMost, CountsLists, CountsMore};
 ghost use Rattle.reference_search.specs.Prefixes.{ScannedByCell, scanned_slots};
-ghost use Rattle.reference_search.specs.References.{KeepsTraced};
+ghost use Rattle.reference_search.specs.References.{IsTracedTableOf};
 ghost use Rattle.std.specs.Prelude.{◌≡◌, ◌+◌, ◌-◌, ◌*◌, ◌^◌, ◌<◌, ◌≤◌, ℕ, Bool, [], length, Some, IsSome, IfOk, replicate, slice_index, slice_set};
 
 use graph_meaning::Roles;
 use heap_base::OutOfMemory;
 use object_table::ObjectTable;
-use reference_search::is_scanned;
+use reference_search::{TracedTable, is_scanned};
 use std::alloc::Global;
 
 /// For each cell how many references there are to its object: by roots, and by slots of traced objects and of owners. It goes once over
 /// the roots and these slots.
 pub(crate) fn count_references(
     alloc: Global,
-    table: &ObjectTable,
-    roles: &Roles,
-    kept: &[bool],
+    traced: TracedTable<'_>,
 ) -> Result<Vec<u64>, OutOfMemory>
-    requires roles { AreRolesOf table.now.cells (length table.now.table.kinds) roles.now }
-    requires kept { length kept.now ≡ length table.now.cells }
-    ensures each { IfOk result (λ counts. length counts.items ≡ length table.now.cells) }
-    ensures counts { IfOk result (λ counts. (h : Heap) → StandFor table.now roles.now h → KeepsTraced table.now h kept.now → (cell id : ℕ) → id_in table.now cell ≡ Some id → slice_index counts.items cell ≡ reference_count h id) }
+    requires roles { AreRolesOf traced.table.now.cells (length traced.table.now.table.kinds) traced.roles.now }
+    requires kept { length traced.kept.now ≡ length traced.table.now.cells }
+    ensures each { IfOk result (λ counts. length counts.items ≡ length traced.entry.table.now.cells) }
+    ensures counts { let t = traced.entry in IfOk result (λ counts. (h : Heap) → IsTracedTableOf h t → (cell id : ℕ) → id_in t.table.now cell ≡ Some id → slice_index counts.items cell ≡ reference_count h id) }
 {
+    let TracedTable { table, roles, kept } = traced;
     let mut counts = no_counts(alloc, table.cells())?;
     count_roots(table, &mut counts);
     count_objects(table, roles, kept, &mut counts);

@@ -1,5 +1,4 @@
 //! The list of the verdicts, in order.
-ghost use Rattle.assert_registry.specs.Laws.{StandFor};
 ghost use Rattle.graph_meaning.specs.Assertions.{reference_count};
 ghost use Rattle.graph_meaning.specs.Collecting.{first_with_paths, all_verdicts};
 ghost use Rattle.graph_meaning.specs.Heap.{Heap};
@@ -28,8 +27,8 @@ impl PlainTrace {
         paths: u32,
     ) -> Result<VerdictList, OutOfMemory>
         requires roles { AreRolesOf table.now.cells (length table.now.table.kinds) roles.now }
-        requires trace { (h : Heap) × StandFor table.now roles.now h × IsPlainTraceOf table.now h self.now }
-        ensures verdicts { IfOk result (λ v. (h : Heap) → StandFor table.now roles.now h → IsPlainTraceOf table.now h self.now → v ≡ first_with_paths paths (all_verdicts (reference_count h) h)) }
+        requires trace { (h : Heap) × IsPlainTraceOf table.now roles.now h self.now }
+        ensures verdicts { IfOk result (λ v. (h : Heap) → IsPlainTraceOf table.now roles.now h self.now → v ≡ first_with_paths paths (all_verdicts (reference_count h) h)) }
         ensures few { IfOk result (λ v. length v ≤ most_verdicts) }
     {
         // what is true of every table

@@ -1,12 +1,11 @@
 //! The list of the verdicts, in order.
 ghost use Rattle.assert_registry.specs.Laws.{StandFor};
-ghost use Rattle.graph_meaning.specs.Collecting.{first_with_paths, all_verdicts};
 ghost use Rattle.graph_meaning.specs.Heap.{Heap};
 ghost use Rattle.graph_meaning.specs.Roles.{AreRolesOf};
 ghost use Rattle.heap_trace.specs.Traces.{IsTraceOf};
 ghost use Rattle.std.specs.Prelude.{◌≡◌, ◌≤◌, length, IfOk};
-ghost use Rattle.verdict_list.specs.Listed.{most_verdicts};
-ghost use Rattle.verdicts.specs.Verdicts.{counted_in};
+ghost use Rattle.verdict_list.specs.Listed.{most_verdicts, verdicts_in};
+ghost use Rattle.verdicts.specs.Verdicts.{counts_of};
 
 use crate::counted::CountedTrace;
 use graph_meaning::{Roles, VerdictList};
@@ -28,7 +27,7 @@ pub fn verdicts(
 ) -> Result<VerdictList, OutOfMemory>
     requires roles { AreRolesOf table.now.cells (length table.now.table.kinds) roles.now }
     requires trace { (h : Heap) × StandFor table.now roles.now h × IsTraceOf table.now h traced.now }
-    ensures verdicts { IfOk result (λ v. (h : Heap) → StandFor table.now roles.now h → IsTraceOf table.now h traced.now → v ≡ first_with_paths paths (all_verdicts (counted_in table.now traced.now) h)) }
+    ensures verdicts { IfOk result (λ v. (h : Heap) → StandFor table.now roles.now h → IsTraceOf table.now h traced.now → v ≡ verdicts_in table.now (counts_of traced.now) paths h) }
     ensures few { IfOk result (λ v. length v ≤ most_verdicts) }
 {
     let check = check_owners(alloc, table, roles, traced)?;

@@ -20,4 +20,4 @@ returns-clause-found c =
     let freed = c.finish-swept.ensures.freed in
     let few = traced-few c.args.parts.now.heap in
     found_by (reference_count h) h rules c.args.number c.live-live.result _ c.finish-swept.result.freed c.finish-swept.result.cleared c.in_ok-verdicts.verdicts live
-    (omega (arith, live, freed, few)) freed (c.finish-swept.ensures.cleared rules refl) (c.in_ok-verdicts.ensures.verdicts h stand trace)
+    (omega (arith, live, freed, few)) freed (c.finish-swept.ensures.cleared rules refl) (c.in_ok-verdicts.ensures.verdicts h trace)

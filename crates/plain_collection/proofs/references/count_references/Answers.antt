@@ -18,9 +18,9 @@ pub returns-clause-each : goal.returns-clause-each
 returns-clause-each c = c.count_objects.ensures.each ∙ c.count_roots.ensures.each ∙ ap length c.in_ok-counts.ensures ∙ length-replicate c.cells.result 0 ∙ c.cells.ensures.count
 
 pub returns-clause-counts : goal.returns-clause-counts
-returns-clause-counts c h stand keeps =
-    let p = c.args.table.now in
+returns-clause-counts c h known =
+    let p = c.args.traced.table.now in
     let placed = c.cells.ensures.placed in
     let roots = c.count_roots.ensures.counts (counts-none p c.cells.result c.in_ok-counts.counts.items c.in_ok-counts.ensures) in
-    counts-references p h c.count_objects.new.counts.items stand.table
-    (c.count_objects.ensures.counts (λ x. is_traced h x || is_owner h x) (scanned-by_cell p c.args.roles.now h c.args.kept.now placed stand keeps) (roots_to p.table) roots)
+    counts-references p h c.count_objects.new.counts.items known.stand.table
+    (c.count_objects.ensures.counts (λ x. is_traced h x || is_owner h x) (scanned-by_cell p c.args.traced.roles.now h c.args.traced.kept.now placed known.stand known.keeps) (roots_to p.table) roots)

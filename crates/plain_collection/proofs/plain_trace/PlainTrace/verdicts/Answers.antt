@@ -15,17 +15,19 @@ check_ownees-requires-clause-doubts c =
 
 pub all_verdicts-requires-clause-counts : goal.all_verdicts-requires-clause-counts
 all_verdicts-requires-clause-counts c =
-    let (h, stand, trace) = c.requires.trace in
+    let (h, trace) = c.requires.trace in
+    let stand = trace.counts.stand in
     let doubts = ownees-doubted c.args.table.now c.args.roles.now h stand c.in_ok-ownees.ownees.items c.in_ok-ownees.ensures.ownees in
-    (h, record { stand = stand; counts = trace.counts }, c.in_ok-check.ensures.violating h stand doubts)
+    (h, trace.counts, c.in_ok-check.ensures.violating h stand doubts)
 
 pub returns-clause-verdicts : goal.returns-clause-verdicts
 returns-clause-verdicts c =
     IfOk-weaker c.all_verdicts.result _ _
-    (λ v are h stand trace.
+    (λ v are h trace.
     let p = c.args.table.now in
+    let stand = trace.counts.stand in
     let doubts = ownees-doubted p c.args.roles.now h stand c.in_ok-ownees.ownees.items c.in_ok-ownees.ensures.ownees in
-    are h (record { stand = stand; counts = trace.counts }) (c.in_ok-check.ensures.violating h stand doubts)
+    are h trace.counts (c.in_ok-check.ensures.violating h stand doubts)
     ∙ ap (first_with_paths c.args.paths)
     (verdicts_agree p c.cells-cells.ensures.placed h (counts_of c.args.self.now) trace.references (subst (λ tb. AllLive tb h.unshared) stand.table stand.refers.unshared)))
     c.all_verdicts.ensures.verdicts
