@@ -1,6 +1,6 @@
 //! What an owner finds.
-ghost use Rattle.std.specs.Prelude.{length};
 ghost use Rattle.graph_meaning.specs.Roles.{AreRolesOf};
+ghost use Rattle.std.specs.Prelude.{length};
 
 use graph_meaning::Roles;
 use object_table::ObjectTable;

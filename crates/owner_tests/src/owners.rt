@@ -1,7 +1,7 @@
 //! The check of owners, over the marks that a trace may have left.
-ghost use Rattle.std.specs.Prelude.{◌≡◌, ◌<◌, length, IfOk};
 ghost use Rattle.graph_meaning.specs.Roles.{AreRolesOf};
 ghost use Rattle.header_rule.specs.Passes.{IsPassOf, IsSamePass, ArePassesOf};
+ghost use Rattle.std.specs.Prelude.{◌≡◌, ◌<◌, length, IfOk};
 
 use graph_meaning::Roles;
 use header_rule::{Headers, Marks, Pass, Words};
@@ -162,25 +162,8 @@ const TWO_OWNERS: SampleHeap<'static> = SampleHeap {
     ..SampleHeap::EMPTY
 };
 
-// Only the owner 1, and 2 under the owner 3, hold the ownee 4, which its owner 6 doesn't find.
+// Only the owner 1, and 2 under the owner 3, hold the ownee 4, which its owner 6 doesn't find. Nothing holds 8 and 9.
 const SHUT: SampleHeap<'static> = SampleHeap {
-    objects: &[
-        (1, "A", 1),
-        (2, "A", 1),
-        (3, "A", 1),
-        (4, "A", 0),
-        (5, "A", 0),
-        (6, "A", 0),
-        (7, "A", 0),
-    ],
-    stores: &[(1, 0, 4), (3, 0, 2), (2, 0, 4)],
-    roots: &[("a", 1), ("b", 2), ("c", 3)],
-    owned: &[(1, 5), (3, 7), (6, 4)],
-    ..SampleHeap::EMPTY
-};
-
-// The same, where 9 holds it too, which 8 holds.
-const ROUND: SampleHeap<'static> = SampleHeap {
     objects: &[
         (1, "A", 1),
         (2, "A", 1),
@@ -192,6 +175,14 @@ const ROUND: SampleHeap<'static> = SampleHeap {
         (8, "A", 2),
         (9, "A", 1),
     ],
+    stores: &[(1, 0, 4), (3, 0, 2), (2, 0, 4)],
+    roots: &[("a", 1), ("b", 2), ("c", 3)],
+    owned: &[(1, 5), (3, 7), (6, 4)],
+    ..SampleHeap::EMPTY
+};
+
+// The same, where 9 holds it too, which 8 holds.
+const ROUND: SampleHeap<'static> = SampleHeap {
     stores: &[(1, 0, 4), (3, 0, 2), (2, 0, 4), (8, 1, 9), (9, 0, 4)],
     roots: &[("a", 1), ("b", 2), ("c", 3), ("d", 8)],
     ..SHUT
