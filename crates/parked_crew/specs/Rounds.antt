@@ -1,6 +1,6 @@
 -- The rule of a round, and what each step on its table tells. Word 0 is the opening word, word 1 the phase, and slot 0
 -- has the errand.
-use Rattle.std.specs.Prelude.{◌≡◌, ◌≢◌, ℕ, ◌==◌, Option, Some, None, Bool, true, false, cond, List, [], ◌∷◌, length}
+use Rattle.std.specs.Prelude.{◌≡◌, ◌≢◌, ℕ, ◌==◌, ◌⊎◌, Option, Some, None, Bool, true, false, cond, List, [], ◌∷◌, length}
 use mathlib.Core.Option.{some, none}
 use mathlib.Core.Option as maybe
 use lib.ListN.{get_elem?}
@@ -56,36 +56,32 @@ worker_role st = (appearance_at st).worker
 -- a seat of this role may be there at the stage
 abbrev pub MayBe : Role → Stage → Type 0
 MayBe Nobody st = Unit {0}
-MayBe Unsent opened = Unit {0}
-MayBe Unsent _ = ⊥
-MayBe (Sent true) laid = Unit {0}
-MayBe (Sent true) _ = ⊥
-MayBe (Sent false) seated = Unit {0}
-MayBe (Sent false) begun = Unit {0}
-MayBe (Sent false) finished = Unit {0}
-MayBe (Sent false) _ = ⊥
-MayBe Served fetched = Unit {0}
-MayBe Served _ = ⊥
-MayBe Fresh seated = Unit {0}
-MayBe Fresh _ = ⊥
-MayBe AtWork begun = Unit {0}
-MayBe AtWork _ = ⊥
-MayBe Ended finished = Unit {0}
-MayBe Ended fetched = Unit {0}
-MayBe Ended _ = ⊥
+MayBe Unsent st = st ≡ opened
+MayBe (Sent true) st = st ≡ laid
+MayBe (Sent false) st = (st ≡ seated) ⊎ (st ≡ begun) ⊎ (st ≡ finished)
+MayBe Served st = st ≡ fetched
+MayBe Fresh st = st ≡ seated
+MayBe AtWork st = st ≡ begun
+MayBe Ended st = (st ≡ finished) ⊎ (st ≡ fetched)
+
+-- which seats are the two sides' of a round
+pub record Sides : Type 0 where
+  pub caller : ℕ
+  pub worker : ℕ
 
 -- the seat j has this role only where it is the caller's or the worker's
-abbrev pub IsAt : Role → ℕ → ℕ → ℕ → Type 0
-IsAt Nobody caller worker j = Unit {0}
-IsAt Unsent caller worker j = j ≡ caller
-IsAt (Sent b) caller worker j = j ≡ caller
-IsAt Served caller worker j = j ≡ caller
-IsAt Fresh caller worker j = j ≡ worker
-IsAt AtWork caller worker j = j ≡ worker
-IsAt Ended caller worker j = j ≡ worker
+abbrev pub IsAt : Role → Sides → ℕ → Type 0
+IsAt Nobody sides j = Unit {0}
+IsAt Unsent sides j = j ≡ sides.caller
+IsAt (Sent b) sides j = j ≡ sides.caller
+IsAt Served sides j = j ≡ sides.caller
+IsAt Fresh sides j = j ≡ sides.worker
+IsAt AtWork sides j = j ≡ sides.worker
+IsAt Ended sides j = j ≡ sides.worker
 
-abbrev pub Knows : Stage → ℕ → ℕ → ℕ → Role → Type 0
-Knows st caller worker j role = MayBe role st × IsAt role caller worker j
+-- the seat j may have this role at the stage
+abbrev pub Knows : Stage → Sides → ℕ → Role → Type 0
+Knows st sides j role = MayBe role st × IsAt role sides j
 
 abbrev pub Sat : Type 0 → Type 0
 Sat C = Me (Option (Errand C)) (View C)
@@ -111,21 +107,20 @@ module _ {C : Type 0} where
   Slot n homes fetched = get_elem? homes 0 ≡ some none
 
   -- The table at a stage, where these seats are the caller's and the worker's.
-  pub record At (n : C) (st : Stage) (caller worker : ℕ) (s : State (Option (Errand C)) (View C)) : Type 0 where
+  pub record At (n : C) (st : Stage) (sides : Sides) (s : State (Option (Errand C)) (View C)) : Type 0 where
     pub words : s.words ≡ opening_word st ∷ phase st ∷ []
     pub deep : length s.homes ≡ 1
     pub slot : Slot n s.homes st
-    pub each_seat : (j : ℕ) (v : View C) → get_elem? s.views j ≡ some v → Knows st caller worker j v.role
+    pub each_seat : (j : ℕ) (v : View C) → get_elem? s.views j ≡ some v → Knows st sides j v.role
     pub noted : (j : ℕ) (v : View C) → get_elem? s.views j ≡ some v → v.start ≡ n
-    pub caller_there : opening_word st ≡ 1 → get_elem? s.views caller ≡ some (seen (caller_role st) n)
-    pub worker_there : hired st ≡ 1 → get_elem? s.views worker ≡ some (seen (worker_role st) n)
+    pub caller_there : opening_word st ≡ 1 → get_elem? s.views sides.caller ≡ some (seen (caller_role st) n)
+    pub worker_there : hired st ≡ 1 → get_elem? s.views sides.worker ≡ some (seen (worker_role st) n)
 
   -- the rule of a round about the share n
   pub record Turned (n : C) (s : State (Option (Errand C)) (View C)) : Type 0 where
     pub stage : Stage
-    pub caller : ℕ
-    pub worker : ℕ
-    pub at : At n stage caller worker s
+    pub sides : Sides
+    pub at : At n stage sides s
 
   -- the first seat to open it is the caller's, and takes the empty slot
   abbrev pub Opens : Asked C → Sat C → ℕ → Sat C → Type 0

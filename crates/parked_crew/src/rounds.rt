@@ -42,28 +42,22 @@ impl<C: Share + Drop> Sent<C> {
             left: Vec::with_capacity(alloc, room)?,
         })
     }
-}
 
-/// Sends each round to its worker.
-pub fn send_all<R: Wait, C: Share + Drop>(
-    rt: &R,
-    workers: &[Worker<C>],
-    rounds: Vec<ReadyRound<C>>,
-    mut sent: Sent<C>,
-) -> Sent<C>
-    requires workers { vec_len rounds ≡ length workers.now }
-    requires none { (vec_len sent.rounds ≡ 0) × (vec_len sent.left ≡ 0) }
-    requires room { (vec_len rounds ≤ vec_capacity sent.rounds) × (vec_len rounds ≤ vec_capacity sent.left) }
-    ensures { result.rounds.items ≡ rounds.items }
-{
-    for round in rounds {
-        let (caller, ticket) = round.send();
-        if let Some(ticket) = workers[sent.rounds.len()].hand(rt, ticket) {
-            sent.left.push_reserved(ticket);
+    /// Sends each round to its worker.
+    pub fn send_all<R: Wait>(&mut self, rt: &R, workers: &[Worker<C>], rounds: Vec<ReadyRound<C>>)
+        requires workers { vec_len rounds ≡ length workers.now }
+        requires none { (vec_len self.old.rounds ≡ 0) × (vec_len self.old.left ≡ 0) }
+        requires room { (vec_len rounds ≤ vec_capacity self.old.rounds) × (vec_len rounds ≤ vec_capacity self.old.left) }
+        ensures { self.new.rounds.items ≡ rounds.items }
+    {
+        for round in rounds {
+            let (caller, ticket) = round.send();
+            if let Some(ticket) = workers[self.rounds.len()].hand(rt, ticket) {
+                self.left.push_reserved(ticket);
+            }
+            self.rounds.push_reserved(caller);
         }
-        sent.rounds.push_reserved(caller);
     }
-    sent
 }
 
 /// Works off what no thread does.

@@ -5,7 +5,7 @@ ghost use Rattle.heap_base.specs.declared.limits.TheConstants.{MOST_WORKERS};
 ghost use Rattle.parked_crew.specs.Crews.{workers_of};
 
 use crate::crew::ParkedCrew;
-use crate::rounds::{Sent, fetch_all, make_all, send_all, work_all};
+use crate::rounds::{Sent, fetch_all, make_all, work_all};
 use crate::share::Share;
 use crate::worker::Worker;
 use heap_base::OutOfMemory;
@@ -62,9 +62,9 @@ impl<C: Share + Drop> ParkedCrew<C> {
         let workers = self.workers.as_slice();
         let count = shares.len();
         let rounds = make_all(alloc, shares)?;
-        let sent = Sent::none(alloc, count)?;
+        let mut sent = Sent::none(alloc, count)?;
         let shares = Vec::with_capacity(alloc, count)?;
-        let sent = send_all(rt, workers, rounds, sent);
+        sent.send_all(rt, workers, rounds);
         let Sent { rounds, left } = sent;
         work_all(left);
         Ok(fetch_all(rt, workers, rounds, shares))
