@@ -11,6 +11,7 @@ use Rattle.steal_pool.specs.Steps.{lent_hand}
 use Rattle.steal_pool.specs.Lanes.{own_hand}
 use Rattle.steal_pool.specs.Lists.{Each}
 use Rattle.steal_pool.specs.Queues.{Waiting}
+use Rattle.steal_pool.proofs.ListLemmas.{each_thrice}
 use Rattle.steal_pool.specs.Loans.{keys_of_others, HandKey, hand_key, keys_of, keys_in, key_in, IsFresh, CanLend, CanReceive, LendsHands, OnlyLends, ReceivesHands, ExchangesHands, TakesBackHands}
 
 abbrev pub Places : Type 0 → Type 0
@@ -169,15 +170,10 @@ module _ {J : Type 0} where
 
   pub exchanged_rest : (m : HandKey) (k j : ℕ) (ps qs rs ss : Places J) → (0 < length ps → 1 + j ≡ k) → EachMoves ReceivesHands m ps qs
       → EachBecomes (OnlyLends 1) qs rs → EachBecomes (ExchangesHands j) rs ss → EachBecomes (ExchangesHands k) ps ss
-  exchanged_rest m k j [] [] [] ss l e f d = (refl, d.1)
-  exchanged_rest m k j [] [] (r ∷ rs) ss l e f d = absurd (let n = ap length f.1 in omega arith)
-  exchanged_rest m k j [] (q ∷ qs) rs ss l e f d = absurd (let n = ap length e.1 in omega arith)
-  exchanged_rest m k j (p ∷ ps) [] rs ss l e f d = absurd e
-  exchanged_rest m k j (p ∷ ps) (q ∷ qs) [] ss l e f d = absurd f
-  exchanged_rest m k j (p ∷ ps) (q ∷ qs) (r ∷ rs) [] l e f d = absurd d
-  exchanged_rest m k j (p ∷ ps) (q ∷ qs) (r ∷ rs) (s ∷ ss) l e f d =
-      let n = l (omega arith) in
-      (exchanged_later k j m (padded_value p) (padded_value q) (padded_value r) (padded_value s) n e.0 f.0 d.0, exchanged_rest m k j ps qs rs ss (λ _. n) e.1 f.1 d.1)
+  exchanged_rest m k j ps qs rs ss l =
+      each_thrice (λ p n q. ReceivesHands (n ∷ []) (padded_value p) (padded_value q)) (λ q _ r. OnlyLends 1 (padded_value q) (padded_value r))
+      (λ r _ s. ExchangesHands j (padded_value r) (padded_value s)) (λ p s. ExchangesHands k (padded_value p) (padded_value s)) ps (map (λ _. m) ps) qs qs rs rs ss
+      (λ some p n q _ r _ s. exchanged_later k j n (padded_value p) (padded_value q) (padded_value r) (padded_value s) (l some))
 
   -- each place has one key more
   pub rows_got : (m : HandKey) (b : List HandKey) (ps qs rs : Places J) → EachMoves ReceivesHands m ps qs → EachBecomes (OnlyLends 1) qs rs

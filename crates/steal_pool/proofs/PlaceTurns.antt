@@ -115,6 +115,15 @@ module _ {J S : Type 0} (M : Meaning J S) (s : S) where
         let offered = offered_left M s (M.room k) (sources r b.lane b.others) (sources_of q) o.offers in
         omega (arith, done, offered, left_at p j found.is, left_at q k o.is)
 
+    -- what such a turn leaves
+    pub record LeavesTurn (q : Place J) : Type 0 where
+      pub went : EndsWork M s p q
+      pub few : HasTakenFew q.lane
+      pub fewer : tasks_left M q + 1 ≤ tasks_left M p
+
+    pub leaves_turn : {q : Place J} → HasOffered q → LeavesTurn q
+    leaves_turn o = record { went = did_ends o; few = did_few o; fewer = did_fewer o }
+
 module _ {J S : Type 0} {M : Meaning J S} {s : S} where
   pub ends_none : {p : Place J} → CanStart M s p → EndsWork M s p p
   ends_none {p = p} k = record { old = k.job; new = k.job; was = k.is; is = k.is; went = went_none M s k.job (sources_of p); can = k.can; spare = refl; space = refl }

@@ -18,6 +18,7 @@ use Rattle.steal_pool.specs.Loans.{HandKey, CanTakeBack, TakesBackHands, OnlyTak
 use Rattle.steal_pool.specs.Loans.{keys_of_others, hand_key, victim_key, keys_of, keys_in, key_in, own_took, others_took, all_took}
 use Rattle.heap_base.proofs.Counting.{total-append, total-snoc}
 use Rattle.steal_pool.proofs.Elements.{all-snoc}
+use Rattle.steal_pool.proofs.ListLemmas.{each_thrice}
 use Rattle.steal_pool.proofs.LoanLemmas.{Places, AllPlaces, EachBecomes, EachMoves, kept_by, same_rest}
 
 -- the last hand is the one with this key
@@ -130,15 +131,10 @@ module _ {J : Type 0} where
 
   pub restored_rest : (k j : ℕ) (m : HandKey) (ps qs rs ss : Places J) → (0 < length ps → j + 1 ≡ k) → EachBecomes (RestoresHands j) ps qs
       → EachMoves ReturnsHands m qs rs → EachBecomes (OnlyTakesBack 1) rs ss → EachBecomes (RestoresHands k) ps ss
-  restored_rest k j m [] [] [] ss l a b c = (refl, c.1)
-  restored_rest k j m [] [] (r ∷ rs) ss l a b c = absurd (let n = ap length b.1 in omega arith)
-  restored_rest k j m [] (q ∷ qs) rs ss l a b c = absurd (let n = ap length a.1 in omega arith)
-  restored_rest k j m (p ∷ ps) [] rs ss l a b c = absurd a
-  restored_rest k j m (p ∷ ps) (q ∷ qs) [] ss l a b c = absurd b
-  restored_rest k j m (p ∷ ps) (q ∷ qs) (r ∷ rs) [] l a b c = absurd c
-  restored_rest k j m (p ∷ ps) (q ∷ qs) (r ∷ rs) (s ∷ ss) l a b c =
-      let n = l (omega arith) in
-      (restored_later k j (m ∷ []) (padded_value p) (padded_value q) (padded_value r) (padded_value s) n a.0 b.0 c.0, restored_rest k j m ps qs rs ss (λ _. n) a.1 b.1 c.1)
+  restored_rest k j m ps qs rs ss l =
+      each_thrice (λ p _ q. RestoresHands j (padded_value p) (padded_value q)) (λ q n r. ReturnsHands (n ∷ []) (padded_value q) (padded_value r))
+      (λ r _ s. OnlyTakesBack 1 (padded_value r) (padded_value s)) (λ p s. RestoresHands k (padded_value p) (padded_value s)) ps ps qs (map (λ _. m) qs) rs rs ss
+      (λ some p _ q n r _ s. restored_later k j (n ∷ []) (padded_value p) (padded_value q) (padded_value r) (padded_value s) (l some))
 
   -- each place has one key less
   pub rows_returned : (b : List HandKey) (m : HandKey) (qs rs ss : Places J) → AllByRecursion (λ q. keys_in q ≡ b ++ m ∷ []) qs

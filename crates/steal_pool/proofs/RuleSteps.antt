@@ -112,15 +112,15 @@ takes port v some_right xs items views _ _ b at =
         fit,
         bound,
         record {
-          rights = total-set_same (λ u. u.rights) views port v w at refl ∙ k.rights;
-          owners = total-set_same (λ u. bit u.owner) views port v w at refl ∙ k.owners;
-          fits = fits_set views port k.fits w-fits;
+          are_fit = two.1;
+          few = (let c = total-set_same (λ u. total one u.put) views port v w at refl in omega arith);
           even = λ h. (
               let took = total-set (λ u. total h u.took) views port v w at in
               let put = total-set_same (λ u. total h u.put) views port v w at refl in
               omega (arith, took, put, total-append h v.took xs, total-append h xs items, k.even h));
-          few = (let c = total-set_same (λ u. total one u.put) views port v w at refl in omega arith);
-          are_fit = two.1;
+          rights = total-set_same (λ u. u.rights) views port v w at refl ∙ k.rights;
+          owners = total-set_same (λ u. bit u.owner) views port v w at refl ∙ k.owners;
+          fits = fits_set views port k.fits w-fits;
         },
       ),
       record {

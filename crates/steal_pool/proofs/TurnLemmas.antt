@@ -118,6 +118,13 @@ module _ {J S : Type 0} (M : Meaning J S) (s : S) where
         others = same_twice x.1.others y.1.others z.1.others a.others b.others;
       }
 
+  -- a worker whose job did nothing meanwhile may go on
+  still_can : (j : J) (a b : Sources) → CanWork M s j a → (own_hand b.lane).fit ≡ (own_hand a.lane).fit → AreOnTerms (M.fit j s) b.others → AllFit (M.fit j s) b.queue.tasks
+      → M.room j ≤ b.queue.spare → total one (own_hand b.lane).put + total one b.queue.tasks + M.room j ≤ (own_hand b.lane).bound
+      → most_left (M.room j) b ≤ M.turns j + total_taken one b → CanWork M s j b
+  still_can j a b c same others waiting spare bound turns =
+      record { ready = c.ready; terms = same ∙ c.terms; others = others; waiting = waiting; spare = spare; bound = bound; turns = turns }
+
   -- ---- a turn that finds no task
 
   pub none_can : (j : J) (a b : Sources) → CanWork M s j a → FindsNone a b → CanWork M s j b
@@ -133,15 +140,8 @@ module _ {J S : Type 0} (M : Meaning J S) (s : S) where
       let old-spare = c.spare in
       let old-bound = c.bound in
       let old-turns = c.turns in
-      record {
-        ready = c.ready;
-        terms = ap (λ (v : Hand). v.fit) f.hand ∙ c.terms;
-        others = terms_same (M.fit j s) a.others b.others same c.others;
-        waiting = subst (λ (q : Waiting). AllFit (M.fit j s) q.tasks) (sym f.queue) c.waiting;
-        spare = omega arith;
-        bound = omega arith;
-        turns = omega arith;
-      }
+      still_can j a b c (ap (λ (v : Hand). v.fit) f.hand) (terms_same (M.fit j s) a.others b.others same c.others)
+      (subst (λ (q : Waiting). AllFit (M.fit j s) q.tasks) (sym f.queue) c.waiting) (omega arith) (omega arith) (omega arith)
 
   pub none_went : (j : J) (a b : Sources) → FindsNone a b → Advances M s (j, a) (j, b)
   none_went j a b f =
@@ -188,7 +188,7 @@ module _ {J S : Type 0} (M : Meaning J S) (s : S) where
 
   -- the job k did the task that was found, and its puts wait in the queue q
   pub record DoesTask (j : J) (b : Sources) (t : Task) (k : J) (q : Waiting) : Type 0 where
-    pub puts : Puts M s (j, b.queue.tasks) t (k, q.tasks)
+    pub puts : Puts M s (record { job = j; task = t; outbox = b.queue.tasks }) (k, q.tasks)
     pub spare : length q.tasks + q.spare ≡ length b.queue.tasks + b.queue.spare
     pub room : q.room ≡ b.queue.room
     pub ready : M.ready k s
@@ -273,15 +273,8 @@ module _ {J S : Type 0} (M : Meaning J S) (s : S) where
       let old-spare = c.spare in
       let old-bound = c.bound in
       let old-turns = c.turns in
-      record {
-        ready = c.ready;
-        terms = ap (λ (v : Hand). v.fit) o.hand ∙ c.terms;
-        others = subst (AreOnTerms (M.fit k s)) (sym o.others) c.others;
-        waiting = (all-front (Contains (M.fit k s)) o.moved b.queue.tasks (subst (AllFit (M.fit k s)) o.tasks c.waiting)).1;
-        spare = omega arith;
-        bound = omega arith;
-        turns = omega arith;
-      }
+      let waiting = (all-front (Contains (M.fit k s)) o.moved b.queue.tasks (subst (AllFit (M.fit k s)) o.tasks c.waiting)).1 in
+      still_can k a b c (ap (λ (v : Hand). v.fit) o.hand) (subst (AreOnTerms (M.fit k s)) (sym o.others) c.others) waiting (omega arith) (omega arith) (omega arith)
 
   pub offered_went : (k : J) (a b : Sources) → Offers a b → Advances M s (k, a) (k, b)
   offered_went k a b o =

@@ -26,7 +26,7 @@ use Rattle.steal_pool.specs.Places.{MayStart, MayFinish, FinishesWork}
 use Rattle.steal_pool.specs.Queues.{Waiting}
 use Rattle.steal_pool.specs.Rests.{IsEmpty, IsAtRest}
 use Rattle.steal_pool.specs.Runs.{Work, HaveRoom, fit_tasks, most_tasks, all_first, all_put, Run}
-use Rattle.steal_pool.specs.Seats.{TakesJob, GivesJob, HasSomeJob, CanBegin, Begins}
+use Rattle.steal_pool.specs.Seats.{TakesJob, GivesJob, HasSomeJob, opening, CanBegin, Begins}
 use Rattle.steal_pool.specs.Steps.{renewed_hand, lent_hand}
 use Rattle.steal_pool.specs.Victims.{total_took, total_bound, AreSameButTook, AreOnTerms}
 use Rattle.steal_pool.specs.Workers.{CanStart, EndsWork}
@@ -188,21 +188,21 @@ module _ {J S : Type 0} (setting : Setting J S) where
   TakeJobs ps js bs = Each (λ p j q. TakesJob (padded_value p) j (padded_value q)) ps js bs
 
   abbrev AllBegin : Places J → List (List Task) → Places J → Type 0
-  AllBegin bs fs os = Each (λ p f q. Begins M s (padded_value p) f (padded_value q)) bs fs os
+  AllBegin bs fs os = Each (λ p f q. Begins M s (opening (padded_value p) f) (padded_value q)) bs fs os
 
   abbrev AreAtRest : Places J → Type 0
   AreAtRest ps = AllByRecursion (λ p. IsAtRest n room (padded_value p)) ps
 
   can_begin_one : (p : Place J) (j : J) (f : List Task) (q : Place J) → TakesJob p j q → IsAtRest n room p → length f + M.room j < room
-      → AllFit F f → M.fit j s ≡ F → CanBegin M s q f
+      → AllFit F f → M.fit j s ≡ F → CanBegin M s (opening q f)
   can_begin_one p j f q b r h a c =
       let space = r.2 in
-      subst (λ (u : Place J). CanBegin M s u f) (sym b)
+      subst (λ (u : Place J). CanBegin M s (opening u f)) (sym b)
       (record { job = j; is = refl; whole = r.0.6; emptied = r.1.1; room = omega arith; are_fit = subst (λ xs. AllFit xs f) (sym c) a })
 
   pub can_begin : (ps : Places J) (js : List J) (fs : List (List Task)) (bs : Places J) → TakeJobs ps js bs → AreAtRest ps
       → HaveRoom M room js fs → AllByRecursion (AllFit F) fs → AllByRecursion (λ j. M.fit j s ≡ F) js
-      → Each (λ p f _. CanBegin M s (padded_value p) f) bs fs bs
+      → Each (λ p f _. CanBegin M s (opening (padded_value p) f)) bs fs bs
   can_begin [] [] fs [] b r h a c = (h, refl)
   can_begin [] [] fs (q ∷ bs) b r h a c = absurd (let l = ap length b.1 in omega arith)
   can_begin [] (j ∷ js) fs bs b r h a c = absurd (let l = ap length b.0 in omega arith)
@@ -212,7 +212,7 @@ module _ {J S : Type 0} (setting : Setting J S) where
   can_begin (p ∷ ps) (j ∷ js) (f ∷ fs) (q ∷ bs) b r h a c = (can_begin_one (padded_value p) j f (padded_value q) b.0 r.0 h.0 a.0 c.0, can_begin ps js fs bs b.1 r.1 h.1 a.1 c.1)
 
   starting_one : (p : Place J) (j : J) (f : List Task) (q u : Place J) → TakesJob p j q → IsAtRest n room p → length f + M.room j < room
-      → M.ready j s → M.fit j s ≡ F → B ≤ M.turns j → AllFit F f → Begins M s q f u → IsStarting 16 (n - 1) u j f × (keys_of u ≡ [])
+      → M.ready j s → M.fit j s ≡ F → B ≤ M.turns j → AllFit F f → Begins M s (opening q f) u → IsStarting 16 (n - 1) u j f × (keys_of u ≡ [])
   starting_one p j f q u b r h y c t a o =
       let same : o.job ≡ j = same_job q.job o.job j o.is (ap (λ (x : Place J). x.job) b) in
       let hand-is : own_hand u.lane ≡ renewed_hand F (length f + M.room j) = o.hand ∙ (λ i. renewed_hand (c' same i) (length f + M.room (same i))) in
@@ -537,7 +537,7 @@ module _ {J S : Type 0} (setting : Setting J S) where
   -- what the whole run did
   pub record Result (js : List J) (fs : List (List Task)) (es gs : Places J) (ks : List J) : Type 0 where
     pub work : List Work
-    pub each : Each (λ j (w : Work) k. Does (M.works s) j w.done k w.put) js work ks
+    pub each : Each (λ j (w : Work) k. Does (M.works s) j w.done (record { job = k; put = w.put })) js work ks
     pub falls : Each (λ j (w : Work) k. M.room k + length w.put ≤ M.room j) js work ks
     pub turns : Each (λ j (w : Work) k. M.turns j ≤ M.turns k + length w.done) js work ks
     pub are_fit : AllByRecursion (λ (w : Work). AllFit F w.done) work
@@ -579,9 +579,9 @@ module _ {J S : Type 0} (setting : Setting J S) where
       let jk : X.new ≡ k = same_job t.job X.new k X.is l.0.0 in
       let done = we.done ++ wx.done in
       let put = we.put ++ wx.put in
-      let then-does : Does (M.works s) E.new wx.done X.new wx.put = subst (λ c. Does (M.works s) c wx.done X.new wx.put) mid wx.does in
-      let does : Does (M.works s) E.old done X.new put = does_append (M.works s) E.old E.new X.new we.done wx.done we.put wx.put we.does then-does in
-      let does' : Does (M.works s) j done k put = subst (λ c. Does (M.works s) j done c put) jk (subst (λ c. Does (M.works s) c done X.new put) je does) in
+      let then-does : Does (M.works s) E.new wx.done (record { job = X.new; put = wx.put }) = subst (λ c. Does (M.works s) c wx.done (record { job = X.new; put = wx.put })) mid wx.does in
+      let does : Does (M.works s) E.old done (record { job = X.new; put = put }) = does_append (M.works s) E.old E.new X.new we.done wx.done we.put wx.put we.does then-does in
+      let does' : Does (M.works s) j done (record { job = k; put = put }) = subst (λ c. Does (M.works s) j done (record { job = c; put = put })) jk (subst (λ c. Does (M.works s) c done (record { job = X.new; put = put })) je does) in
       let fe : M.fit E.old s ≡ F = ap (λ c. M.fit c s) je ∙ m.0.same_fit in
       let fx : M.fit X.old s ≡ F = ap (λ c. M.fit c s) mid ∙ (we.same_fit ∙ fe) in
       record {
@@ -616,7 +616,7 @@ module _ {J S : Type 0} (setting : Setting J S) where
   as_often_from js fs es gs ks w same h = let a = w.sum h in let b = same h in omega arith
 
   pub run_from : (js : List J) (fs : List (List Task)) (es gs : Places J) (ks : List J) → Result js fs es gs ks → fit_tasks M s js ≡ F
-      → ((h : Task → ℕ) → total (all_took h) gs ≡ total (all_took h) es) → Run M s fs js ks
+      → ((h : Task → ℕ) → total (all_took h) gs ≡ total (all_took h) es) → Run M s (record { jobs = js; first = fs }) ks
   run_from js fs es gs ks w is same =
       record {
         work = w.work;
@@ -659,7 +659,7 @@ module _ {J S : Type 0} (setting : Setting J S) where
 
 -- ---- the same from what the run needs, call by call
 
-module _ {J S : Type 0} {M : Meaning J S} {s : S} {ps : Places J} {room : ℕ} {js : List J} {fs : List (List Task)} (k : CanRun M s (record { places = ps; room = room; jobs = js; first = fs })) where
+module _ {J S : Type 0} {M : Meaning J S} {s : S} {ps : Places J} {room : ℕ} {js : List J} {fs : List (List Task)} (k : CanRun M s (record { places = ps; room = room; load = record { jobs = js; first = fs } })) where
   abbrev the_run : Setting J S
   the_run = record { meaning = M; shared = s; fit = fit_tasks M s js; workers = length ps; bound = most_tasks M js fs; room = room }
 
@@ -684,7 +684,7 @@ module _ {J S : Type 0} {M : Meaning J S} {s : S} {ps : Places J} {room : ℕ} {
       let each = subst (λ xs. TakeJobs the_run ps xs bs) all-moved moved.2 in
       record { each = each; count = each_length (λ p j q. TakesJob (padded_value p) j (padded_value q)) ps js bs each }
 
-  pub can_begin_all : {bs : Places J} → AreSeated bs → Each (λ p f _. CanBegin M s (padded_value p) f) bs fs bs
+  pub can_begin_all : {bs : Places J} → AreSeated bs → Each (λ p f _. CanBegin M s (opening (padded_value p) f)) bs fs bs
   can_begin_all {bs = bs} b = can_begin the_run ps js fs bs b.each rests k.room fits sames
 
   -- the run has begun at each place
@@ -698,7 +698,7 @@ module _ {J S : Type 0} {M : Meaning J S} {s : S} {ps : Places J} {room : ℕ} {
       let ready = all_rec (λ j. M.ready j s) js k.ready in
       let turns = all_rec (λ j. the_run.bound ≤ M.turns j) js k.turns in
       let t = starting the_run ps js fs bs os b.each rests k.room ready sames turns fits o in
-      record { starting = t.0; none = t.1; count = each_length (λ p f q. Begins M s (padded_value p) f (padded_value q)) bs fs os o ∙ b.count }
+      record { starting = t.0; none = t.1; count = each_length (λ p f q. Begins M s (opening (padded_value p) f) (padded_value q)) bs fs os o ∙ b.count }
 
   pub can_lend : {os : Places J} → HaveBegun os
       → AllByRecursion (λ p. CanLend (length os - 1) (padded_value p)) os × AllByRecursion (λ p. CanReceive (length os - 1) (padded_value p)) os
@@ -791,7 +791,7 @@ module _ {J S : Type 0} {M : Meaning J S} {s : S} {ps : Places J} {room : ℕ} {
 
   -- each job is given back, and none has taken a task that was not put
   pub has_run : {ds es gs rs : Places J} {ks : List J} {zs : Places J} → AreDone ds es gs rs → GiveJobs the_run rs ks zs
-      → ((h : Task → ℕ) → total (all_took h) gs ≡ total (all_took h) es) → HasRun M s (record { places = ps; room = room; jobs = js; first = fs }) (ks, zs)
+      → ((h : Task → ℕ) → total (all_took h) gs ≡ total (all_took h) es) → HasRun M s (record { places = ps; room = room; load = record { jobs = js; first = fs } }) (ks, zs)
   has_run {ds = ds} {es = es} {gs = gs} {rs = rs} {ks = ks} {zs = zs} r given sum =
       let g = r.whole in
       let e = g.stopped in

@@ -64,12 +64,17 @@ all_done ws = flat_map (λ (w : Work). w.done) ws
 abbrev pub all_put : List Work → List Task
 all_put ws = flat_map (λ (w : Work). w.put) ws
 
--- What a run did that began with the jobs js and the lists fs, a list for each.
+-- What the workers of a run begin with: a job, and a list of first tasks, for each.
+pub record Workload (J : Type 0) : Type 0 where
+  pub jobs : List J
+  pub first : List (List Task)
+
+-- What a run did with this workload, after which the jobs are ks.
 -- each: each job is as `work` may leave it after the tasks that it did, in order
 -- are_fit: every task that was done is fit
 -- as_often: what was done is what was first and what was put, each task as often
-pub record Run {J S : Type 0} (M : Meaning J S) (s : S) (fs : List (List Task)) (js ks : List J) : Type 0 where
+pub record Run {J S : Type 0} (M : Meaning J S) (s : S) (load : Workload J) (ks : List J) : Type 0 where
   pub work : List Work
-  pub each : Each (λ j (w : Work) k. Does (M.works s) j w.done k w.put) js work ks
-  pub are_fit : All (λ (w : Work). AllFit (fit_tasks M s js) w.done) work
-  pub as_often : AsOften (all_done work) (all_first fs ++ all_put work)
+  pub each : Each (λ j (w : Work) k. Does (M.works s) j w.done (record { job = k; put = w.put })) load.jobs work ks
+  pub are_fit : All (λ (w : Work). AllFit (fit_tasks M s load.jobs) w.done) work
+  pub as_often : AsOften (all_done work) (all_first load.first ++ all_put work)

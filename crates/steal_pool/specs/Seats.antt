@@ -16,24 +16,33 @@ TakesJob p j q = q ≡ record p { job = Some j }
 abbrev pub GivesJob : {J : Type 0} → Place J → J → Place J → Type 0
 GivesJob p j q = (p.job ≡ Some j) × (q ≡ record p { job = None })
 
--- a place with a job may begin with these tasks
-pub record CanBegin {J S : Type 0} (M : Meaning J S) (s : S) (p : Place J) (first : List Task) : Type 0 where
-  pub job : J
-  pub is : p.job ≡ Some job
-  pub whole : (own_hand p.lane).rights ≡ 16
-  pub emptied : (h : Task → ℕ) → total h (own_hand p.lane).put ≡ total h (own_hand p.lane).took
-  pub room : length first + M.room job < p.queue.room
-  pub are_fit : AllFit (M.fit job s) first
+-- a place, and the tasks that it is to begin a run with
+pub record Opening (J : Type 0) : Type 0 where
+  pub place : Place J
+  pub first : List Task
 
-pub record Begins {J S : Type 0} (M : Meaning J S) (s : S) (p : Place J) (first : List Task) (q : Place J) : Type 0 where
+abbrev pub opening : {J : Type 0} → Place J → List Task → Opening J
+opening p first = record { place = p; first = first }
+
+-- the place has a job, and may begin with these tasks
+pub record CanBegin {J S : Type 0} (M : Meaning J S) (s : S) (o : Opening J) : Type 0 where
   pub job : J
-  pub is : p.job ≡ Some job
-  pub hand : own_hand q.lane ≡ renewed_hand (M.fit job s) (length first + M.room job)
-  pub deque : worker_deque q.lane.owner ≡ worker_deque p.lane.owner
-  pub tasks : q.queue.tasks ≡ first
-  pub spare : q.queue.spare + length first ≡ p.queue.room
-  pub room : q.queue.room ≡ p.queue.room
-  pub rest : q ≡ record p { lane = q.lane; queue = q.queue; count = q.count }
+  pub is : o.place.job ≡ Some job
+  pub whole : (own_hand o.place.lane).rights ≡ 16
+  pub emptied : (h : Task → ℕ) → total h (own_hand o.place.lane).put ≡ total h (own_hand o.place.lane).took
+  pub room : length o.first + M.room job < o.place.queue.room
+  pub are_fit : AllFit (M.fit job s) o.first
+
+-- the place q has begun
+pub record Begins {J S : Type 0} (M : Meaning J S) (s : S) (o : Opening J) (q : Place J) : Type 0 where
+  pub job : J
+  pub is : o.place.job ≡ Some job
+  pub hand : own_hand q.lane ≡ renewed_hand (M.fit job s) (length o.first + M.room job)
+  pub deque : worker_deque q.lane.owner ≡ worker_deque o.place.lane.owner
+  pub tasks : q.queue.tasks ≡ o.first
+  pub spare : q.queue.spare + length o.first ≡ o.place.queue.room
+  pub room : q.queue.room ≡ o.place.queue.room
+  pub rest : q ≡ record o.place { lane = q.lane; queue = q.queue; count = q.count }
 
 abbrev pub HasSomeJob : {J : Type 0} → CachePadded (Place J) → Type 0
 HasSomeJob {J} p = let q : Place J = padded_value p in is_some q.job ≡ true

@@ -31,7 +31,7 @@ pub record CanWork {J S : Type 0} (M : Meaning J S) (s : S) (job : J) (a : Sourc
 pub record Advances {J S : Type 0} (M : Meaning J S) (s : S) (x y : J × Sources) : Type 0 where
   pub done : List Task
   pub put : List Task
-  pub does : Does (M.works s) x.0 done y.0 put
+  pub does : Does (M.works s) x.0 done (record { job = y.0; put = put })
   pub are_fit : AllFit (M.fit x.0 s) done
   pub same_fit : M.fit y.0 s ≡ M.fit x.0 s
   pub falls : M.room y.0 + length put ≤ M.room x.0

@@ -26,7 +26,7 @@ pub trait Job<S: Sync> {
         requires ready { meaning.ready self.old shared.now }
         requires fit { Contains (meaning.fit self.old shared.now) task }
         requires spare { length out.old.tasks + meaning.room self.old ≤ out.old.room }
-        ensures puts { Puts meaning shared.now (self.old, out.old.tasks) task (self.new, out.new.tasks) }
+        ensures puts { Puts meaning shared.now (record { job = self.old; task = task; outbox = out.old.tasks }) (self.new, out.new.tasks) }
         ensures outbox { out.new.room ≡ out.old.room }
         ensures ready { meaning.ready self.new shared.now }
         ensures fit { meaning.fit self.new shared.now ≡ meaning.fit self.old shared.now }

@@ -1,8 +1,8 @@
 //! The crew and its run.
-ghost use Rattle.std.specs.Prelude.{◌≡◌, ℕ, ◌^◌, ◌+◌, ◌<◌, ◌≤◌, List, length, vec_len, vec_capacity, IfOk};
 ghost use Rattle.std.specs.List.{All};
-ghost use Rattle.heap_base.specs.declared.limits.TheConstants.{MOST_WORKERS};
+ghost use Rattle.std.specs.Prelude.{◌≡◌, ℕ, ◌^◌, ◌+◌, ◌<◌, ◌≤◌, List, length, vec_len, vec_capacity, IfOk};
 ghost use Rattle.crossbeam_utils.specs.Padded.{padded_value};
+ghost use Rattle.heap_base.specs.declared.limits.TheConstants.{MOST_WORKERS};
 ghost use Rattle.steal_pool.specs.Jobs.{AllFit};
 ghost use Rattle.steal_pool.specs.Needs.{CanRun, HasRun};
 ghost use Rattle.steal_pool.specs.Rests.{IsAtRest};
@@ -118,7 +118,7 @@ impl<J: Send + Drop> Crew<J> {
         requires fit { All (AllFit (fit_tasks J.meaning shared.now jobs.old.items)) first.now.lists }
         requires room { HaveRoom J.meaning (room_of self.old) jobs.old.items first.now.lists }
         requires turns { HaveTurns J.meaning (most_tasks J.meaning jobs.old.items first.now.lists) jobs.old.items }
-        ensures ran { Run J.meaning shared.now first.now.lists jobs.old.items jobs.new.items }
+        ensures ran { Run J.meaning shared.now (record { jobs = jobs.old.items; first = first.now.lists }) jobs.new.items }
         ensures ready { AreReady J.meaning shared.now jobs.new.items }
         ensures same_fit { ShareFit J.meaning shared.now (fit_tasks J.meaning shared.now jobs.old.items) jobs.new.items }
         ensures turns { TurnsLast J.meaning (most_tasks J.meaning jobs.old.items first.now.lists) jobs.old.items jobs.new.items }
@@ -143,8 +143,8 @@ fn run_on<R: Threads + Sync, S: Sync, J: Job<S> + Send + Drop, G: Gate>(
     jobs: &mut Vec<J>,
     first: &FirstTasks,
 )
-    requires { CanRun J.meaning context.now.shared.now (record { places = places.old; room = context.now.room; jobs = jobs.old.items; first = first.now.lists }) }
-    ensures { HasRun J.meaning context.now.shared.now (record { places = places.old; room = context.now.room; jobs = jobs.old.items; first = first.now.lists }) (jobs.new.items, places.new) }
+    requires { CanRun J.meaning context.now.shared.now (record { places = places.old; room = context.now.room; load = record { jobs = jobs.old.items; first = first.now.lists } }) }
+    ensures { HasRun J.meaning context.now.shared.now (record { places = places.old; room = context.now.room; load = record { jobs = jobs.old.items; first = first.now.lists } }) (jobs.new.items, places.new) }
 {
     let threads = threads_for(places.len(), context.room);
     seat_jobs(jobs, places);

@@ -1,8 +1,8 @@
-ghost use Rattle.std.specs.Prelude.{◌≡◌, ◌+◌, ◌<◌, ◌≤◌, [], ◌∷◌, ◌++◌, List, length, IfOk, MatchOption};
 ghost use Rattle.std.specs.List.{Contains};
+ghost use Rattle.std.specs.Prelude.{◌≡◌, ◌+◌, ◌<◌, ◌≤◌, [], ◌∷◌, ◌++◌, List, length, IfOk, MatchOption};
 ghost use Rattle.heap_base.specs.declared.task.Task.{Task};
 ghost use Rattle.steal_pool.specs.Jobs.{Puts};
-ghost use Rattle.steal_pool.specs.Queues.{Waiting, empty_queue};
+ghost use Rattle.steal_pool.specs.Queues.{empty_queue};
 
 use crate::job::Job;
 use crate::outbox::Outbox;
@@ -107,7 +107,7 @@ impl Queue {
         requires ready { J.meaning.ready job.old shared.now }
         requires fit { Contains (J.meaning.fit job.old shared.now) task }
         requires spare { J.meaning.room job.old ≤ self.old.spare }
-        ensures puts { Puts J.meaning shared.now (job.old, self.old.tasks) task (job.new, self.new.tasks) }
+        ensures puts { Puts J.meaning shared.now (record { job = job.old; task = task; outbox = self.old.tasks }) (job.new, self.new.tasks) }
         ensures spare { length self.new.tasks + self.new.spare ≡ length self.old.tasks + self.old.spare }
         ensures room { self.new.room ≡ self.old.room }
         ensures ready { J.meaning.ready job.new shared.now }

@@ -1,11 +1,11 @@
 //! The beginning of a run, on the terms of a job.
 ghost use Rattle.std.specs.Prelude.{◌≡◌, ℕ, ◌+◌, true, length};
-ghost use Rattle.heap_base.specs.declared.task.Task.{Task};
-ghost use Rattle.heap_base.specs.Counting.{total};
 ghost use Rattle.crossbeam_deque.specs.Handles.{worker_view, worker_deque};
-ghost use Rattle.steal_pool.specs.Steps.{renewed_hand};
+ghost use Rattle.heap_base.specs.Counting.{total};
+ghost use Rattle.heap_base.specs.declared.task.Task.{Task};
 ghost use Rattle.steal_pool.specs.Deques.{IsSameDeque};
 ghost use Rattle.steal_pool.specs.Lanes.{own_hand};
+ghost use Rattle.steal_pool.specs.Steps.{renewed_hand};
 
 use crate::deque::Owner;
 use crate::job::Job;

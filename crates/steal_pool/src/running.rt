@@ -1,12 +1,12 @@
 //! All workers at the same time, and then the caller.
-ghost use Rattle.std.specs.Prelude.{◌≡◌, ℕ, ◌<◌, ◌≤◌, length, slice_index_or};
-ghost use Rattle.steal_pool.specs.declared.working.TheConstants.{PATIENCE};
 ghost use Rattle.std.specs.List.{All, AllByRecursion};
+ghost use Rattle.std.specs.Prelude.{◌≡◌, ℕ, ◌<◌, ◌≤◌, length, slice_index_or};
 ghost use Rattle.crossbeam_utils.specs.Padded.{padded_value};
 ghost use Rattle.steal_pool.specs.Lanes.{own_hand, HasTakenFew};
 ghost use Rattle.steal_pool.specs.Lists.{Each};
 ghost use Rattle.steal_pool.specs.Places.{MayStart, MayFinish, FinishesWork};
 ghost use Rattle.steal_pool.specs.Workers.{EndsWork};
+ghost use Rattle.steal_pool.specs.declared.working.TheConstants.{PATIENCE};
 
 use crate::context::Context;
 use crate::job::Job;

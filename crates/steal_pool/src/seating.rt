@@ -5,7 +5,7 @@ ghost use Rattle.heap_base.specs.declared.limits.TheConstants.{MOST_WORKERS};
 ghost use Rattle.heap_base.specs.declared.task.Task.{Task};
 ghost use Rattle.crossbeam_utils.specs.Padded.{padded_value};
 ghost use Rattle.steal_pool.specs.Lists.{Each};
-ghost use Rattle.steal_pool.specs.Seats.{TakesJob, GivesJob, HasSomeJob, CanBegin, Begins};
+ghost use Rattle.steal_pool.specs.Seats.{TakesJob, GivesJob, HasSomeJob, opening, CanBegin, Begins};
 
 use crate::first_tasks::FirstTasks;
 use crate::job::Job;
@@ -50,8 +50,8 @@ pub fn unseat_jobs<J: Drop>(jobs: &mut Vec<J>, places: &mut [CachePadded<Place<J
 
 // The job's fit tasks are the terms of the deque, and the first tasks wait.
 fn begin_place<S: Sync, J: Job<S>>(place: &mut Place<J>, shared: &S, first: &[Task], number: u32)
-    requires { CanBegin J.meaning shared.now place.old first.now }
-    ensures { Begins J.meaning shared.now place.old first.now place.new }
+    requires { CanBegin J.meaning shared.now (opening place.old first.now) }
+    ensures { Begins J.meaning shared.now (opening place.old first.now) place.new }
 {
     let Some(job) = &place.job else {
         unreachable!()
@@ -72,8 +72,8 @@ pub fn begin_all<S: Sync, J: Job<S>>(
 )
     requires lists { number + length places.old ≡ length first.now.lists }
     requires few { length first.now.lists ≤ MOST_WORKERS }
-    requires can { Each (λ p f _. CanBegin J.meaning shared.now (padded_value p) f) places.old (drop number first.now.lists) places.old }
-    ensures { Each (λ p f q. Begins J.meaning shared.now (padded_value p) f (padded_value q)) places.old (drop number first.now.lists) places.new }
+    requires can { Each (λ p f _. CanBegin J.meaning shared.now (opening (padded_value p) f)) places.old (drop number first.now.lists) places.old }
+    ensures { Each (λ p f q. Begins J.meaning shared.now (opening (padded_value p) f) (padded_value q)) places.old (drop number first.now.lists) places.new }
 {
     if !places.is_empty() {
         let (head, rest) = places.split_at_mut(1);

@@ -1,7 +1,7 @@
 //! Another worker's deque, with a hand on it.
 ghost use Rattle.std.specs.Prelude.{◌≡◌, ◌<◌, ◌≤◌};
-ghost use Rattle.crossbeam_deque.specs.Handles.{view, IsPassOf, stealer_deque, stealer_flavor};
 ghost use Rattle.heap_base.specs.Counting.{total};
+ghost use Rattle.crossbeam_deque.specs.Handles.{view, IsPassOf, stealer_deque, stealer_flavor};
 ghost use Rattle.steal_pool.specs.Hands.{one};
 
 use crate::deque::{HandPass, Thief};

@@ -1,5 +1,6 @@
 use Rattle.std.proofs.Common.{◌≡◌, List, [], length, ◌++◌, subst, sym, ◌∙◌, ap, arith}
-use Rattle.steal_pool.specs.Needs.{HasRun}
+use Rattle.steal_pool.specs.Needs.{Start, HasRun}
+use Rattle.steal_pool.specs.Runs.{Workload}
 use Rattle.steal_pool.proofs.WholeRun.{none_left, AreSeated, HaveHands, HaveStopped, AreWhole, seated_from, can_begin_all, begun_from, can_lend, handed_from}
 use Rattle.steal_pool.proofs.WholeRun.{may_start, stopped_from, can_take, whole_from, finish_needs, done_from, have_jobs_all, has_run}
 use Rattle.steal_pool.proofs.pool.run_on.Given as given
@@ -70,9 +71,9 @@ returns g c =
     let at = goal.at.returns g c in
     let back = whole g at.After-take_back_all (stopped g at.After-run_all (handed g at.After-busy)) in
     let done = done_from c.requires c.finish_all.new.places back c.finish_all.ensures in
-    let js = c.args.jobs.now.items in
-    let fs = c.args.first.now.lists in
+    let load : Workload _ = record { jobs = c.args.jobs.now.items; first = c.args.first.now.lists } in
+    let start : Start _ = record { places = c.args.places.now; room = c.args.context.now.room; load = load } in
     let last = c.unseat_jobs.ensures.0 in
     let left-is : c.unseat_jobs.new.jobs.items ≡ last = c.unseat_jobs.ensures.1 ∙ ap (λ xs. xs ++ last) (none_left _ (none_unseated g at.After-seat_jobs)) in
-    subst (λ (xs : List _). HasRun g.J.Job.meaning c.args.context.now.shared.now (record { places = c.args.places.now; room = c.args.context.now.room; jobs = js; first = fs }) (xs, c.unseat_jobs.new.places)) (sym left-is)
+    subst (λ (xs : List _). HasRun g.J.Job.meaning c.args.context.now.shared.now start (xs, c.unseat_jobs.new.places)) (sym left-is)
     (has_run c.requires done c.unseat_jobs.ensures.2 c.take_back_all.ensures.sum)

@@ -22,8 +22,9 @@ rest_can g t c = (subst (AllPlaces (CanTakeBack (length c.args.places.now - 1)))
 
 -- the keys of the first place, and those of the rest
 rows_of : (g : _) (t : _) (c : After-deref_mut-first g t) (b : List HandKey) → map keys_in c.args.places.now ≡ keys_of_others b (map key_in c.args.places.now)
-    → (keys_in (slice_index_or c.split_at_mut-head.result.0.now 0 c.index-head-0.result) ≡ b ++ map key_in c.split_at_mut-head.result.1.now)
-    × (map keys_in c.split_at_mut-head.result.1.now ≡ keys_of_others (b ++ key_in (slice_index_or c.split_at_mut-head.result.0.now 0 c.index-head-0.result) ∷ []) (map key_in c.split_at_mut-head.result.1.now))
+    → let first = slice_index_or c.split_at_mut-head.result.0.now 0 c.index-head-0.result in
+    let rest = c.split_at_mut-head.result.1.now in
+    (keys_in first ≡ b ++ map key_in rest) × (map keys_in rest ≡ keys_of_others (b ++ key_in first ∷ []) (map key_in rest))
 rows_of g t c b e =
     first_row b (slice_index_or c.split_at_mut-head.result.0.now 0 c.index-head-0.result) c.split_at_mut-head.result.1.now
     (subst (λ xs. map keys_in xs ≡ keys_of_others b (map key_in xs)) (front_is (split g t c) c.index-head-0.result) e)

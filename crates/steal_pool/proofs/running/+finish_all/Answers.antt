@@ -10,7 +10,8 @@ split : (g : _) (t : _) (c : After-deref_mut-first g t) → IsSplit c.args.place
 split g t c = record { whole = c.split_at_mut-head.ensures.value; one = c.split_at_mut-head.ensures.front_len }
 
 -- what the first place needs, and what the rest need
-may : (g : _) (t : _) (c : After-deref_mut-first g t) → AllPlaces (MayFinish g.J.Job.meaning c.args.shared.now) (slice_index_or c.split_at_mut-head.result.0.now 0 c.index-head-0.result ∷ c.split_at_mut-head.result.1.now)
+may : (g : _) (t : _) (c : After-deref_mut-first g t)
+    → AllPlaces (MayFinish g.J.Job.meaning c.args.shared.now) (slice_index_or c.split_at_mut-head.result.0.now 0 c.index-head-0.result ∷ c.split_at_mut-head.result.1.now)
 may g t c = subst (AllPlaces (MayFinish g.J.Job.meaning c.args.shared.now)) (front_is (split g t c) c.index-head-0.result) c.requires
 
 pub finish_place-requires-after_bounds : goal.finish_place-requires-after_bounds

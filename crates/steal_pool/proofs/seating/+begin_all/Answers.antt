@@ -2,7 +2,7 @@ use Rattle.std.proofs.Common.{◌≡◌, ℕ, ◌+◌, List, [], ◌∷◌, arit
 use Rattle.heap_base.specs.declared.task.Task.{Task}
 use Rattle.crossbeam_utils.specs.Padded.{padded_value, padded_with_value}
 use Rattle.steal_pool.specs.Lists.{Each}
-use Rattle.steal_pool.specs.Seats.{CanBegin, Begins}
+use Rattle.steal_pool.specs.Seats.{opening, CanBegin, Begins}
 use Rattle.steal_pool.proofs.LoanLemmas.{IsSplit, headed, front_is, drop_at}
 use Rattle.steal_pool.proofs.seating.+begin_all.Goals as goal
 use Rattle.steal_pool.proofs.seating.+begin_all.Goals.{After-deref_mut-place}
@@ -31,16 +31,16 @@ begin_place-requires-after_bounds g t c = λ κs w. (
     let cut = split g t (goal.at.begin_place-requires-after_bounds g t c).After-deref_mut-place in
     let x = slice_index_or c.split_at_mut-head.result.0.now 0 c.index-head-0.result in
     let can =
-    each_split cut c.index-head-0.result c.args.number c.args.first.now.lists (λ p f _. CanBegin M c.args.shared.now (padded_value p) f)
+    each_split cut c.index-head-0.result c.args.number c.args.first.now.lists (λ p f _. CanBegin M c.args.shared.now (opening (padded_value p) f))
     c.requires.lists c.requires.can in
-    subst (λ u. CanBegin M c.args.shared.now u c.of.result.now) (sym c.deref_mut-place.ensures.value)
-    (subst (λ f. CanBegin M c.args.shared.now (padded_value x) f) (sym c.of.ensures) can.0))
+    subst (λ u. CanBegin M c.args.shared.now (opening u c.of.result.now)) (sym c.deref_mut-place.ensures.value)
+    (subst (λ f. CanBegin M c.args.shared.now (opening (padded_value x) f)) (sym c.of.ensures) can.0))
 
 pub begin_all-requires-clause-can : goal.begin_all-requires-clause-can
 begin_all-requires-clause-can g t c = λ κs w. (
     let M = g.J.Job.meaning in
     let cut = split g t (goal.at.begin_all-requires-clause-can g t c).After-deref_mut-place in
-    (each_split cut c.index-head-0.result c.args.number c.args.first.now.lists (λ p f _. CanBegin M c.args.shared.now (padded_value p) f)
+    (each_split cut c.index-head-0.result c.args.number c.args.first.now.lists (λ p f _. CanBegin M c.args.shared.now (opening (padded_value p) f))
     c.requires.lists c.requires.can).1)
 
 pub returns-then-not-is_empty : goal.returns-then-not-is_empty
@@ -52,12 +52,12 @@ returns-then-not-is_empty g t c =
     let fs = c.args.first.now.lists in
     let d = lists_are cut c.index-head-0.result c.args.number fs c.requires.lists in
     let first = padded_with_value x c.begin_place.new.place in
-    let begins = subst (λ f. Begins M c.args.shared.now c.deref_mut-place.result.now f c.begin_place.new.place) c.of.ensures c.begin_place.ensures in
-    headed (λ xs ys. Each (λ p f q. Begins M c.args.shared.now (padded_value p) f (padded_value q)) xs (drop c.args.number fs) ys) cut
+    let begins = subst (λ f. Begins M c.args.shared.now (opening c.deref_mut-place.result.now f) c.begin_place.new.place) c.of.ensures c.begin_place.ensures in
+    headed (λ xs ys. Each (λ p f q. Begins M c.args.shared.now (opening (padded_value p) f) (padded_value q)) xs (drop c.args.number fs) ys) cut
     c.index-head-0.result first c.begin_all.new.places
     (subst
-    (λ gs. Each (λ p f q. Begins M c.args.shared.now (padded_value p) f (padded_value q)) (x ∷ rest) gs (first ∷ c.begin_all.new.places))
+    (λ gs. Each (λ p f q. Begins M c.args.shared.now (opening (padded_value p) f) (padded_value q)) (x ∷ rest) gs (first ∷ c.begin_all.new.places))
     (sym d) (
-      subst (λ u. Begins M c.args.shared.now u (slice_index_or fs c.args.number []) c.begin_place.new.place) c.deref_mut-place.ensures.value begins,
+      subst (λ u. Begins M c.args.shared.now (opening u (slice_index_or fs c.args.number [])) c.begin_place.new.place) c.deref_mut-place.ensures.value begins,
       c.begin_all.ensures,
     ))

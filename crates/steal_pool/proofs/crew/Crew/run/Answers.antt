@@ -3,6 +3,7 @@ use Rattle.std.specs.List.{All}
 use Rattle.crossbeam_utils.specs.Padded.{padded_value}
 use Rattle.steal_pool.specs.Needs.{CanRun}
 use Rattle.steal_pool.specs.Rests.{IsAtRest}
+use Rattle.steal_pool.specs.Runs.{Workload}
 use Rattle.steal_pool.proofs.ListLemmas.{take_front}
 use Rattle.steal_pool.proofs.crew.Crew.run.Goals as goal
 
@@ -16,7 +17,8 @@ run_on-requires-after_bounds g c = λ κs w. (
     let jobs = c.requires.jobs in
     let jobs-count = c.args.jobs.now.ok.0 in
     let lists = c.requires.lists in
-    subst (λ (xs : List _). CanRun g.J.Job.meaning c.args.shared.now (record { places = xs; room = self.room; jobs = c.args.jobs.now.items; first = c.args.first.now.lists })) (sym c.as_mut_slice.ensures.value)
+    let load : Workload _ = record { jobs = c.args.jobs.now.items; first = c.args.first.now.lists } in
+    subst (λ (xs : List _). CanRun g.J.Job.meaning c.args.shared.now (record { places = xs; room = self.room; load = load })) (sym c.as_mut_slice.ensures.value)
     (record {
       some = omega arith;
       few = omega arith;

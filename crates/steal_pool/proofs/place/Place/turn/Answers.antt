@@ -8,7 +8,7 @@ use Rattle.steal_pool.specs.Jobs.{AllFit}
 use Rattle.steal_pool.specs.Queues.{Waiting}
 use Rattle.steal_pool.specs.Searches.{sources, FindsTask}
 use Rattle.steal_pool.proofs.ListLemmas.{take_front}
-use Rattle.steal_pool.proofs.PlaceTurns.{offers_none, with_others, finds_none, HasRested, none_ends, none_fewer, HasFound, has_turn, can_do, HasOffered, did_ends, did_few, did_fewer}
+use Rattle.steal_pool.proofs.PlaceTurns.{offers_none, with_others, finds_none, HasRested, none_ends, none_fewer, HasFound, has_turn, can_do, LeavesTurn, leaves_turn}
 use Rattle.steal_pool.proofs.TurnLemmas.{DoesTask}
 use Rattle.steal_pool.proofs.place.Place.turn.Given as given
 use Rattle.steal_pool.proofs.place.Place.turn.Goals as goal
@@ -98,17 +98,13 @@ module _ (g : given.Over) (c : After-work g) where
 pub returns-then-not-is_empty : goal.returns-then-not-is_empty
 returns-then-not-is_empty g c =
     let at = goal.at.returns-then-not-is_empty g c in
-    let turn = found g at.In-Some-find_task in
-    let done = did g at.After-work in
-    let offered : HasOffered _ _ turn done (left g at.After-work c.offer.new.queue c.offer.new.lane) =
-    record { is = refl; offers = with_others (others_are g at.After-work) c.offer.ensures; spare = refl; space = refl } in
-    record { went = did_ends _ _ turn done offered; few = did_few _ _ turn done offered; fewer = did_fewer _ _ turn done offered; none = search rules }
+    let turn : LeavesTurn _ _ (found g at.In-Some-find_task) (did g at.After-work) (left g at.After-work c.offer.new.queue c.offer.new.lane) =
+    leaves_turn _ _ _ _ (record { is = refl; offers = with_others (others_are g at.After-work) c.offer.ensures; spare = refl; space = refl }) in
+    record { went = turn.went; few = turn.few; fewer = turn.fewer; none = search rules }
 
 pub returns-else-not-is_empty : goal.returns-else-not-is_empty
 returns-else-not-is_empty g c =
     let at = goal.at.returns-else-not-is_empty g c in
-    let turn = found g at.In-Some-find_task in
-    let done = did g at.After-work in
-    let offered : HasOffered _ _ turn done (left g at.After-work c.work.new.self c.find_task.new.lane) =
-    record { is = refl; offers = with_others (others_are g at.After-work) (offers_none _); spare = refl; space = refl } in
-    record { went = did_ends _ _ turn done offered; few = did_few _ _ turn done offered; fewer = did_fewer _ _ turn done offered; none = search rules }
+    let turn : LeavesTurn _ _ (found g at.In-Some-find_task) (did g at.After-work) (left g at.After-work c.work.new.self c.find_task.new.lane) =
+    leaves_turn _ _ _ _ (record { is = refl; offers = with_others (others_are g at.After-work) (offers_none _); spare = refl; space = refl }) in
+    record { went = turn.went; few = turn.few; fewer = turn.fewer; none = search rules }
