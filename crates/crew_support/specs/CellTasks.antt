@@ -10,7 +10,7 @@ tasks_below (suc n) = record { cell = n; tag = 0 } ∷ tasks_below n
 
 -- a job that is always ready for these tasks, where the shared value says how many cells there are
 abbrev pub cells_meaning : {J S : Type 0} → (S → ℕ) → (J → ℕ) → (J → ℕ) → Meaning J S
-cells_meaning count room turns = record { ready = λ _ _. ⊤; fit = λ _ s. tasks_below (count s); room = room; turns = turns; works = λ _ _ _ _ _. ⊤ }
+cells_meaning count room turns = record { ready = λ _ _. ⊤; fit = λ _ s. tasks_below (count s); room = room; turns = turns; works = λ _ _ _ _. ⊤ }
 
 -- a list of at most four fit tasks for each worker
 abbrev pub AreFirst : ℕ → ℕ → List (List Task) → Type 0
