@@ -46,7 +46,7 @@ same-modes g mode (j ∷ js) (a ∷ gains) [] e are = absurd e
 same-modes g mode (j ∷ js) (a ∷ gains) (k ∷ ks) e are =
     all-cons (λ i. i.mode ≡ mode) k ks (e.0.mode ∙ are 0 j (omega arith)) (same-modes g mode js gains ks e.1 (all-tail (λ i. i.mode ≡ mode) j js are))
 
-pub run-modes : (s : Shared) (mode : Mode) (fs : List (List Task)) (js ks : List ScanState) → 0 < length js → AreIn mode js → Run shared_meaning s fs js ks → AreIn mode ks
+pub run-modes : (s : Shared) (mode : Mode) (fs : List (List Task)) (js ks : List ScanState) → 0 < length js → AreIn mode js → Run shared_meaning s (record { jobs = js; first = fs }) ks → AreIn mode ks
 run-modes s mode fs js ks some are run =
     let r = run-scans s mode fs js ks some are run in same-modes (graph_in s) mode js r.gains ks r.each are
 
@@ -84,7 +84,7 @@ module _ (s : Shared) (js : List ScanState) (some_jobs : 0 < length js) (ready :
   -- ---- what the run gains
 
   module _ (ks : List ScanState) (fs : List (List Task)) (n : ℕ) (some_workers : 0 < n) where
-    pub owner-phase : fs ≡ dealt n (owner_firsts s.roles) → Run shared_meaning s fs (map (begun Owner) js) ks → Gained g (OwnerGains g) js ks
+    pub owner-phase : fs ≡ dealt n (owner_firsts s.roles) → Run shared_meaning s (record { jobs = map (begun Owner) js; first = fs }) ks → Gained g (OwnerGains g) js ks
     owner-phase lists run =
         let r = run-scans s Owner fs (map (begun Owner) js) ks (map-some Owner js some_jobs) (begun-modes s Owner js) run in
         record {
@@ -99,7 +99,7 @@ module _ (s : Shared) (js : List ScanState) (some_jobs : 0 < length js) (ready :
               omega arith);
         }
 
-    pub take_up-phase : fs ≡ dealt n (held_firsts js) → Run shared_meaning s fs (map (begun TakeUp) js) ks → Gained g (TakeUpGains g (all_held js)) js ks
+    pub take_up-phase : fs ≡ dealt n (held_firsts js) → Run shared_meaning s (record { jobs = map (begun TakeUp) js; first = fs }) ks → Gained g (TakeUpGains g (all_held js)) js ks
     take_up-phase lists run =
         let r = run-scans s TakeUp fs (map (begun TakeUp) js) ks (map-some TakeUp js some_jobs) (begun-modes s TakeUp js) run in
         record {
@@ -130,7 +130,7 @@ roots-fit g whole won among =
 
 root-jobs : (s : Shared) (j : ScanState) (js ks : List ScanState) (k : ScanState) (won : List ℕ) (fs : List (List Task)) (n : ℕ) → 0 < n →
     IsWhole (graph_in s) → Meets (graph_in s) (root_meeting (graph_in s) won) (begun Root j) k → fs ≡ dealt n (root_firsts (graph_in s) won) →
-    Run shared_meaning s fs (k ∷ map (begun Root) js) ks → Gained (graph_in s) (RootGains (graph_in s)) (j ∷ js) ks
+    Run shared_meaning s (record { jobs = k ∷ map (begun Root) js; first = fs }) ks → Gained (graph_in s) (RootGains (graph_in s)) (j ∷ js) ks
 root-jobs s j js ks k won fs n some whole met lists run =
     let g = graph_in s in
     let modes : AreIn Root (k ∷ map (begun Root) js) = all-cons (λ i. i.mode ≡ Root) k (map (begun Root) js) met.mode (begun-modes s Root js) in
@@ -149,7 +149,7 @@ root-jobs s j js ks k won fs n some whole met lists run =
 -- the first of the jobs that have begun met the roots and became k
 pub root-phase : (s : Shared) (js ks : List ScanState) (j k : ScanState) (won : List ℕ) (fs : List (List Task)) (n : ℕ) → 0 < length js →
     0 < n → IsWhole (graph_in s) → j ≡ get_or (map (begun Root) js) 0 j → Meets (graph_in s) (root_meeting (graph_in s) won) j k →
-    fs ≡ dealt n (root_firsts (graph_in s) won) → Run shared_meaning s fs (set (map (begun Root) js) 0 k) ks →
+    fs ≡ dealt n (root_firsts (graph_in s) won) → Run shared_meaning s (record { jobs = set (map (begun Root) js) 0 k; first = fs }) ks →
     Gained (graph_in s) (RootGains (graph_in s)) js ks
 root-phase s [] ks j k won fs n some_jobs some_workers whole is met lists run = absurd (omega arith)
 root-phase s (i ∷ js) ks j k won fs n some_jobs some_workers whole is met lists run =

@@ -11,7 +11,7 @@ abbrev no_work : Work
 no_work = record { done = []; put = [] }
 
 module _ {J S : Type 0} (M : Meaning J S) (s : S) where
-  each-idle : (js : List J) → Each (λ j (w : Work) k. Does (M.works s) j w.done k w.put) js (map (λ _. no_work) js) js
+  each-idle : (js : List J) → Each (λ j (w : Work) k. Does (M.works s) j w.done (record { job = k; put = w.put })) js (map (λ _. no_work) js) js
   each-idle [] = (refl, refl)
   each-idle (j ∷ js) = ((refl, refl), each-idle js)
 
@@ -34,7 +34,7 @@ module _ {J S : Type 0} (M : Meaning J S) (s : S) where
   all-idle fit (j ∷ js) (suc k) d l = all-idle fit js k d (omega arith)
 
   -- where no list has a task, every job stays as it is
-  pub idle-run : (fs : List (List Task)) (js : List J) → All (λ f. f ≡ []) fs → Run M s fs js js
+  pub idle-run : (fs : List (List Task)) (js : List J) → All (λ f. f ≡ []) fs → Run M s (record { jobs = js; first = fs }) js
   idle-run fs js none = record {
     work = map (λ _. no_work) js;
     each = each-idle js;

@@ -1,6 +1,7 @@
 -- A meeting with one cell, and meetings one after another.
-use Rattle.std.proofs.Common.{◌≡◌, ℕ, ◌+◌, ◌<◌, ◌≤◌, Bool, true, false, cond, ⊎_elim, List, [], ◌∷◌, ◌++◌, filter, map, length, slice_index, sym}
+use Rattle.std.proofs.Common.{◌≡◌, ℕ, ◌+◌, ◌<◌, ◌≤◌, Bool, true, false, cond, ⊎_elim, List, [], ◌∷◌, ◌++◌, filter, map, length, get_or, slice_index, sym}
 use Rattle.std.proofs.Common.{refl, ap, ◌∙◌, arith, eqb, eqb-true, append_assoc, append-nil, length-append, IsTrue}
+use Rattle.std.specs.List.{All}
 use Rattle.std.proofs.lemmas.Bool.{or_cases, false≢true}
 use Rattle.std.proofs.lemmas.List.{map-append, length-map}
 use Rattle.std.proofs.lemmas.List.Elements.{filter-append}
@@ -32,6 +33,20 @@ below-won ws cells cell true below less x at =
 
 pub few-wins : (j : ScanState) → IsWithinWins j → length (wins j.pass) ≤ j.cells
 few-wins j w = few-below j.cells (wins j.pass) w.once w.below
+
+-- the job at a place of these
+pub record JobAt (js : List ScanState) (i : ℕ) (j : ScanState) : Type 0 where
+  pub within : i < length js
+  pub is : j ≡ get_or js i j
+  pub won : IsWithinWins j
+
+-- where no job is made for more cells, it won no more
+pub few-won : (js : List ScanState) (i : ℕ) (j : ScanState) → JobAt js i j → (most : ℕ) → All (λ k. k.cells ≤ most) js → length (wins j.pass) ≤ most
+few-won js i j at most all =
+    let a = few-wins j at.won in
+    let b = all i j at.within in
+    let c = ap (λ (z : ScanState). z.cells) at.is in
+    omega arith
 
 -- ---- no cell
 

@@ -5,14 +5,17 @@ use Rattle.std.proofs.lemmas.List.{length-map}
 use Rattle.heap_base.specs.declared.task.Task.{Task}
 use Rattle.steal_pool.specs.declared.crew.Crew.{Crew}
 use Rattle.steal_pool.specs.FirstLists.{FirstLists}
-use Rattle.steal_pool.specs.Runs.{most_tasks, Run, TurnsLast}
+use Rattle.steal_pool.specs.Jobs.{AllFit}
+use Rattle.steal_pool.specs.Runs.{most_tasks, Workload, Run, TurnsLast}
 use Rattle.scan_job.specs.declared.mode.Mode.{Mode}
 use Rattle.scan_job.specs.declared.mode.Mode.TheVariants.{Owner, TakeUp}
 use Rattle.scan_job.specs.Shared.{Shared, lent}
 use Rattle.scan_job.specs.declared.shared.ScanShared.{ScanShared}
+use Rattle.scan_job.specs.Fit.{fit_tasks}
 use Rattle.scan_job.specs.Gains.{Gain, Gained}
+use Rattle.scan_job.specs.Graphs.{StoppedGraph}
 use Rattle.scan_job.specs.Jobs.{graph_in, shared_meaning}
-use Rattle.scan_job.specs.Phases.{cells_in, CanBegin, CanScan, AreIn, all_held, AreUnderOwners, begun, CanRun, HasBegun, dealt, owner_firsts, held_firsts, OwnerGains, TakeUpGains}
+use Rattle.scan_job.specs.Phases.{cells_in, CanBegin, CanScan, AreIn, all_held, AreUnderOwners, begun, CanRun, HasBegun, dealt, owner_firsts, held_firsts, from_owners, from_held}
 use Rattle.scan_job.specs.Scans.{task_at}
 use Rattle.scan_job.specs.States.{ScanState}
 use Rattle.scan_job.proofs.Gaining.{run-modes, owners-fit, owner-phase, held-fit, take_up-phase}
@@ -26,36 +29,37 @@ le-times n c some = let one : 1 ≤ n = omega arith in let m = mul-le-mul_left c
 -- Jobs that have begun a phase, and the lists of its first tasks.
 pub record Begun (s : Shared) (mode : Mode) (js : List ScanState) (ts : List Task) : Type 0 where
   pub start : IsStart s mode (length js) (map (begun mode) js) ts
-  pub jobs : List ScanState
-  pub are_begun : jobs ≡ map (begun mode) js
-  pub fs : List (List Task)
-  pub lists : fs ≡ dealt (length js) ts
+  pub load : Workload ScanState
+  pub are_begun : load.jobs ≡ map (begun mode) js
+  pub lists : load.first ≡ dealt (length js) ts
 
 module _ (s : Shared) (mode : Mode) (js : List ScanState) (ts : List Task) (p : Begun s mode js ts) where
-  pub begun-many : length p.jobs ≡ length js
+  pub begun-many : length p.load.jobs ≡ length js
   begun-many = ap length p.are_begun ∙ length-map js (begun mode)
 
-  pub begun-run : (room : ℕ) → 2 * cells_in s < room → CanRun s p.jobs room p.fs
+  pub begun-run : (room : ℕ) → 2 * cells_in s < room → CanRun s p.load room
   begun-run room wide =
-      subst (λ zs. CanRun s zs room p.fs) (sym p.are_begun) (can-run s mode (length js) (map (begun mode) js) ts p.fs p.start p.lists room wide)
+      subst (λ zs. CanRun s (record { jobs = zs; first = p.load.first }) room) (sym p.are_begun) (can-run s mode (length js) (map (begun mode) js) ts p.load.first p.start p.lists room wide)
 
-  modes-after : (ks : List ScanState) → Run shared_meaning s p.fs p.jobs ks → AreIn mode ks
+  modes-after : (ks : List ScanState) → Run shared_meaning s p.load ks → AreIn mode ks
   modes-after ks run =
-      run-modes s mode p.fs (map (begun mode) js) ks (let a = p.start.jobs in let b = p.start.some in omega arith) p.start.modes (subst (λ zs. Run shared_meaning s p.fs zs ks) p.are_begun run)
+      run-modes s mode p.load.first (map (begun mode) js) ks (let a = p.start.jobs in let b = p.start.some in omega arith) p.start.modes (subst (λ zs. Run shared_meaning s (record { jobs = zs; first = p.load.first }) ks) p.are_begun run)
 
-  turns-after : (ks : List ScanState) → TurnsLast shared_meaning (most_tasks shared_meaning p.jobs p.fs) p.jobs ks → TurnsLast shared_meaning (2 ^ 25 + 1) js ks
+  turns-after : (ks : List ScanState) → TurnsLast shared_meaning (most_tasks shared_meaning p.load.jobs p.load.first) p.load.jobs ks → TurnsLast shared_meaning (2 ^ 25 + 1) js ks
   turns-after ks last =
-      let few = few-tasks s mode (length js) (map (begun mode) js) ts p.fs p.start p.lists in
-      begun-last mode (most_tasks shared_meaning (map (begun mode) js) p.fs) (2 ^ 25 + 1) js ks (omega arith)
-      (subst (λ zs. TurnsLast shared_meaning (most_tasks shared_meaning zs p.fs) zs ks) p.are_begun last)
+      let few = few-tasks s mode (length js) (map (begun mode) js) ts p.load.first p.start p.lists in
+      begun-last mode (most_tasks shared_meaning (map (begun mode) js) p.load.first) (2 ^ 25 + 1) js ks (omega arith)
+      (subst (λ zs. TurnsLast shared_meaning (most_tasks shared_meaning zs p.load.first) zs ks) p.are_begun last)
 
   -- what the run gains makes the phase done
-  pub has-begun : (P : Gain → Type 0) → ((ks : List ScanState) → Run shared_meaning s p.fs (map (begun mode) js) ks → Gained (graph_in s) P js ks) → HasBegun s mode P js p.jobs p.fs
+  pub has-begun : (P : StoppedGraph → Gain → Type 0)
+      → ((ks : List ScanState) → Run shared_meaning s (record { jobs = map (begun mode) js; first = p.load.first }) ks → Gained (graph_in s) (P (graph_in s)) js ks)
+      → HasBegun s (record { mode = mode; gains = P }) js p.load
   has-begun P gained = record {
     many = begun-many;
     can_run = begun-run;
     done = λ ks ran. record {
-      gains = gained ks (subst (λ zs. Run shared_meaning s p.fs zs ks) p.are_begun ran.ran);
+      gains = gained ks (subst (λ zs. Run shared_meaning s (record { jobs = zs; first = p.load.first }) ks) p.are_begun ran.ran);
       modes = modes-after ks ran.ran;
       ready = ran.ready;
       turns = turns-after ks ran.turns;
@@ -65,43 +69,39 @@ module _ (s : Shared) (mode : Mode) (js : List ScanState) (ts : List Task) (p : 
 module _ (s : Shared) (js : List ScanState) (first : FirstLists) (can : CanBegin s js first) where
   -- ---- what the jobs are ready for
 
-  pub owner-start : IsStart s Owner (length js) (map (begun Owner) js) (owner_firsts s.roles)
-  owner-start = record {
-    ready = begun-ready s Owner js can.ready;
-    modes = begun-modes s Owner js;
-    turns = begun-turns s Owner js (2 ^ 25) can.turns;
-    jobs = length-map js (begun Owner);
+  starts : (mode : Mode) (ts : List Task) → length ts ≤ length js * cells_in s → AllFit (fit_tasks (graph_in s) mode) ts → IsStart s mode (length js) (map (begun mode) js) ts
+  starts mode ts few fit = record {
+    ready = begun-ready s mode js can.ready;
+    modes = begun-modes s mode js;
+    turns = begun-turns s mode js (2 ^ 25) can.turns;
+    jobs = length-map js (begun mode);
     some = can.some;
     few_jobs = can.few;
-    few =
-        let a = length-map s.roles.owners (λ o. task_at o o) in
-        let b = few-owners s.table s.roles (first-ready s js can.some can.ready).1.roles in
-        let c = le-times (length js) (cells_in s) can.some in
-        omega arith;
-    fit = owners-fit s js can.some can.ready;
+    few = few;
+    fit = fit;
   }
 
+  pub owner-start : IsStart s Owner (length js) (map (begun Owner) js) (owner_firsts s.roles)
+  owner-start =
+      let a = length-map s.roles.owners (λ o. task_at o o) in
+      let b = few-owners s.table s.roles (first-ready s js can.some can.ready).1.roles in
+      let c = le-times (length js) (cells_in s) can.some in
+      starts Owner (owner_firsts s.roles) (omega arith) (owners-fit s js can.some can.ready)
+
   pub take_up-start : AreUnderOwners (graph_in s) (all_held js) → length (all_held js) ≤ length js * cells_in s → IsStart s TakeUp (length js) (map (begun TakeUp) js) (held_firsts js)
-  take_up-start under few = record {
-    ready = begun-ready s TakeUp js can.ready;
-    modes = begun-modes s TakeUp js;
-    turns = begun-turns s TakeUp js (2 ^ 25) can.turns;
-    jobs = length-map js (begun TakeUp);
-    some = can.some;
-    few_jobs = can.few;
-    few = (let a = length-map (all_held js) (task_at 0) in omega arith);
-    fit = held-fit s js can.some can.ready under;
-  }
+  take_up-start under few =
+      let a = length-map (all_held js) (task_at 0) in
+      starts TakeUp (held_firsts js) (omega arith) (held-fit s js can.some can.ready under)
 
   -- ---- what whatever run gains
 
-  pub owner-begun : (p : Begun s Owner js (owner_firsts s.roles)) → HasBegun s Owner (OwnerGains (graph_in s)) js p.jobs p.fs
+  pub owner-begun : (p : Begun s Owner js (owner_firsts s.roles)) → HasBegun s from_owners js p.load
   owner-begun p =
-      has-begun s Owner js (owner_firsts s.roles) p (OwnerGains (graph_in s)) (λ ks run. owner-phase s js can.some can.ready ks p.fs (length js) can.some p.lists run)
+      has-begun s Owner js (owner_firsts s.roles) p from_owners.gains (λ ks run. owner-phase s js can.some can.ready ks p.load.first (length js) can.some p.lists run)
 
-  pub take_up-begun : (p : Begun s TakeUp js (held_firsts js)) → HasBegun s TakeUp (TakeUpGains (graph_in s) (all_held js)) js p.jobs p.fs
+  pub take_up-begun : (p : Begun s TakeUp js (held_firsts js)) → HasBegun s (from_held (all_held js)) js p.load
   take_up-begun p =
-      has-begun s TakeUp js (held_firsts js) p (TakeUpGains (graph_in s) (all_held js)) (λ ks run. take_up-phase s js can.some can.ready ks p.fs (length js) can.some p.lists run)
+      has-begun s TakeUp js (held_firsts js) p (from_held (all_held js)).gains (λ ks run. take_up-phase s js can.some can.ready ks p.load.first (length js) can.some p.lists run)
 
 -- ---- where a crew runs the jobs
 

@@ -120,7 +120,7 @@ module _ (g : StoppedGraph) where
   cells-tagged tag [] = refl
   cells-tagged tag (x ∷ xs) = ap (λ ys. x ∷ ys) (cells-tagged tag xs)
 
-  works-scanned : (j k : ScanState) (t : Task) (put : List Task) (s : Works g j t k put) → Scanned g j.mode (t ∷ []) put (gain_of j.mode (scan_meeting g t s.won))
+  works-scanned : (j k : ScanState) (t : Task) (put : List Task) (s : Works g j t (record { job = k; put = put })) → Scanned g j.mode (t ∷ []) put (gain_of j.mode (scan_meeting g t s.won))
   works-scanned j k t put s = record {
     adds = sym (append-nil _);
     marks = sym (append-nil _);
@@ -129,7 +129,7 @@ module _ (g : StoppedGraph) where
     among = s.meets.among;
   }
 
-  did : (j k : ScanState) (ts put : List Task) → Does (Works g) j ts k put → (a : Gain) × Extends g j a k × Scanned g j.mode ts put a
+  did : (j k : ScanState) (ts put : List Task) → Does (Works g) j ts (record { job = k; put = put }) → (a : Gain) × Extends g j a k × Scanned g j.mode ts put a
   did j k [] put d =
       (no_gain, subst (λ i. Extends g j no_gain i) (sym d.0) (extends-none j), subst (λ p. Scanned g j.mode [] p no_gain) (sym d.1) (scanned-none j.mode))
   did j k (t ∷ ts) put d =
@@ -145,7 +145,7 @@ module _ (g : StoppedGraph) where
   -- ---- what the jobs of a run gain
 
   did-all : (mode : Mode) (js : List ScanState) (ws : List Work) (ks : List ScanState) → AreIn mode js →
-      Each (λ j (w : Work) k. Does (Works g) j w.done k w.put) js ws ks →
+      Each (λ j (w : Work) k. Does (Works g) j w.done (record { job = k; put = w.put })) js ws ks →
       (gains : List Gain) × Each (Extends g) js gains ks × Scanned g mode (all_done ws) (all_put ws) (all_gains gains)
   did-all mode [] ws ks are r =
       ([], (refl, r.1), subst (λ (vs : List Work). Scanned g mode (all_done vs) (all_put vs) no_gain) (sym r.0) (scanned-none mode))
@@ -201,7 +201,7 @@ all-done fit [] all = tt
 all-done fit (w ∷ ws) all =
     all-append (Contains fit) w.done (all_done ws) (all 0 w (omega arith)) (all-done fit ws (λ i x within. all (suc i) x (omega arith)))
 
-pub run-scans : (s : Shared) (mode : Mode) (fs : List (List Task)) (js ks : List ScanState) → 0 < length js → AreIn mode js → Run shared_meaning s fs js ks → RanScans s mode fs js ks
+pub run-scans : (s : Shared) (mode : Mode) (fs : List (List Task)) (js ks : List ScanState) → 0 < length js → AreIn mode js → Run shared_meaning s (record { jobs = js; first = fs }) ks → RanScans s mode fs js ks
 run-scans s mode fs js ks some are run =
     let d = did-all (graph_in s) mode js run.work ks are run.each in
     record {

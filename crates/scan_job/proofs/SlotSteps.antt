@@ -95,7 +95,8 @@ module _ (s : ScanShared) (t : Task) (i : ℕ) (old now : Worker) (p : HasScanne
         record {
           won = p.won ++ won_of won cell;
           meets =
-              subst (λ xs. Meets g (record { tag = t.tag; cells = xs; won = p.won ++ won_of won cell }) old.job next.job) (sym same) (meets-both g before one old.job now.job next.job refl p.meets met);
+              subst (λ xs. Meets g (record { tag = t.tag; cells = xs; won = p.won ++ won_of won cell }) old.job next.job) (sym same)
+              (meets-both g before one old.job now.job next.job refl p.meets met);
           ready = ready;
           tasks =
               tasks ∙ (λ x. p.tasks x ++ put_tasks g (p.meets.mode x) one)
@@ -122,7 +123,7 @@ module _ (s : ScanShared) (t : Task) (old now : Worker) (p : HasScanned s t (len
   abbrev pub all_slots : Meeting
   all_slots = record { tag = t.tag; cells = targets_of s.table.now (slots_in s.table.now t.cell); won = p.won }
 
-  pub scan-works : Works (shared_graph s) old.job t now.job (put_tasks (shared_graph s) old.job.mode all_slots)
+  pub scan-works : Works (shared_graph s) old.job t (record { job = now.job; put = put_tasks (shared_graph s) old.job.mode all_slots })
   scan-works = record {
     won = p.won;
     meets = subst (λ xs. Meets (shared_graph s) (record { tag = t.tag; cells = targets_of s.table.now xs; won = p.won }) old.job now.job) (take-length (slots_in s.table.now t.cell)) p.meets;

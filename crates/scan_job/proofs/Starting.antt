@@ -120,7 +120,7 @@ module _ (s : Shared) (mode : Mode) (n : ℕ) (js : List ScanState) (ts : List T
       let f = most-cells in
       omega arith
 
-  pub can-run : (room : ℕ) → 2 * cells_in s < room → CanRun s js room fs
+  pub can-run : (room : ℕ) → 2 * cells_in s < room → CanRun s (record { jobs = js; first = fs }) room
   can-run room wide =
       let fit = fit_tasks-in s mode js some start.modes in
       let many = ap length lists ∙ length-dealt n ts ∙ sym start.jobs in

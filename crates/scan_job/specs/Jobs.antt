@@ -34,7 +34,7 @@ meaning_over held = record {
   fit = λ j s. fit_tasks (graph_in (held s)) j.mode;
   room = room_of;
   turns = turns_of;
-  works = λ s j t k put. Works (graph_in (held s)) j t k put;
+  works = λ s. Works (graph_in (held s));
 }
 
 abbrev pub shared_meaning : Meaning ScanState Shared

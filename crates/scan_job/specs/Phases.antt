@@ -9,10 +9,11 @@ use Rattle.graph_meaning.specs.Roles.{RoleTable}
 use Rattle.header_rule.specs.declared.mark.Mark.TheVariants.{Found, MetByRoots}
 use Rattle.steal_pool.specs.declared.crew.Crew.{Crew}
 use Rattle.steal_pool.specs.FirstLists.{FirstLists}
-use Rattle.steal_pool.specs.Runs.{workers_of, most_tasks, AreReady, ShareFit, HaveRoom, HaveTurns, TurnsLast, Run}
+use Rattle.steal_pool.specs.Runs.{workers_of, most_tasks, AreReady, ShareFit, HaveRoom, HaveTurns, TurnsLast, Workload, Run}
 use Rattle.steal_pool.specs.Jobs.{AllFit}
 use Rattle.steal_pool.specs.Runs as Runs
 use Rattle.scan_job.specs.declared.mode.Mode.{Mode}
+use Rattle.scan_job.specs.declared.mode.Mode.TheVariants.{Owner, TakeUp, Root}
 use Rattle.scan_job.specs.declared.shared.ScanShared.{ScanShared}
 use Rattle.scan_job.specs.Graphs.{StoppedGraph, is_border, owners, all_targets, is_under_owners, is_found_from, is_reached_by_roots}
 use Rattle.scan_job.specs.Fit.{no_owners}
@@ -62,19 +63,19 @@ begun mode j = record j { mode = mode; held = [] }
 
 -- What a run asks, where each worker has room for so many tasks: there is a list of first tasks for each job; the jobs are
 -- ready and have the same fit tasks; the first tasks are fit; and there are room and turns for all that may be put.
-pub record CanRun (s : Shared) (js : List ScanState) (room : ℕ) (fs : List (List Task)) : Type 0 where
-  pub lists : length fs ≡ length js
-  pub ready : AreReady shared_meaning s js
-  pub same_fit : ShareFit shared_meaning s (Runs.fit_tasks shared_meaning s js) js
-  pub fit : All (AllFit (Runs.fit_tasks shared_meaning s js)) fs
-  pub have_room : HaveRoom shared_meaning room js fs
-  pub turns : HaveTurns shared_meaning (most_tasks shared_meaning js fs) js
+pub record CanRun (s : Shared) (load : Workload ScanState) (room : ℕ) : Type 0 where
+  pub lists : length load.first ≡ length load.jobs
+  pub ready : AreReady shared_meaning s load.jobs
+  pub same_fit : ShareFit shared_meaning s (Runs.fit_tasks shared_meaning s load.jobs) load.jobs
+  pub fit : All (AllFit (Runs.fit_tasks shared_meaning s load.jobs)) load.first
+  pub have_room : HaveRoom shared_meaning room load.jobs load.first
+  pub turns : HaveTurns shared_meaning (most_tasks shared_meaning load.jobs load.first) load.jobs
 
--- What a run leaves, whoever ran the jobs js from these first tasks.
-pub record HasRun (s : Shared) (fs : List (List Task)) (js ks : List ScanState) : Type 0 where
-  pub ran : Run shared_meaning s fs js ks
+-- What a run of this workload leaves, whoever ran it.
+pub record HasRun (s : Shared) (load : Workload ScanState) (ks : List ScanState) : Type 0 where
+  pub ran : Run shared_meaning s load ks
   pub ready : AreReady shared_meaning s ks
-  pub turns : TurnsLast shared_meaning (most_tasks shared_meaning js fs) js ks
+  pub turns : TurnsLast shared_meaning (most_tasks shared_meaning load.jobs load.first) load.jobs ks
 
 -- ---- first tasks
 
@@ -148,16 +149,30 @@ pub record RootGains (g : StoppedGraph) (a : Gain) : Type 0 where
 
 -- ---- a phase, whoever runs it
 
--- The jobs js went through a phase of this mode and became ks.
-pub record IsDone (s : Shared) (mode : Mode) (P : Gain → Type 0) (js ks : List ScanState) : Type 0 where
-  pub gains : Gained (graph_in s) P js ks
-  pub modes : AreIn mode ks
+-- The mode of a phase's scans, and what its jobs gain together.
+pub record Phase : Type 1 where
+  pub mode : Mode
+  pub gains : StoppedGraph → Gain → Type 0
+
+abbrev pub from_owners : Phase
+from_owners = record { mode = Owner; gains = OwnerGains }
+
+-- where these cells are held
+abbrev pub from_held : List ℕ → Phase
+from_held held = record { mode = TakeUp; gains = λ g. TakeUpGains g held }
+
+abbrev pub from_roots : Phase
+from_roots = record { mode = Root; gains = RootGains }
+
+-- The jobs js went through the phase and became ks.
+pub record IsDone (s : Shared) (phase : Phase) (js ks : List ScanState) : Type 0 where
+  pub gains : Gained (graph_in s) (phase.gains (graph_in s)) js ks
+  pub modes : AreIn phase.mode ks
   pub ready : AreReady shared_meaning s ks
   pub turns : TurnsLast shared_meaning (2 ^ 25 + 1) js ks
 
--- The jobs js have begun a phase, as the jobs bs and with these first tasks: they can be run, and whatever run does them, the
--- phase is done.
-pub record HasBegun (s : Shared) (mode : Mode) (P : Gain → Type 0) (js bs : List ScanState) (fs : List (List Task)) : Type 0 where
-  pub many : length bs ≡ length js
-  pub can_run : (room : ℕ) → 2 * cells_in s < room → CanRun s bs room fs
-  pub done : (ks : List ScanState) → HasRun s fs bs ks → IsDone s mode P js ks
+-- The jobs js have begun the phase with this workload: it can be run, and whatever run does it, the phase is done.
+pub record HasBegun (s : Shared) (phase : Phase) (js : List ScanState) (load : Workload ScanState) : Type 0 where
+  pub many : length load.jobs ≡ length js
+  pub can_run : (room : ℕ) → 2 * cells_in s < room → CanRun s load room
+  pub done : (ks : List ScanState) → HasRun s load ks → IsDone s phase js ks

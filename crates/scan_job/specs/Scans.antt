@@ -6,6 +6,7 @@ use Rattle.heap_base.specs.Counting.{bit, total}
 use Rattle.header_rule.specs.declared.mark.Mark.{Mark}
 use Rattle.header_rule.specs.declared.mark.Mark.TheVariants.{Found, Disputed, MetByRoots}
 use Rattle.header_rule.specs.Passes.{adds, wins, marks}
+use Rattle.steal_pool.specs.Jobs.{JobAfter}
 use Rattle.scan_job.specs.declared.mode.Mode.{Mode}
 use Rattle.scan_job.specs.declared.mode.Mode.TheVariants.{Owner, TakeUp, Root}
 use Rattle.scan_job.specs.Graphs.{StoppedGraph, is_border}
@@ -78,8 +79,8 @@ put_tasks g mode m = map (task_at m.tag) (filter (is_put g mode) m.won)
 abbrev pub scan_meeting : StoppedGraph → Task → List ℕ → Meeting
 scan_meeting g t won = record { tag = t.tag; cells = g.targets t.cell; won = won }
 
--- The job j did the task, became k and put these tasks.
-pub record Works (g : StoppedGraph) (j : ScanState) (t : Task) (k : ScanState) (put : List Task) : Type 0 where
+-- What the job j may become by the task, and put meanwhile.
+pub record Works (g : StoppedGraph) (j : ScanState) (t : Task) (after : JobAfter ScanState) : Type 0 where
   pub won : List ℕ
-  pub meets : Meets g (scan_meeting g t won) j k
-  pub puts : put ≡ put_tasks g j.mode (scan_meeting g t won)
+  pub meets : Meets g (scan_meeting g t won) j after.job
+  pub puts : after.put ≡ put_tasks g j.mode (scan_meeting g t won)

@@ -1,10 +1,10 @@
 //! How each phase of a trace begins, and its run by a crew.
-ghost use Rattle.std.specs.Prelude.{◌≡◌, [], length, map};
 ghost use Rattle.std.specs.Bool.{OnTrue};
 ghost use Rattle.std.specs.List.{All};
-ghost use Rattle.steal_pool.specs.Runs.{workers_of, room_of};
+ghost use Rattle.std.specs.Prelude.{◌≡◌, [], length, map};
 ghost use Rattle.scan_job.specs.Phases.{CanRun, HasRun, begun};
 ghost use Rattle.scan_job.specs.Shared.{lent};
+ghost use Rattle.steal_pool.specs.Runs.{workers_of, room_of};
 
 use crate::job::ScanJob;
 use crate::mode::Mode;
@@ -51,9 +51,9 @@ pub fn run_scans<R: Threads + Sync, G: Gate>(
     jobs: &mut Vec<ScanJob>,
     first: &FirstTasks,
 )
-    requires can { CanRun (lent context.shared.now) jobs.old.items (room_of crew.old) first.now.lists }
+    requires can { CanRun (lent context.shared.now) (record { jobs = jobs.old.items; first = first.now.lists }) (room_of crew.old) }
     requires jobs { length jobs.old.items ≡ workers_of crew.old }
-    ensures ran { HasRun (lent context.entry.shared.now) first.now.lists jobs.old.items jobs.new.items }
+    ensures ran { HasRun (lent context.entry.shared.now) (record { jobs = jobs.old.items; first = first.now.lists }) jobs.new.items }
     ensures room { room_of crew.new ≡ room_of crew.old }
     ensures workers { workers_of crew.new ≡ workers_of crew.old }
 {
