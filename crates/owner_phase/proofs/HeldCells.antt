@@ -8,9 +8,9 @@ use Rattle.std.proofs.lemmas.List.{length-map, map-append, take_more}
 use Rattle.heap_base.specs.declared.task.Task.{Task}
 use Rattle.scan_job.specs.Phases.{all_held, put_last, dealt}
 use Rattle.scan_job.specs.Scans.{task_at}
-use Rattle.scan_job.specs.States.{ScanState, IsWithinWins}
+use Rattle.scan_job.specs.States.{ScanState}
 use Rattle.scan_job.proofs.Dealing.{dealt-room, dealt-snoc}
-use Rattle.scan_job.proofs.Meetings.{few-wins}
+use Rattle.scan_job.proofs.Meetings.{JobAt, few-won}
 
 -- what the first i jobs hold, and the first k of these cells
 abbrev pub held_so_far : List ScanState → ℕ → List ℕ → ℕ → List ℕ
@@ -18,19 +18,15 @@ held_so_far js i cells k = all_held (take i js) ++ take k cells
 
 -- One of the jobs, with the cells that it holds.
 pub record HeldBy (js : List ScanState) (i : ℕ) (j : ScanState) (cells : List ℕ) : Type 0 where
-  pub within : i < length js
-  pub is : j ≡ get_or js i j
+  pub job : JobAt js i j
   pub held : cells ≡ j.held
-  pub won : IsWithinWins j
 
 module _ (js : List ScanState) (i : ℕ) (j : ScanState) (cells : List ℕ) (p : HeldBy js i j cells) where
   few-held : (most : ℕ) → All (λ k. k.cells ≤ most) js → length cells ≤ most
   few-held most all =
-      let a = few-wins j p.won in
-      let b = p.won.held in
-      let c = all i j p.within in
-      let d = ap (λ (z : ScanState). z.cells) p.is in
-      let e = ap length p.held in
+      let few = few-won js i j p.job most all in
+      let counted = p.job.won.held in
+      let same = ap length p.held in
       omega arith
 
   -- with all the cells that it holds
@@ -39,7 +35,7 @@ module _ (js : List ScanState) (i : ℕ) (j : ScanState) (cells : List ℕ) (p :
       ap (λ n. all_held (take i js) ++ take n cells) all
       ∙ ap (λ xs. all_held (take i js) ++ xs) (take-length cells ∙ p.held)
       ∙ sym
-      (ap all_held (take_more js i j p.within ∙ ap (λ z. take i js ++ z ∷ []) (sym p.is))
+      (ap all_held (take_more js i j p.job.within ∙ ap (λ z. take i js ++ z ∷ []) (sym p.job.is))
       ∙ flat_map-append (λ (z : ScanState). z.held) (take i js) (j ∷ []) ∙ ap (λ xs. all_held (take i js) ++ xs) (append-nil j.held))
 
   pub few-more : (most : ℕ) → All (λ k. k.cells ≤ most) js → length (all_held (take i js)) ≤ i * most → length (all_held (take (i + 1) js)) ≤ (i + 1) * most
@@ -57,7 +53,7 @@ module _ (js : List ScanState) (i : ℕ) (j : ScanState) (cells : List ℕ) (p :
         let a = few-held most all in
         let b = length-append (all_held (take i js)) (take k cells) in
         let c = length-take k cells in
-        let below : i + 1 ≤ length js = (let w = p.within in omega arith) in
+        let below : i + 1 ≤ length js = (let w = p.job.within in omega arith) in
         let d = mul-le-mul_left most below in
         let e : most * (i + 1) ≡ i * most + most = omega arith in
         let f : most * length js ≡ length js * most = omega arith in

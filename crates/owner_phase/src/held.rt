@@ -1,13 +1,11 @@
 //! Take-up: the scans from the ownees at which the scans from the owners stopped.
-ghost use Rattle.std.specs.Prelude.{◌≡◌, ℕ, ◌+◌, ◌*◌, ◌<◌, ◌≤◌, ◌^◌, [], length, replicate};
 ghost use Rattle.std.specs.List.{All};
+ghost use Rattle.std.specs.Prelude.{◌≡◌, ℕ, ◌*◌, ◌<◌, ◌≤◌, [], length, replicate};
 ghost use Rattle.heap_base.specs.declared.limits.TheConstants.{MOST_OBJECTS, MOST_WORKERS};
-ghost use Rattle.steal_pool.specs.Runs.{workers_of, room_of, AreReady, TurnsLast};
-ghost use Rattle.scan_job.specs.declared.mode.Mode.TheVariants.{TakeUp};
-ghost use Rattle.scan_job.specs.Gains.{Gained};
-ghost use Rattle.scan_job.specs.Jobs.{shared_graph, scan_meaning};
-ghost use Rattle.scan_job.specs.Phases.{CanBegin, CanScan, HasBegun, AreIn, all_held, AreUnderOwners, dealt, held_firsts, TakeUpGains};
+ghost use Rattle.scan_job.specs.Jobs.{shared_graph};
+ghost use Rattle.scan_job.specs.Phases.{CanBegin, CanScan, HasBegun, IsDone, from_held, all_held, AreUnderOwners, dealt, held_firsts};
 ghost use Rattle.scan_job.specs.Shared.{lent};
+ghost use Rattle.steal_pool.specs.Runs.{workers_of, room_of};
 
 use heap_base::{Gate, Task};
 use scan_job::{Mode, ScanContext, ScanJob, ScanShared, begin_phase, run_scans};
@@ -46,7 +44,7 @@ fn add_held(jobs: &[ScanJob], first: &mut FirstTasks, workers: u32)
 pub fn begin_take_up(shared: &ScanShared<'_>, jobs: &mut Vec<ScanJob>, first: &mut FirstTasks)
     requires begin { CanBegin (lent shared.now) jobs.old.items first.old }
     requires held { AreUnderOwners (shared_graph shared.now) (all_held jobs.old.items) }
-    ensures begun { HasBegun (lent shared.now) TakeUp (TakeUpGains (shared_graph shared.now) (all_held jobs.old.items)) jobs.old.items jobs.new.items first.new.lists }
+    ensures begun { HasBegun (lent shared.now) (from_held (all_held jobs.old.items)) jobs.old.items (record { jobs = jobs.new.items; first = first.new.lists }) }
     ensures first { first.new.lists ≡ dealt (length jobs.old.items) (held_firsts jobs.old.items) }
     ensures first_room { first.new.room ≡ first.old.room }
 {
@@ -69,13 +67,10 @@ pub fn take_up<R: Threads + Sync, G: Gate>(
 )
     requires scan { CanScan shared.now jobs.old.items crew.old first.old }
     requires held { AreUnderOwners (shared_graph shared.now) (all_held jobs.old.items) }
-    ensures gains { Gained (shared_graph shared.now) (TakeUpGains (shared_graph shared.now) (all_held jobs.old.items)) jobs.old.items jobs.new.items }
+    ensures done { IsDone (lent shared.now) (from_held (all_held jobs.old.items)) jobs.old.items jobs.new.items }
     ensures none_held { all_held jobs.new.items ≡ [] }
     ensures first { first.new.lists ≡ dealt (workers_of crew.old) (held_firsts jobs.old.items) }
     ensures first_room { first.new.room ≡ first.old.room }
-    ensures ready { AreReady scan_meaning shared.now jobs.new.items }
-    ensures modes { AreIn TakeUp jobs.new.items }
-    ensures turns { TurnsLast scan_meaning (2 ^ 25 + 1) jobs.old.items jobs.new.items }
     ensures room { room_of crew.new ≡ room_of crew.old }
     ensures workers { workers_of crew.new ≡ workers_of crew.old }
 {

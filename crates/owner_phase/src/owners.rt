@@ -1,13 +1,10 @@
 //! The scans from the owners.
-ghost use Rattle.std.specs.Prelude.{◌≡◌, ◌+◌, ◌<◌, ◌≤◌, ◌^◌, [], length, map, replicate};
+ghost use Rattle.std.specs.Prelude.{◌≡◌, ◌<◌, ◌≤◌, [], length, map, replicate};
 ghost use Rattle.heap_base.specs.declared.limits.TheConstants.{MOST_OBJECTS};
-ghost use Rattle.steal_pool.specs.Runs.{workers_of, room_of, AreReady, TurnsLast};
-ghost use Rattle.scan_job.specs.declared.mode.Mode.TheVariants.{Owner};
-ghost use Rattle.scan_job.specs.Gains.{Gained};
-ghost use Rattle.scan_job.specs.Jobs.{shared_graph, scan_meaning};
-ghost use Rattle.scan_job.specs.Phases.{CanBegin, CanScan, HasBegun, AreIn, dealt, owner_firsts, OwnerGains};
+ghost use Rattle.scan_job.specs.Phases.{CanBegin, CanScan, HasBegun, IsDone, from_owners, dealt, owner_firsts};
 ghost use Rattle.scan_job.specs.Scans.{task_at};
 ghost use Rattle.scan_job.specs.Shared.{lent};
+ghost use Rattle.steal_pool.specs.Runs.{workers_of, room_of};
 
 use heap_base::{Gate, Task};
 use scan_job::{Mode, ScanContext, ScanJob, ScanShared, begin_phase, run_scans};
@@ -38,7 +35,7 @@ fn add_owners(owners: &[u32], first: &mut FirstTasks, workers: u32)
 /// workers, in the order of the roles. What the jobs held before is taken away. It takes no memory.
 pub fn begin_owner_phase(shared: &ScanShared<'_>, jobs: &mut Vec<ScanJob>, first: &mut FirstTasks)
     requires { CanBegin (lent shared.now) jobs.old.items first.old }
-    ensures begun { HasBegun (lent shared.now) Owner (OwnerGains (shared_graph shared.now)) jobs.old.items jobs.new.items first.new.lists }
+    ensures begun { HasBegun (lent shared.now) from_owners jobs.old.items (record { jobs = jobs.new.items; first = first.new.lists }) }
     ensures first { first.new.lists ≡ dealt (length jobs.old.items) (owner_firsts shared.now.roles.now) }
     ensures first_room { first.new.room ≡ first.old.room }
 {
@@ -60,12 +57,9 @@ pub fn owner_phase<R: Threads + Sync, G: Gate>(
     gate: &G,
 )
     requires { CanScan shared.now jobs.old.items crew.old first.old }
-    ensures gains { Gained (shared_graph shared.now) (OwnerGains (shared_graph shared.now)) jobs.old.items jobs.new.items }
+    ensures done { IsDone (lent shared.now) from_owners jobs.old.items jobs.new.items }
     ensures first { first.new.lists ≡ dealt (workers_of crew.old) (owner_firsts shared.now.roles.now) }
     ensures first_room { first.new.room ≡ first.old.room }
-    ensures ready { AreReady scan_meaning shared.now jobs.new.items }
-    ensures modes { AreIn Owner jobs.new.items }
-    ensures turns { TurnsLast scan_meaning (2 ^ 25 + 1) jobs.old.items jobs.new.items }
     ensures room { room_of crew.new ≡ room_of crew.old }
     ensures workers { workers_of crew.new ≡ workers_of crew.old }
 {

@@ -13,8 +13,7 @@ returns-clause-begun c =
     let few = few-held c.add_held.ensures.few c.as_slice.ensures.value (ready-cells s js can.ready) in
     take_up-begun s js c.args.first.now can (record {
       start = take_up-start s js c.args.first.now can c.requires.held few;
-      jobs = c.begin_phase.new.jobs.items;
+      load = record { jobs = c.begin_phase.new.jobs.items; first = c.add_held.new.first.lists };
       are_begun = c.begin_phase.ensures;
-      fs = c.add_held.new.first.lists;
       lists = dealt-held c.add_held.ensures.lists (let e = c.len.ensures in let v = c.args.jobs.now.ok in omega arith) c.as_slice.ensures.value;
     })

@@ -26,8 +26,7 @@ returns-clause-begun c =
     let js = c.args.jobs.now.items in
     owner-begun s js c.args.first.now c.requires (record {
       start = owner-start s js c.args.first.now c.requires;
-      jobs = c.begin_phase.new.jobs.items;
+      load = record { jobs = c.begin_phase.new.jobs.items; first = c.add_owners.new.first.lists };
       are_begun = c.begin_phase.ensures;
-      fs = c.add_owners.new.first.lists;
       lists = dealt-owners s.roles c.add_owners.ensures.lists (let e = c.len.ensures in let v = c.args.jobs.now.ok in omega arith) c.owners.ensures;
     })
