@@ -12,7 +12,7 @@ use Rattle.object_table.specs.Placed.{cell_of}
 use Rattle.scan_job.specs.Fit.{no_owners}
 use Rattle.scan_job.specs.Graphs.{StoppedGraph, IsWhole}
 use Rattle.scan_job.specs.Jobs.{graph_in, IsReadyFor, shared_meaning}
-use Rattle.scan_job.specs.Phases.{cells_in, CanBegin, HasBegun, begun, dealt, root_firsts, BeginsAtRoots, RootGains}
+use Rattle.scan_job.specs.Phases.{cells_in, CanBegin, HasBegun, begun, dealt, root_firsts, BeginsAtRoots, from_roots}
 use Rattle.scan_job.specs.Scans.{Meets, task_at}
 use Rattle.scan_job.specs.States.{ScanState, turns_of}
 use Rattle.scan_job.proofs.Gaining.{run-modes, root_meeting, roots-fit, root-phase}
@@ -116,7 +116,7 @@ module _ (s : Shared) (js : List ScanState) (first : FirstLists) (p : RootStart 
 
   -- ---- what the run needs and leaves
 
-  from-starts : HasBegun s Root (RootGains g) js starts p.new.lists
+  from-starts : HasBegun s from_roots js (record { jobs = starts; first = p.new.lists })
   from-starts =
       let n = length js in
       let few = few-tasks s Root n starts (root_firsts g p.met.won) p.new.lists start lists in
@@ -131,5 +131,5 @@ module _ (s : Shared) (js : List ScanState) (first : FirstLists) (p : RootStart 
         };
       }
 
-  pub root-begun : HasBegun s Root (RootGains g) js (set p.begins 0 p.new.job) p.new.lists
-  root-begun = subst (λ zs. HasBegun s Root (RootGains g) js (set zs 0 p.new.job) p.new.lists) (sym p.are_begun) from-starts
+  pub root-begun : HasBegun s from_roots js (record { jobs = set p.begins 0 p.new.job; first = p.new.lists })
+  root-begun = subst (λ zs. HasBegun s from_roots js (record { jobs = set zs 0 p.new.job; first = p.new.lists })) (sym p.are_begun) from-starts

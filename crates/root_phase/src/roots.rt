@@ -1,11 +1,9 @@
 //! The scans from the roots.
-ghost use Rattle.std.specs.Prelude.{◌≡◌, ◌+◌, ◌^◌, [], length};
-ghost use Rattle.steal_pool.specs.Runs.{workers_of, room_of, AreReady, TurnsLast};
-ghost use Rattle.scan_job.specs.declared.mode.Mode.TheVariants.{Root};
-ghost use Rattle.scan_job.specs.Gains.{Gained};
-ghost use Rattle.scan_job.specs.Jobs.{shared_graph, scan_meaning};
-ghost use Rattle.scan_job.specs.Phases.{CanBegin, CanScan, HasBegun, AreIn, all_held, BeginsAtRoots, RootGains};
+ghost use Rattle.std.specs.Prelude.{◌≡◌, [], length};
+ghost use Rattle.scan_job.specs.Jobs.{shared_graph};
+ghost use Rattle.scan_job.specs.Phases.{CanBegin, CanScan, HasBegun, IsDone, from_roots, all_held, BeginsAtRoots};
 ghost use Rattle.scan_job.specs.Shared.{lent};
+ghost use Rattle.steal_pool.specs.Runs.{workers_of, room_of};
 
 use crate::meeting::meet_roots;
 use heap_base::Gate;
@@ -18,7 +16,7 @@ use steal_pool::{Crew, FirstTasks};
 /// jobs held before is taken away. It takes no memory.
 pub fn begin_root_phase(shared: &ScanShared<'_>, jobs: &mut Vec<ScanJob>, first: &mut FirstTasks)
     requires { CanBegin (lent shared.now) jobs.old.items first.old }
-    ensures begun { HasBegun (lent shared.now) Root (RootGains (shared_graph shared.now)) jobs.old.items jobs.new.items first.new.lists }
+    ensures begun { HasBegun (lent shared.now) from_roots jobs.old.items (record { jobs = jobs.new.items; first = first.new.lists }) }
     ensures first { BeginsAtRoots (shared_graph shared.now) (length jobs.old.items) first.new.lists }
     ensures first_room { first.new.room ≡ first.old.room }
 {
@@ -41,13 +39,10 @@ pub fn root_phase<R: Threads + Sync, G: Gate>(
     gate: &G,
 )
     requires { CanScan shared.now jobs.old.items crew.old first.old }
-    ensures gains { Gained (shared_graph shared.now) (RootGains (shared_graph shared.now)) jobs.old.items jobs.new.items }
+    ensures done { IsDone (lent shared.now) from_roots jobs.old.items jobs.new.items }
     ensures none_held { all_held jobs.new.items ≡ [] }
     ensures first { BeginsAtRoots (shared_graph shared.now) (workers_of crew.old) first.new.lists }
     ensures first_room { first.new.room ≡ first.old.room }
-    ensures ready { AreReady scan_meaning shared.now jobs.new.items }
-    ensures modes { AreIn Root jobs.new.items }
-    ensures turns { TurnsLast scan_meaning (2 ^ 25 + 1) jobs.old.items jobs.new.items }
     ensures room { room_of crew.new ≡ room_of crew.old }
     ensures workers { workers_of crew.new ≡ workers_of crew.old }
 {

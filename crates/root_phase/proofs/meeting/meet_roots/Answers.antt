@@ -54,7 +54,8 @@ meet_one-requires-clause-cell c =
 pub add-requires-clause-worker : goal.add-requires-clause-worker
 add-requires-clause-worker c =
     let at = (goal.at.add-requires-clause-worker c).After-meet_one in
-    (has-room _ _ _ _ (at_first at) (so_far at) _ c.loop-root.invariant.met (next at) _ _ (as_many at) c.loop-root.invariant.number c.if-meet_one.true c.args.first.now.room c.requires.some c.requires.room).0
+    (has-room _ _ _ _ (at_first at) (so_far at) _ c.loop-root.invariant.met (next at) _ _ (as_many at) c.loop-root.invariant.number
+    c.if-meet_one.true c.args.first.now.room c.requires.some c.requires.room).0
 
 pub add-requires-clause-room : goal.add-requires-clause-room
 add-requires-clause-room c =
