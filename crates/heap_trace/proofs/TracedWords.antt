@@ -110,7 +110,8 @@ module _ (p : Placed) (r : RoleTable) (placed : IsPlaced p) (sound : IsSound p.t
     found-of h stand cell id e at =
         (of-heap h stand).found cell id e (sym (closed.marks Found cell (below cell id e)) ∙ at)
 
-    pub marked-of : (h : Heap) → StandFor p r h → (cell id owner : ℕ) → id_in p cell ≡ Some id → IsTrue (owns h owner id) → IsTrue (has_id (targets h.table owner) id) → IsTrue (has_mark_in Found w cell)
+    pub marked-of : (h : Heap) → StandFor p r h → (cell id owner : ℕ) → id_in p cell ≡ Some id → IsTrue (owns h owner id) → IsTrue (has_id (targets h.table owner) id)
+        → IsTrue (has_mark_in Found w cell)
     marked-of h stand cell id owner e owned leads =
         closed.marks Found cell (below cell id e) ∙ (of-heap h stand).marked cell id owner e owned leads
 

@@ -1,11 +1,11 @@
 //! The three phases of a trace, one after another.
-ghost use Rattle.std.specs.Prelude.{◌+◌, ◌*◌, ◌^◌, ◌<◌};
 ghost use Rattle.std.specs.List.{All};
-ghost use Rattle.steal_pool.specs.Runs.{AreReady};
+ghost use Rattle.std.specs.Prelude.{◌+◌, ◌*◌, ◌^◌, ◌<◌};
+ghost use Rattle.heap_trace.specs.TracedCells.{ThreePhases};
 ghost use Rattle.scan_job.specs.Jobs.{shared_graph, scan_meaning};
 ghost use Rattle.scan_job.specs.Phases.{CanScan};
 ghost use Rattle.scan_job.specs.States.{turns_of};
-ghost use Rattle.heap_trace.specs.TracedCells.{ThreePhases};
+ghost use Rattle.steal_pool.specs.Runs.{AreReady};
 
 use heap_base::Gate;
 use scan_job::{ScanContext, ScanJob};

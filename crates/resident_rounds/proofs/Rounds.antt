@@ -48,7 +48,8 @@ module _ {S J G : Type 0} (M : Meaning J S) (s : S) (F : List Task) (N : ℕ) wh
   step_one most most' j w p q r g k b list less =
       let n = k.goes in
       let same : M.fit p.job (shared_in p) ≡ F = ap (λ (z : S). M.fit p.job z) g.shared ∙ g.same_fit in
-      let does : Does (M.works s) p.job (done_in q) r.job q.out.tasks = subst (λ (z : S × J). Does (M.works z.0) p.job (done_in q) z.1 q.out.tasks) (λ i. (g.shared i, sym b.job i)) n.does in
+      let does : Does (M.works s) p.job (done_in q) (record { job = r.job; put = q.out.tasks }) =
+      subst (λ (z : S × J). Does (M.works z.0) p.job (done_in q) (record { job = z.1; put = q.out.tasks })) (λ i. (g.shared i, sym b.job i)) n.does in
       let room = n.room in
       let spare = g.spare in
       let out-room = n.out_room in

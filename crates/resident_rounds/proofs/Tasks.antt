@@ -24,7 +24,7 @@ module _ {S J G : Type 0} (M : Meaning J S) where
   goes_none p can =
       let none : done_in p ≡ [] = ap (λ (n : ℕ). take n (queue p)) can.none_done in
       record {
-        does = (subst (λ (ts : List Task). Does (M.works (shared_in p)) p.job ts p.job p.out.tasks) (sym none) (refl, can.none_put));
+        does = (subst (λ (ts : List Task). Does (M.works (shared_in p)) p.job ts (record { job = p.job; put = p.out.tasks })) (sym none) (refl, can.none_put));
         are_fit = subst (λ (ts : List Task). AllFit (M.fit p.job (shared_in p)) ts) (sym can.none_put) tt;
         ready = can.ready;
         same_fit = refl;
@@ -38,7 +38,7 @@ module _ {S J G : Type 0} (M : Meaning J S) where
 
   -- one task more
   pub goes_more : (p q r : JobShare S J G) (t : Task) → Goes M p q → slice_get (queue q) q.done ≡ Some t → r.done ≡ q.done + 1 → r.list ≡ q.list → r.shared ≡ q.shared → r.out.room ≡ q.out.room
-      → Puts M (shared_in p) (q.job, q.out.tasks) t (r.job, r.out.tasks) → M.ready r.job (shared_in p) →
+      → Puts M (shared_in p) (record { job = q.job; task = t; outbox = q.out.tasks }) (r.job, r.out.tasks) → M.ready r.job (shared_in p) →
       M.fit r.job (shared_in p) ≡ M.fit q.job (shared_in p) → M.turns q.job ≤ M.turns r.job + 1 → Goes M p r
   goes_more p q r t g next done list shared room puts ready fit turns =
       let s : S = shared_in p in
@@ -54,7 +54,7 @@ module _ {S J G : Type 0} (M : Meaning J S) where
       let room-now = puts.room in
       let turns-then = g.turns in
       record {
-        does = subst (λ (z : List Task × List Task). Does (M.works s) p.job z.0 r.job z.1) (λ i. (sym more i, sym out i))
+        does = subst (λ (z : List Task × List Task). Does (M.works s) p.job z.0 (record { job = r.job; put = z.1 })) (λ i. (sym more i, sym out i))
             (does_append (M.works s) p.job q.job r.job (done_in q) (t ∷ []) q.out.tasks put g.does (r.job, put, [], puts.works, (refl, refl), sym (append-nil put)));
         are_fit = subst (λ (ts : List Task). AllFit (M.fit p.job s) ts) (sym out)
             (all_append (Contains (M.fit p.job s)) q.out.tasks put g.are_fit (subst (λ (f : List Task). AllFit f put) g.same_fit puts.are_fit));
@@ -70,11 +70,11 @@ module _ {S J G : Type 0} (M : Meaning J S) where
 
   -- the same, where the task was taken up first
   pub goes_on : (p q u r : JobShare S J G) (s : S) (t : Task) → Goes M p q → IsNext q u t → s ≡ shared_in u → r.done ≡ u.done → r.list ≡ u.list → r.shared ≡ u.shared → r.out.room ≡ u.out.room
-      → Puts M s (u.job, u.out.tasks) t (r.job, r.out.tasks) → M.ready r.job s → M.fit r.job s ≡ M.fit u.job s → M.turns u.job ≤ M.turns r.job + 1 → Goes M p r
+      → Puts M s (record { job = u.job; task = t; outbox = u.out.tasks }) (r.job, r.out.tasks) → M.ready r.job s → M.fit r.job s ≡ M.fit u.job s → M.turns u.job ≤ M.turns r.job + 1 → Goes M p r
   goes_on p q u r s t g next at done list shared room puts ready fit turns =
       let same : s ≡ shared_in p = at ∙ (ap (λ (z : JobShare S J G). shared_in z) next.0 ∙ ap arc_value g.shared) in
       goes_more p q r t g next.1 (done ∙ ap (λ (z : JobShare S J G). z.done) next.0) (list ∙ ap (λ (z : JobShare S J G). z.list) next.0)
       (shared ∙ ap (λ (z : JobShare S J G). z.shared) next.0) (room ∙ ap (λ (z : JobShare S J G). z.out.room) next.0)
-      (subst (λ (z : S × JobShare S J G). Puts M z.0 (z.1.job, z.1.out.tasks) t (r.job, r.out.tasks)) (λ i. (same i, next.0 i)) puts)
+      (subst (λ (z : S × JobShare S J G). Puts M z.0 (record { job = z.1.job; task = t; outbox = z.1.out.tasks }) (r.job, r.out.tasks)) (λ i. (same i, next.0 i)) puts)
       (subst (λ (z : S). M.ready r.job z) same ready) (subst (λ (z : S × JobShare S J G). M.fit r.job z.0 ≡ M.fit z.1.job z.0) (λ i. (same i, next.0 i)) fit)
       (subst (λ (z : JobShare S J G). M.turns z.job ≤ M.turns r.job + 1) next.0 turns)

@@ -16,7 +16,7 @@ use Rattle.resident_rounds.proofs.Rounds.{steps, left_fit, round_sum, falls, did
 module _ {S J : Type 0} (M : Meaning J S) (s : S) where
   -- the jobs ks are what a run leaves of the jobs js
   record Ended (F' : List Task) (N' : ℕ) (js' : List J) (ws : List Work) (ks : List J) : Type 0 where
-    each : Each (λ j (w : Work) k. Does (M.works s) j w.done k w.put) js' ws ks
+    each : Each (λ j (w : Work) k. Does (M.works s) j w.done (record { job = k; put = w.put })) js' ws ks
     are_fit : AllByRecursion (λ (w : Work). AllFit F' w.done) ws
     ready : AllByRecursion (λ k. M.ready k s) ks
     same_fit : AllByRecursion (λ k. M.fit k s ≡ F') ks
@@ -170,7 +170,7 @@ module _ {S J G : Type 0} (M : Meaning J S) (s : S) where
     at_end : (ps : List (JobShare S J G)) (p : Progress M s (fit_tasks M s js) fs js ps) → Ended M s (fit_tasks M s js) (most_tasks M js fs) js p.work (jobs_in ps)
     at_end ps p = ended (fit_tasks M s js) (most_tasks M js fs) (most_left M s ps) js p.work ps p.each
 
-    pub has_run : (ps : List (JobShare S J G)) → Progress M s (fit_tasks M s js) fs js ps → to_do ps ≡ [] → Run M s fs js (jobs_in ps)
+    pub has_run : (ps : List (JobShare S J G)) → Progress M s (fit_tasks M s js) fs js ps → to_do ps ≡ [] → Run M s (record { jobs = js; first = fs }) (jobs_in ps)
     has_run ps p none = record {
       work = p.work;
       each = (at_end ps p).each;

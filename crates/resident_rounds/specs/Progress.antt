@@ -38,7 +38,7 @@ module _ {S J G : Type 0} where
     -- Of a job at the beginning of the run, what it did and put so far, and its share at the beginning of a round. `most` is what
     -- all may still do, and `whole` is what all might have done at the beginning.
     pub record HasGone (F : List Task) (whole most : ℕ) (j : J) (w : Work) (p : JobShare S J G) : Type 0 where
-      pub does : Does (M.works s) j w.done p.job w.put
+      pub does : Does (M.works s) j w.done (record { job = p.job; put = w.put })
       pub done_fit : AllFit F w.done
       pub list_fit : AllFit F p.list.items
       pub ready : M.ready p.job s

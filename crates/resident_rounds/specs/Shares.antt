@@ -53,7 +53,7 @@ module _ {S J G : Type 0} where
 
     -- The share p became q by doing tasks, in order.
     pub record Goes (p q : JobShare S J G) : Type 0 where
-      pub does : Does (M.works (shared_in p)) p.job (done_in q) q.job q.out.tasks
+      pub does : Does (M.works (shared_in p)) p.job (done_in q) (record { job = q.job; put = q.out.tasks })
       pub are_fit : AllFit (M.fit p.job (shared_in p)) q.out.tasks
       pub ready : M.ready q.job (shared_in p)
       pub same_fit : M.fit q.job (shared_in p) ≡ M.fit p.job (shared_in p)

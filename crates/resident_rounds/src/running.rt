@@ -80,7 +80,7 @@ impl<
         requires same_fit { ShareFit J.meaning (arc_value shared.now) (fit_tasks J.meaning (arc_value shared.now) jobs.items) jobs.items }
         requires fit { All (AllFit (fit_tasks J.meaning (arc_value shared.now) jobs.items)) first.now.lists }
         requires turns { HaveTurns J.meaning (most_tasks J.meaning jobs.items first.now.lists) jobs.items }
-        ensures ran { IfOk result (λ ks. Run J.meaning (arc_value shared.now) first.now.lists jobs.items ks.items) }
+        ensures ran { IfOk result (λ ks. Run J.meaning (arc_value shared.now) (record { jobs = jobs.items; first = first.now.lists }) ks.items) }
         ensures ready { IfOk result (λ ks. AreReady J.meaning (arc_value shared.now) ks.items) }
         ensures same_fit { IfOk result (λ ks. ShareFit J.meaning (arc_value shared.now) (fit_tasks J.meaning (arc_value shared.now) jobs.items) ks.items) }
         ensures turns { IfOk result (λ ks. TurnsLast J.meaning (most_tasks J.meaning jobs.items first.now.lists) jobs.items ks.items) }

@@ -5,7 +5,7 @@ use Rattle.heap_trace.proofs.gathering.merge_tallies.Goals as goal
 pub merge-requires-clause-below : goal.merge-requires-clause-below
 merge-requires-clause-below c kind =
     let p : TallyBy c.args.jobs.now c.loop-job.job-index c.job-item.result c.tally.result.now =
-    record { within = c.loop-job-test.true; is = c.job-item.is; tally_is = c.tally.ensures.tally; won = c.tally.ensures.within_wins } in
+    record { job = record { within = c.loop-job-test.true; is = c.job-item.is; won = c.tally.ensures.within_wins }; tally_is = c.tally.ensures.tally } in
     let one = tally-few c.args.jobs.now c.loop-job.job-index c.job-item.result c.tally.result.now p 1048576 c.requires.cells kind in
     let before = c.loop-job.invariant.few kind in
     let sum = c.loop-job.invariant.sums kind in
@@ -16,7 +16,7 @@ merge-requires-clause-below c kind =
 pub loop-job-preserved : goal.loop-job-preserved
 loop-job-preserved c =
     let p : TallyBy c.args.jobs.now c.loop-job.job-index c.job-item.result c.tally.result.now =
-    record { within = c.loop-job-test.true; is = c.job-item.is; tally_is = c.tally.ensures.tally; won = c.tally.ensures.within_wins } in
+    record { job = record { within = c.loop-job-test.true; is = c.job-item.is; won = c.tally.ensures.within_wins }; tally_is = c.tally.ensures.tally } in
     let more = tallies-more c.args.jobs.now c.loop-job.job-index c.job-item.result c.tally.result.now p in
     record {
       kinds = c.merge.ensures.kinds ∙ c.loop-job.invariant.kinds;

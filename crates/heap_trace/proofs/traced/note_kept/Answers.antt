@@ -8,15 +8,15 @@ use Rattle.heap_trace.proofs.traced.note_kept.Goals as goal
 
 pub loop-cell-preserved : goal.loop-cell-preserved
 loop-cell-preserved c =
+    let kept = c.is_kept-is_kept.result in
+    let few = bit-le kept in
+    let snoc = total-snoc bit c.loop-cell.kept.items kept in
+    let more = ap many_of c.push_reserved.ensures.items in
+    let longer = c.push_reserved.ensures.len in
+    let one = c.one_if-traced.ensures in
+    let before = c.loop-cell.invariant in
     let w = c.args.words.now in
     let cell = c.loop-cell.cell in
-    let kept = c.is_kept-is_kept.result in
-    let one = c.one_if-traced.ensures in
-    let few = bit-le kept in
-    let more = ap many_of c.push_reserved.ensures.items in
-    let snoc = total-snoc bit c.loop-cell.kept.items kept in
-    let before = c.loop-cell.invariant in
-    let longer = c.push_reserved.ensures.len in
     record {
       kept = c.push_reserved.ensures.items ∙ (λ i. before.kept i ++ c.is_kept-is_kept.ensures i ∷ []) ∙ sym (map-range_with_len_more (λ x. is_positive (count_in w x)) 0 cell cell (omega arith));
       traced = omega arith;

@@ -67,23 +67,23 @@ loop-self-smaller g c =
 
 pub loop-self-preserved : goal.loop-self-preserved
 loop-self-preserved g c =
-    let M = g.J.Job.meaning in
-    let s = arc_value c.args.shared.now in
-    let at = (goal.at.loop-self-preserved g c).In_ok-deal in
-    let ps = c.loop-self.shares.items in
-    let qs = c.in_ok-shares-2.shares.items in
-    let rs = c.deal.new.shares in
-    let z = c.in_ok-shares-2.ensures.worked in
-    let deal = dealt g at in
-    let same = all_dealt g at in
-    let b = begun_length M s qs rs deal.0 in
-    let len = c.in_ok-shares-2.shares.ok.0 in
     let was = c.loop-self.invariant in
     let many = was.count in
     let crew = was.crew in
-    let workers = c.in_ok-shares-2.ensures.workers in
-    let longer = zip_length M s ps qs z in
+    let ps = c.loop-self.shares.items in
     let old = c.loop-self.shares.ok.0 in
+    let qs = c.in_ok-shares-2.shares.items in
+    let len = c.in_ok-shares-2.shares.ok.0 in
+    let z = c.in_ok-shares-2.ensures.worked in
+    let workers = c.in_ok-shares-2.ensures.workers in
+    let rs = c.deal.new.shares in
+    let M = g.J.Job.meaning in
+    let s = arc_value c.args.shared.now in
+    let at = (goal.at.loop-self-preserved g c).In_ok-deal in
+    let deal = dealt g at in
+    let same = all_dealt g at in
+    let b = begun_length M s qs rs deal.0 in
+    let longer = zip_length M s ps qs z in
     record {
       gone =
           subst (λ (xs : List _). Progress M s (fit_tasks M s c.args.jobs.items) c.args.first.now.lists c.args.jobs.items xs) (sym same)
@@ -100,7 +100,7 @@ returns-clause-ran g c =
     let fs = c.args.first.now.lists in
     let ps = c.loop-self.shares.items in
     let none : to_do ps ≡ [] = subst (λ (xs : List _). to_do xs ≡ []) c.deref.ensures.value c.loop-self-test.ensures in
-    subst (λ (ks : List _). Run M s fs js ks) (sym c.in_ok-jobs.ensures) (has_run M s js fs ps c.loop-self.invariant.gone none)
+    subst (λ (ks : List _). Run M s (record { jobs = js; first = fs }) ks) (sym c.in_ok-jobs.ensures) (has_run M s js fs ps c.loop-self.invariant.gone none)
 
 pub returns-clause-ready : goal.returns-clause-ready
 returns-clause-ready g c =
