@@ -17,8 +17,8 @@ same-fit : (s : ResidentScan) (js : List ScanState) → fit_tasks owned_meaning 
 same-fit s [] = refl
 same-fit s (j ∷ js) = refl
 
-pub has-run : (s : ResidentScan) (fs : List (List Task)) (js ks : List ScanState) → Run owned_meaning s fs js ks → AreReady owned_meaning s ks →
-    TurnsLast owned_meaning (most_tasks owned_meaning js fs) js ks → HasRun (owned s) fs js ks
+pub has-run : (s : ResidentScan) (fs : List (List Task)) (js ks : List ScanState) → Run owned_meaning s (record { jobs = js; first = fs }) ks → AreReady owned_meaning s ks →
+    TurnsLast owned_meaning (most_tasks owned_meaning js fs) js ks → HasRun (owned s) (record { jobs = js; first = fs }) ks
 has-run s fs js ks ran ready turns = record {
   ran = record {
     work = ran.work;

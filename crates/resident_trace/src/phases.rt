@@ -1,7 +1,7 @@
 //! The three phases of a trace, one after another, by workers that stay.
-ghost use Rattle.std.specs.Prelude.{◌≡◌, ◌+◌, ◌*◌, ◌^◌, ◌<◌, length, IfOk};
 ghost use Rattle.std.specs.Arc.{arc_value};
 ghost use Rattle.std.specs.List.{All};
+ghost use Rattle.std.specs.Prelude.{◌≡◌, ◌+◌, ◌*◌, ◌^◌, ◌<◌, length, IfOk};
 ghost use Rattle.steal_pool.specs.Runs.{AreReady};
 ghost use Rattle.scan_job.specs.Jobs.{graph_in, shared_meaning};
 ghost use Rattle.scan_job.specs.Phases.{CanBegin, CanRun, HasRun, cells_in};
@@ -69,9 +69,9 @@ fn run_jobs<R: Wait, G: Gate + Send + Drop + 'static>(
     jobs: Vec<ScanJob>,
     first: &FirstTasks,
 ) -> Result<Vec<ScanJob>, OutOfMemory>
-    requires can { CanRun (owned (arc_value context.now.shared.now)) jobs.items (2 * cells_in (owned (arc_value context.now.shared.now)) + 1) first.now.lists }
+    requires can { CanRun (owned (arc_value context.now.shared.now)) (record { jobs = jobs.items; first = first.now.lists }) (2 * cells_in (owned (arc_value context.now.shared.now)) + 1) }
     requires jobs { length jobs.items ≡ workers_of crew.old }
-    ensures ran { IfOk result (λ ks. HasRun (owned (arc_value context.now.shared.now)) first.now.lists jobs.items ks.items) }
+    ensures ran { IfOk result (λ ks. HasRun (owned (arc_value context.now.shared.now)) (record { jobs = jobs.items; first = first.now.lists }) ks.items) }
     ensures workers { workers_of crew.new ≡ workers_of crew.old }
 {
     let jobs = wrap(context.alloc, jobs)?;

@@ -1,7 +1,7 @@
 //! What the workers of a trace share.
 ghost use Rattle.std.specs.Prelude.{◌≡◌};
-ghost use Rattle.scan_job.specs.Shared.{lent};
 ghost use Rattle.resident_trace.specs.Scans.{owned};
+ghost use Rattle.scan_job.specs.Shared.{lent};
 
 use graph_meaning::Roles;
 use header_rule::Headers;
