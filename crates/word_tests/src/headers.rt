@@ -151,19 +151,26 @@ fn meet_in_order(headers: &Headers, cells: u32, pass: &mut Pass, won: &[AtomicU6
     }
 }
 
-// Each pass in a thread of its own.
-fn meet_in_threads<R: Threads + Sync>(
-    rt: &R,
-    headers: &Headers,
+// What threads meet at the same time: how many cells, their headers, and a counter for the wins of each.
+#[derive(Clone, Copy)]
+struct Course<'a> {
     cells: u32,
-    passes: &mut [Pass],
-    won: &[AtomicU64],
-)
-    requires cells { headers.now.cells ≡ cells }
-    requires passes { All (IsPassOf headers.now) passes.old }
+    headers: &'a Headers,
+    won: &'a [AtomicU64],
+}
+
+// Each pass in a thread of its own.
+fn meet_in_threads<R: Threads + Sync>(rt: &R, course: Course<'_>, passes: &mut [Pass])
+    requires cells { course.headers.now.cells ≡ course.cells }
+    requires passes { All (IsPassOf course.headers.now) passes.old }
     ensures len { length passes.new ≡ length passes.old }
-    ensures each { (i : ℕ) (d : _) → i < length passes.old → IsSamePass headers.now (slice_index_or passes.old i d) (slice_index_or passes.new i d) }
+    ensures each { (i : ℕ) (d : _) → i < length passes.old → IsSamePass course.entry.headers.now (slice_index_or passes.old i d) (slice_index_or passes.new i d) }
 {
+    let Course {
+        cells,
+        headers,
+        won,
+    } = course;
     for_each_mut(
         rt,
         passes,
@@ -214,7 +221,12 @@ fn is_fair<R: Threads + Sync>(rt: &R, alloc: Global, race: Race) -> Result<bool,
     } = race;
     let won = counters(alloc, cells)?;
     let (headers, mut passes) = Headers::make(alloc, cells, workers)?;
-    meet_in_threads(rt, &headers, cells, passes.as_mut_slice(), won.as_slice());
+    let course = Course {
+        cells,
+        headers: &headers,
+        won: won.as_slice(),
+    };
+    meet_in_threads(rt, course, passes.as_mut_slice());
     let words = headers.close(passes);
     let won_once = won.iter().all(|wins| wins.load(SeqCst) == 1);
     Ok(won_once && are_counted(&words, cells, count))

@@ -7,11 +7,10 @@ use Rattle.word_tests.proofs.headers.meet_with.Goals as goal
 
 pub returns-in-Some : goal.returns-in-Some
 returns-in-Some c =
-    let old = c.in-Some.pass.now in
-    let new = c.meet_once.new.pass in
     let items = c.args.passes.now.items in
+    let place = c.args.number in
+    let met = c.meet_once.ensures in
+    let new = c.meet_once.new.pass in
+    let passes = All-set (IsPassOf c.args.headers.now) items place new met.0 c.requires.passes.0 in
     let number : Pass → ℕ = λ p. p.number in
-    let met = c.meet_once.ensures in (
-      All-set (IsPassOf c.args.headers.now) items c.args.number new met.0 c.requires.passes.0,
-      map-set_same number items c.args.number new old (met.1 ∙ ap number c.in-Some.ensures.value) ∙ c.requires.passes.1,
-    )
+    (passes, map-set_same number items place new c.in-Some.pass.now (met.1 ∙ ap number c.in-Some.ensures.value) ∙ c.requires.passes.1)
