@@ -48,11 +48,11 @@ impl TraceMemory {
         ensures kinds { IfOk result (λ m. length m.tally ≡ kinds) }
         ensures workers { IfOk result (λ m. length m.jobs.items ≡ workers) }
     {
+        let tally = Tally::make(alloc, kinds)?;
+        let first = FirstTasks::make(alloc, workers, cells)?;
         let (headers, passes) = Headers::make(alloc, cells, workers)?;
         let jobs = make_jobs(alloc, passes, cells, kinds)?;
-        let first = FirstTasks::make(alloc, workers, cells)?;
         let passes = Vec::with_capacity(alloc, workers as usize)?;
-        let tally = Tally::make(alloc, kinds)?;
         Ok(TraceMemory {
             headers,
             jobs,
