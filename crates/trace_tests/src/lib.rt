@@ -2,14 +2,4 @@
 #![tactic(auto)]
 
 #[cfg(test)]
-mod closed_words_tests;
-#[cfg(test)]
-mod counters;
-#[cfg(test)]
-mod crew_tests;
-#[cfg(test)]
-mod gate_tests;
-#[cfg(test)]
-mod heap_tests;
-#[cfg(test)]
-mod traces;
+mod tests;

@@ -2,7 +2,7 @@
 ghost use Rattle.std.specs.Prelude.{◌≡◌, ◌<◌, [], ◌∷◌, length, IfOk};
 ghost use Rattle.header_rule.specs.Passes.{ArePassesOf};
 
-use crate::traces::{KEPT_ONCE, are_as_wanted, counts_kinds};
+use super::traces::{KEPT_ONCE, are_as_wanted, counts_kinds};
 use header_rule::{Headers, Marks, Pass, Words};
 use heap_trace::Traced;
 use instance_ledger::Tally;

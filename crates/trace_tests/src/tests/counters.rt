@@ -15,25 +15,6 @@ pub struct Work<'a> {
     pub firsts: &'a [(u32, u32)],
 }
 
-/// A run of new jobs. It answers the jobs after it.
-pub fn run_cells<R: Threads + Sync, G: Gate>(
-    host: &Host<'_, R>,
-    crew: &mut Crew<Counter>,
-    work: Work<'_>,
-    gate: &G,
-) -> Result<Vec<Counter>, OutOfMemory>
-    requires { work.cells.now.count + 5 ≤ room_of crew.old }
-    ensures workers { workers_of crew.new ≡ workers_of crew.old }
-    ensures room { room_of crew.new ≡ room_of crew.old }
-{
-    let alloc = host.alloc;
-    let count = work.cells.count;
-    let mut jobs = new_counters(alloc, crew.workers(), count)?;
-    let first = first_tasks(alloc, crew.workers(), count, work.firsts)?;
-    crew.run(host.rt, work.cells, &mut jobs, &first, gate);
-    Ok(jobs)
-}
-
 /// Whether each of so many cells is done once, from the first cell on, by so many workers.
 pub fn is_done_once<R: Threads + Sync>(
     host: &Host<'_, R>,
@@ -53,4 +34,23 @@ pub fn is_done_once<R: Threads + Sync>(
     let mut crew = Crew::make(host.alloc, workers, count as u64 + 5)?;
     let jobs = run_cells(host, &mut crew, work, &OpenGate)?;
     Ok(are_seen(jobs.as_slice(), count, 1))
+}
+
+/// A run of new jobs. It answers the jobs after it.
+pub fn run_cells<R: Threads + Sync, G: Gate>(
+    host: &Host<'_, R>,
+    crew: &mut Crew<Counter>,
+    work: Work<'_>,
+    gate: &G,
+) -> Result<Vec<Counter>, OutOfMemory>
+    requires { work.cells.now.count + 5 ≤ room_of crew.old }
+    ensures workers { workers_of crew.new ≡ workers_of crew.old }
+    ensures room { room_of crew.new ≡ room_of crew.old }
+{
+    let alloc = host.alloc;
+    let count = work.cells.count;
+    let mut jobs = new_counters(alloc, crew.workers(), count)?;
+    let first = first_tasks(alloc, crew.workers(), count, work.firsts)?;
+    crew.run(host.rt, work.cells, &mut jobs, &first, gate);
+    Ok(jobs)
 }

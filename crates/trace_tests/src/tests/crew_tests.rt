@@ -3,7 +3,7 @@
 ghost use Rattle.std.specs.Prelude.{◌≡◌, ◌<◌, ◌≤◌};
 ghost use Rattle.steal_pool.specs.Runs.{room_of};
 
-use crate::counters::{Work, is_done_once, run_cells};
+use super::counters::{Work, is_done_once, run_cells};
 use crew_support::{Cells, Counter, Shape, are_seen, times_seen};
 use heap_base::{Gate, OpenGate, OutOfMemory, Task};
 use std::process::Abort;

@@ -5,8 +5,8 @@
 
 ghost use Rattle.std.specs.Prelude.{◌≤◌};
 
-use crate::counters::{Work, run_cells};
-use crate::traces::{OwnedHeap, trace_table};
+use super::counters::{Work, run_cells};
+use super::traces::{OwnedHeap, trace_table};
 use crew_support::{Cells, Counter, Shape, are_seen};
 use heap_base::{Gate, Name, OutOfMemory};
 use object_table::ObjectTable;

@@ -1,9 +1,10 @@
 //! Small heaps, traced by few and many workers.
 
-use crate::traces::{
+use super::traces::{
     FOUND_ONCE, FOUND_TWICE, KEPT_ONCE, KEPT_TWICE, MET_ONCE, MET_TWICE, UNTRACED, Wanted,
     check_heap,
 };
+use path_heaps::{BOOK, ENTRY, LEAF, LIST, LOST_ENTRY, MAP, PAIR, POOLS};
 use std::test::Fail;
 use test_support::{Host, SampleHeap};
 
@@ -29,53 +30,6 @@ const WEAK: SampleHeap<'static> = SampleHeap {
     weak: &[(1, 0)],
     roots: &[("a", 1)],
     owned: &[(1, 2)],
-    ..EMPTY
-};
-
-// Two slots hold the leaf.
-const PAIR: SampleHeap<'static> = SampleHeap {
-    objects: &[(1, "Pair", 2), (9, "Leaf", 1)],
-    stores: &[(1, 0, 9), (1, 1, 9)],
-    roots: &[("p", 1)],
-    ..EMPTY
-};
-
-// The leaf holds itself, and a root names it.
-const LEAF: SampleHeap<'static> = SampleHeap {
-    stores: &[(9, 0, 9)],
-    roots: &[("p", 1), ("q", 9)],
-    ..PAIR
-};
-
-// The owner 1 holds the ownee 3, and so does 2.
-const ENTRY: SampleHeap<'static> = SampleHeap {
-    objects: &[(1, "Map", 1), (2, "Cache", 1), (3, "Entry", 0)],
-    stores: &[(1, 0, 3), (2, 0, 3)],
-    roots: &[("c", 2), ("m", 1)],
-    owned: &[(1, 3)],
-    ..EMPTY
-};
-
-// Then 2 alone.
-const LOST_ENTRY: SampleHeap<'static> = SampleHeap {
-    stores: &[(2, 0, 3)],
-    ..ENTRY
-};
-
-// Nothing reaches the owner 3, and it may find its ownee by 4, which no owner owns.
-const UNREACHED: SampleHeap<'static> = SampleHeap {
-    objects: &[(3, "Book", 1), (4, "Page", 1), (5, "Order", 0)],
-    stores: &[(3, 0, 4), (4, 0, 5)],
-    owned: &[(3, 5)],
-    ..EMPTY
-};
-
-// The ownee 2 leads back to its owner 1, and on to its sibling 3.
-const SIBLINGS: SampleHeap<'static> = SampleHeap {
-    objects: &[(1, "Map", 2), (2, "Item", 2), (3, "Item", 0)],
-    stores: &[(1, 0, 2), (1, 1, 3), (2, 0, 1), (2, 1, 3)],
-    roots: &[("m", 1)],
-    owned: &[(1, 2), (1, 3)],
     ..EMPTY
 };
 
@@ -114,35 +68,6 @@ const RING: SampleHeap<'static> = SampleHeap {
     ..EMPTY
 };
 
-// The owners 1 and 2 share the array 3, which holds an ownee of 2. Either of them may come first to the array.
-const POOLS: SampleHeap<'static> = SampleHeap {
-    objects: &[
-        (1, "Pool", 2),
-        (2, "Pool", 1),
-        (3, "Array", 1),
-        (4, "Job", 0),
-        (5, "Job", 0),
-    ],
-    stores: &[(1, 0, 3), (1, 1, 5), (2, 0, 3), (3, 0, 4)],
-    roots: &[("a", 1), ("b", 2), ("x", 4)],
-    owned: &[(1, 5), (2, 4)],
-    ..EMPTY
-};
-
-// The owner 1 has its three ownees in a list: it finds the first alone.
-const LIST: SampleHeap<'static> = SampleHeap {
-    objects: &[
-        (1, "List", 1),
-        (2, "Node", 1),
-        (3, "Node", 1),
-        (4, "Node", 0),
-    ],
-    stores: &[(1, 0, 2), (2, 0, 3), (3, 0, 4)],
-    roots: &[("l", 1), ("x", 4)],
-    owned: &[(1, 2), (1, 3), (1, 4)],
-    ..EMPTY
-};
-
 const CASES: [(SampleHeap<'static>, Wanted<'static>); 17] = [
     (
         EMPTY,
@@ -172,6 +97,7 @@ const CASES: [(SampleHeap<'static>, Wanted<'static>); 17] = [
             instances: &[2],
         },
     ),
+    // two slots hold the leaf
     (
         PAIR,
         Wanted {
@@ -179,6 +105,7 @@ const CASES: [(SampleHeap<'static>, Wanted<'static>); 17] = [
             instances: &[1, 1],
         },
     ),
+    // the leaf holds itself, and a root names it
     (
         LEAF,
         Wanted {
@@ -186,6 +113,7 @@ const CASES: [(SampleHeap<'static>, Wanted<'static>); 17] = [
             instances: &[1, 1],
         },
     ),
+    // the owner 1 holds the ownee 3, and so does 2
     (
         ENTRY,
         Wanted {
@@ -193,6 +121,7 @@ const CASES: [(SampleHeap<'static>, Wanted<'static>); 17] = [
             instances: &[1, 1, 1],
         },
     ),
+    // then 2 alone
     (
         LOST_ENTRY,
         Wanted {
@@ -200,8 +129,9 @@ const CASES: [(SampleHeap<'static>, Wanted<'static>); 17] = [
             instances: &[1, 1, 1],
         },
     ),
+    // nothing reaches the owner 3, and it may find its ownee by 4, which no owner owns
     (
-        UNREACHED,
+        BOOK,
         Wanted {
             objects: &[
                 (3, 3, UNTRACED),
@@ -211,8 +141,9 @@ const CASES: [(SampleHeap<'static>, Wanted<'static>); 17] = [
             instances: &[0, 1, 1],
         },
     ),
+    // the ownee 2 leads back to its owner 1, and on to its sibling 3
     (
-        SIBLINGS,
+        MAP,
         Wanted {
             objects: &[(1, 1, KEPT_TWICE), (2, 2, FOUND_ONCE), (3, 3, FOUND_TWICE)],
             instances: &[1, 2],
@@ -253,6 +184,7 @@ const CASES: [(SampleHeap<'static>, Wanted<'static>); 17] = [
             instances: &[2],
         },
     ),
+    // the owners 1 and 2 share the array 3, which holds an ownee of 2; either of them may come first to the array
     (
         POOLS,
         Wanted {
@@ -265,6 +197,7 @@ const CASES: [(SampleHeap<'static>, Wanted<'static>); 17] = [
             instances: &[2, 1, 2],
         },
     ),
+    // the owner 1 has its three ownees in a list: it finds the first alone
     (
         LIST,
         Wanted {

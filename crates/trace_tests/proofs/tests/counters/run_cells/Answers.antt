@@ -3,7 +3,7 @@ use Rattle.crew_support.specs.declared.counters.Cells.{Cells}
 use Rattle.crew_support.specs.declared.counters.Counter.{Counter}
 use Rattle.crew_support.specs.CellTasks.{AreFirst}
 use Rattle.crew_support.proofs.CellTaskLemmas.{rooms, enough_turns}
-use Rattle.trace_tests.proofs.counters.run_cells.Goals as goal
+use Rattle.trace_tests.proofs.tests.counters.run_cells.Goals as goal
 
 pub run-requires-clause-room : goal.run-requires-clause-room
 run-requires-clause-room g c κs within =
