@@ -118,7 +118,5 @@ returns-clause-same_fit g c =
 pub returns-clause-turns : goal.returns-clause-turns
 returns-clause-turns g c =
     let M = g.J.Job.meaning in
-    let s = arc_value c.args.shared.now in
-    let js = c.args.jobs.items in
-    let fs = c.args.first.now.lists in
-    subst (λ (ks : List _). TurnsLast M (most_tasks M js fs) js ks) (sym c.in_ok-jobs.ensures) (turns_last M s js fs c.loop-self.shares.items c.loop-self.invariant.gone)
+    let went = turns_last M (arc_value c.args.shared.now) c.args.jobs.items c.args.first.now.lists c.loop-self.shares.items c.loop-self.invariant.gone in
+    subst (λ (ks : List _). TurnsLast M (most_tasks M c.args.jobs.items c.args.first.now.lists) c.args.jobs.items ks) (sym c.in_ok-jobs.ensures) went
