@@ -174,7 +174,8 @@ pub among-at : (won met : List ℕ) → AreAmong won met → (x : ℕ) → has_i
 among-at won met among x at = at-times x met (let l = times-at x won at in let a = among (λ y. bit (eqb y x)) in omega arith)
 
 -- A fit task puts fit tasks.
-pub puts-fit : (g : StoppedGraph) (j : ScanState) (t : Task) (k : ScanState) (put : List Task) → IsWhole g → Works g j t (record { job = k; put = put }) → Contains (fit_tasks g j.mode) t → AllFit (fit_tasks g j.mode) put
+pub puts-fit : (g : StoppedGraph) (j : ScanState) (t : Task) (k : ScanState) (put : List Task) → IsWhole g → Works g j t (record { job = k; put = put }) →
+    Contains (fit_tasks g j.mode) t → AllFit (fit_tasks g j.mode) put
 puts-fit g j t k put w s fits =
     subst (AllByRecursion (Contains (fit_tasks g j.mode))) (sym s.puts)
     (all-tagged (Contains (fit_tasks g j.mode)) t.tag (is_put g j.mode) s.won

@@ -43,7 +43,8 @@ module _ (s : Shared) (mode : Mode) (js : List ScanState) (ts : List Task) (p : 
 
   modes-after : (ks : List ScanState) → Run shared_meaning s p.load ks → AreIn mode ks
   modes-after ks run =
-      run-modes s mode p.load.first (map (begun mode) js) ks (let a = p.start.jobs in let b = p.start.some in omega arith) p.start.modes (subst (λ zs. Run shared_meaning s (record { jobs = zs; first = p.load.first }) ks) p.are_begun run)
+      run-modes s mode p.load.first (map (begun mode) js) ks (let a = p.start.jobs in let b = p.start.some in omega arith) p.start.modes
+      (subst (λ zs. Run shared_meaning s (record { jobs = zs; first = p.load.first }) ks) p.are_begun run)
 
   turns-after : (ks : List ScanState) → TurnsLast shared_meaning (most_tasks shared_meaning p.load.jobs p.load.first) p.load.jobs ks → TurnsLast shared_meaning (2 ^ 25 + 1) js ks
   turns-after ks last =

@@ -201,7 +201,8 @@ all-done fit [] all = tt
 all-done fit (w ∷ ws) all =
     all-append (Contains fit) w.done (all_done ws) (all 0 w (omega arith)) (all-done fit ws (λ i x within. all (suc i) x (omega arith)))
 
-pub run-scans : (s : Shared) (mode : Mode) (fs : List (List Task)) (js ks : List ScanState) → 0 < length js → AreIn mode js → Run shared_meaning s (record { jobs = js; first = fs }) ks → RanScans s mode fs js ks
+pub run-scans : (s : Shared) (mode : Mode) (fs : List (List Task)) (js ks : List ScanState) → 0 < length js → AreIn mode js →
+    Run shared_meaning s (record { jobs = js; first = fs }) ks → RanScans s mode fs js ks
 run-scans s mode fs js ks some are run =
     let d = did-all (graph_in s) mode js run.work ks are run.each in
     record {

@@ -581,7 +581,8 @@ module _ {J S : Type 0} (setting : Setting J S) where
       let put = we.put ++ wx.put in
       let then-does : Does (M.works s) E.new wx.done (record { job = X.new; put = wx.put }) = subst (λ c. Does (M.works s) c wx.done (record { job = X.new; put = wx.put })) mid wx.does in
       let does : Does (M.works s) E.old done (record { job = X.new; put = put }) = does_append (M.works s) E.old E.new X.new we.done wx.done we.put wx.put we.does then-does in
-      let does' : Does (M.works s) j done (record { job = k; put = put }) = subst (λ c. Does (M.works s) j done (record { job = c; put = put })) jk (subst (λ c. Does (M.works s) c done (record { job = X.new; put = put })) je does) in
+      let does' : Does (M.works s) j done (record { job = k; put = put }) =
+      subst (λ c. Does (M.works s) j done (record { job = c; put = put })) jk (subst (λ c. Does (M.works s) c done (record { job = X.new; put = put })) je does) in
       let fe : M.fit E.old s ≡ F = ap (λ c. M.fit c s) je ∙ m.0.same_fit in
       let fx : M.fit X.old s ≡ F = ap (λ c. M.fit c s) mid ∙ (we.same_fit ∙ fe) in
       record {
@@ -659,7 +660,8 @@ module _ {J S : Type 0} (setting : Setting J S) where
 
 -- ---- the same from what the run needs, call by call
 
-module _ {J S : Type 0} {M : Meaning J S} {s : S} {ps : Places J} {room : ℕ} {js : List J} {fs : List (List Task)} (k : CanRun M s (record { places = ps; room = room; load = record { jobs = js; first = fs } })) where
+module _ {J S : Type 0} {M : Meaning J S} {s : S} {ps : Places J} {room : ℕ} {js : List J} {fs : List (List Task)}
+    (k : CanRun M s (record { places = ps; room = room; load = record { jobs = js; first = fs } })) where
   abbrev the_run : Setting J S
   the_run = record { meaning = M; shared = s; fit = fit_tasks M s js; workers = length ps; bound = most_tasks M js fs; room = room }
 
