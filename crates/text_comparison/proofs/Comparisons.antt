@@ -88,12 +88,14 @@ module _ {start left : Option (List ℕ)} {s : ComparisonState} {text : List ℕ
     with-rest byte rest = ap (λ t. t ++ rest) (append_assoc text (byte ∷ []) pending') ∙ append_assoc text (byte ∷ pending') rest
 
     -- one byte more is equal
-    equal-more : (byte : ℕ) → GivesNext (bytes_ahead s.pending left) (bytes_ahead pending' left') (Some byte) → IsEqualSoFar (comparison_of start left' (record { pending = pending'; place = s.place + 1 })) (text ++ byte ∷ [])
+    equal-more : (byte : ℕ) → GivesNext (bytes_ahead s.pending left) (bytes_ahead pending' left') (Some byte) →
+        IsEqualSoFar (comparison_of start left' (record { pending = pending'; place = s.place + 1 })) (text ++ byte ∷ [])
     equal-more byte gives = record { consumed = took-one byte gives; place = omega (arith, equal.place, length-append text (byte ∷ [])) }
 
     module _ (n : ℕ) (is : n ≡ s.place + 1) where
       -- the next byte is another than that of the text
-      pub differs-other : (other byte : ℕ) (rest : List ℕ) → GivesNext (bytes_ahead s.pending left) (bytes_ahead pending' left') (Some other) → other ≢ byte → DiffersWithin start (text ++ byte ∷ rest) n
+      pub differs-other : (other byte : ℕ) (rest : List ℕ) → GivesNext (bytes_ahead s.pending left) (bytes_ahead pending' left') (Some other) →
+          other ≢ byte → DiffersWithin start (text ++ byte ∷ rest) n
       differs-other other byte rest gives apart = (
         omega (arith, is, equal.place, length-append text (byte ∷ rest)),
         of-all ((text ++ other ∷ []) ++ pending') (λ bytes. (more : List ℕ) → IsFirstDifference bytes ((text ++ byte ∷ rest) ++ more) n) start left' (took-one other gives)
@@ -129,7 +131,8 @@ module _ {start left : Option (List ℕ)} {s : ComparisonState} {text : List ℕ
 
   -- the next byte is that of the text, and was counted
   module _ (left' : Option (List ℕ)) {read counted : ComparisonState} (kept : read.place ≡ s.place) (is : counted ≡ record read { place = read.place + 1 }) where
-    pub equal-counted : (other byte : ℕ) → other ≡ byte → GivesNext (bytes_ahead s.pending left) (bytes_ahead read.pending left') (Some other) → IsEqualSoFar (comparison_of start left' counted) (text ++ byte ∷ [])
+    pub equal-counted : (other byte : ℕ) → other ≡ byte → GivesNext (bytes_ahead s.pending left) (bytes_ahead read.pending left') (Some other) →
+        IsEqualSoFar (comparison_of start left' counted) (text ++ byte ∷ [])
     equal-counted other byte same gives =
         subst (λ (b : ℕ). IsEqualSoFar (comparison_of start left' counted) (text ++ b ∷ [])) same
         (subst (λ (c : ComparisonState). IsEqualSoFar (comparison_of start left' c) (text ++ other ∷ []))

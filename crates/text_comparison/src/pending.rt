@@ -13,9 +13,9 @@ const PIECE: usize = 65536;
 /// The bytes that were read and not given yet. Contracts see the list of them.
 #[derive(Drop)]
 pub(crate) struct Pending {
-    buffer: Vec<u8>,
     start: usize,
     end: usize,
+    buffer: Vec<u8>,
 }
 
 impl Model for Pending {
@@ -36,9 +36,9 @@ impl Pending {
     {
         let buffer = vec![in alloc; 0u8; PIECE]?;
         Ok(Pending {
-            buffer,
             start: 0,
             end: 0,
+            buffer,
         })
     }
 
