@@ -1,8 +1,8 @@
 -- The fields of an object, beside its members.
-use Rattle.std.proofs.Common.{◌≡◌, ℕ, ◌⊎◌, ◌↔◌, ◌||◌, List, [], ◌∷◌, Bool, true, false, cond, find, bytes_eq, Option, Some, None, option_map, Result, Ok, Err, refl, sym, ap, ◌∙◌, subst, inl, inr}
+use Rattle.std.proofs.Common.{◌≡◌, ◌≢◌, ℕ, ◌⊎◌, ◌↔◌, ◌||◌, List, [], ◌∷◌, slice_get, Bool, true, false, cond, bytes_eq, Option, Some, None, option_map, Result, Ok, Err, refl, sym, ap, ◌∙◌, subst, inl, inr}
 use Rattle.std.proofs.lemmas.Bool.{both_ways, cases_Bool}
 use Rattle.std.proofs.lemmas.Slice.Eq.{bytes_eq-Decides}
-use Rattle.std.specs.List.{list_any}
+use Rattle.std.specs.List.{list_any, position_or_len}
 use Rattle.serde_json.specs.Data.{Data, object, Members, no_members, put}
 use Rattle.serde_json.specs.Find.{get_member, as_str}
 use Rattle.serde_json.proofs.Views.{get_member-put, get_member-put_other}
@@ -14,21 +14,19 @@ use Rattle.trace_reader.specs.declared.fields.Fields.{Fields}
 use Rattle.trace_reader.specs.declared.object.FieldValue.{FieldValue}
 use Rattle.trace_reader.specs.Meaning.{field_text, needed_value, ◌>>=◌, event_in, operation, alloc_in, store_in, set_weak_in, root_in, dead_in}
 use Rattle.trace_reader.specs.Meaning.{start_in, all_dead_in, instances_in, unshared_in, owned_in}
-use Rattle.trace_reader.specs.Objects.{value_data, no_fields, value_of, with_value, HasFieldsOf, all_fields, put_if_some, members_of}
+use Rattle.trace_reader.specs.Objects.{value_data, no_fields, value_of, HasFieldsOf, all_fields, place_of, put_if_some, members_of}
 
 -- ---- keys
 
--- the first of these fields that is spelled so
-abbrev named : List ℕ → List FieldName → Option FieldName
-named key fields = find (λ f. bytes_eq key (field_text f)) fields
-
-named-field_text : (f : FieldName) → named (field_text f) all_fields ≡ Some f
-named-field_text OpField = refl
-named-field_text _ = refl
+-- among all fields, the one at the place of a field is this field
+placed : (f : FieldName) → slice_get all_fields (place_of f) ≡ Some f
+placed OpField = refl
+placed _ = refl
 
 same_field : (f g : FieldName) → field_text f ≡ field_text g → f ≡ g
 same_field f g e =
-    let found : Some f ≡ Some g = sym (named-field_text f) ∙ ap (λ key. named key all_fields) e ∙ named-field_text g in
+    let place : List ℕ → ℕ = λ key. position_or_len (λ other. bytes_eq key (field_text other)) all_fields in
+    let found : Some f ≡ Some g = sym (placed f) ∙ ap (λ key. slice_get all_fields (place key)) e ∙ placed g in
     cc
 
 pub spelled : (g : FieldName) (key : List ℕ) → key ≡ field_text g → (field : FieldName) → (Some g ≡ Some field) ↔ (key ≡ field_text field)
@@ -49,26 +47,6 @@ same_or_apart f g =
 
 -- ---- one member more
 
-value_of-with_value : (fields : Fields) (v : FieldValue) (f : FieldName) → value_of (with_value fields f v) f ≡ Some v
-value_of-with_value fields v OpField = refl
-value_of-with_value fields v _ = refl
-
-value_of-with_value_other : (fields : Fields) (v : FieldValue) (g f : FieldName) → (f ≡ g → ⊥) → value_of (with_value fields g v) f ≡ value_of fields f
-value_of-with_value_other fields v OpField OpField apart = absurd (apart refl)
-value_of-with_value_other fields v IdField IdField apart = absurd (apart refl)
-value_of-with_value_other fields v TypeField TypeField apart = absurd (apart refl)
-value_of-with_value_other fields v SlotsField SlotsField apart = absurd (apart refl)
-value_of-with_value_other fields v ThreadField ThreadField apart = absurd (apart refl)
-value_of-with_value_other fields v AtField AtField apart = absurd (apart refl)
-value_of-with_value_other fields v SlotField SlotField apart = absurd (apart refl)
-value_of-with_value_other fields v ToField ToField apart = absurd (apart refl)
-value_of-with_value_other fields v NameField NameField apart = absurd (apart refl)
-value_of-with_value_other fields v LimitField LimitField apart = absurd (apart refl)
-value_of-with_value_other fields v OwnerField OwnerField apart = absurd (apart refl)
-value_of-with_value_other fields v OwneeField OwneeField apart = absurd (apart refl)
-value_of-with_value_other fields v WeakField WeakField apart = absurd (apart refl)
-value_of-with_value_other fields v _ _ apart = refl
-
 no_value : (f : FieldName) → option_map value_data (value_of no_fields f) ≡ get_member (field_text f) no_members
 no_value OpField = refl
 no_value _ = refl
@@ -76,28 +54,25 @@ no_value _ = refl
 pub no_fields_of : (fields : Fields) → fields ≡ no_fields → HasFieldsOf fields no_members
 no_fields_of fields is = λ f. ap (λ (x : Fields). option_map value_data (value_of x f)) is ∙ no_value f
 
-module _ (fields : Fields) (members : Members) (has : HasFieldsOf fields members) where
-  field_put : (g f : FieldName) (v : FieldValue) → (f ≡ g) ⊎ (f ≡ g → ⊥)
-      → option_map value_data (value_of (with_value fields g v) f) ≡ get_member (field_text f) (put (field_text g) (value_data v) members)
-  field_put g f v (inl same) =
-      let P : FieldName → Type 0 = λ h. option_map value_data (value_of (with_value fields g v) h) ≡ get_member (field_text h) (put (field_text g) (value_data v) members) in
-      subst P (sym same) (ap (option_map value_data) (value_of-with_value fields v g) ∙ sym (get_member-put (field_text g) (value_data v) members))
-  field_put g f v (inr apart) =
-      ap (option_map value_data) (value_of-with_value_other fields v g f apart)
+-- a member whose key is a field's
+module _ (fields new : Fields) (members : Members) (has : HasFieldsOf fields members) (g : FieldName) (v : FieldValue)
+    (value : value_of new g ≡ Some v) (others : (f : FieldName) → f ≢ g → value_of new f ≡ value_of fields f) where
+  field_put : (f : FieldName) → (f ≡ g) ⊎ (f ≡ g → ⊥) → option_map value_data (value_of new f) ≡ get_member (field_text f) (put (field_text g) (value_data v) members)
+  field_put f (inl same) =
+      let P : FieldName → Type 0 = λ h. option_map value_data (value_of new h) ≡ get_member (field_text h) (put (field_text g) (value_data v) members) in
+      subst P (sym same) (ap (option_map value_data) value ∙ sym (get_member-put (field_text g) (value_data v) members))
+  field_put f (inr apart) =
+      ap (option_map value_data) (others f apart)
       ∙ has f
       ∙ sym (get_member-put_other (field_text f) (field_text g) (value_data v) members (λ e. apart (same_field f g e)))
 
-  -- a member whose key is a field's
-  pub fields_put : (new : Fields) (key : List ℕ) (v : FieldValue) (g : FieldName) → key ≡ field_text g → new ≡ with_value fields g v → HasFieldsOf new (put key (value_data v) members)
-  fields_put new key v g named was =
-      λ f. ap (λ (x : Fields). option_map value_data (value_of x f)) was
-      ∙ field_put g f v (same_or_apart f g)
-      ∙ ap (λ k. get_member (field_text f) (put k (value_data v) members)) (sym named)
+  pub fields_put : (key : List ℕ) → key ≡ field_text g → HasFieldsOf new (put key (value_data v) members)
+  fields_put key named = λ f. field_put f (same_or_apart f g) ∙ ap (λ k. get_member (field_text f) (put k (value_data v) members)) (sym named)
 
-  -- a member whose key is no field's
-  pub fields_kept : (key : List ℕ) (d : Data) → ((f : FieldName) → key ≡ field_text f → ⊥) → HasFieldsOf fields (put key d members)
-  fields_kept key d other =
-      λ f. has f ∙ sym (get_member-put_other (field_text f) key d members (λ e. other f (sym e)))
+-- a member whose key is no field's
+pub fields_kept : (fields : Fields) (members : Members) → HasFieldsOf fields members → (key : List ℕ) (d : Data) → ((f : FieldName) → key ≡ field_text f → ⊥) → HasFieldsOf fields (put key d members)
+fields_kept fields members has key d other =
+    λ f. has f ∙ sym (get_member-put_other (field_text f) key d members (λ e. other f (sym e)))
 
 -- ---- the object that has these fields alone
 
@@ -147,50 +122,11 @@ bind_same (Ok a) f g same = same a
 bind_same (Err r) f g same = refl
 
 module _ (ms ns : Members) (same : (f : FieldName) → get_member (field_text f) ms ≡ get_member (field_text f) ns) where
-  alloc_same : alloc_in (object ms) ≡ alloc_in (object ns)
-  unfolding alloc_in
-  alloc_same = rw (same IdField, same TypeField, same SlotsField, same ThreadField)
-
-  store_same : store_in (object ms) ≡ store_in (object ns)
-  unfolding store_in
-  store_same = rw (same AtField, same SlotField, same ToField)
-
-  set_weak_same : set_weak_in (object ms) ≡ set_weak_in (object ns)
-  unfolding set_weak_in
-  set_weak_same = rw (same AtField, same SlotField, same WeakField)
-
-  root_same : root_in (object ms) ≡ root_in (object ns)
-  unfolding root_in
-  root_same = rw (same NameField, same ToField)
-
-  dead_same : dead_in (object ms) ≡ dead_in (object ns)
-  unfolding dead_in
-  dead_same = rw (same IdField)
-
-  start_same : start_in (object ms) ≡ start_in (object ns)
-  unfolding start_in
-  start_same = rw (same ThreadField)
-
-  all_dead_same : all_dead_in (object ms) ≡ all_dead_in (object ns)
-  unfolding all_dead_in
-  all_dead_same = rw (same ThreadField)
-
-  instances_same : instances_in (object ms) ≡ instances_in (object ns)
-  unfolding instances_in
-  instances_same = rw (same TypeField, same LimitField)
-
-  unshared_same : unshared_in (object ms) ≡ unshared_in (object ns)
-  unfolding unshared_in
-  unshared_same = rw (same IdField)
-
-  owned_same : owned_in (object ms) ≡ owned_in (object ns)
-  unfolding owned_in
-  owned_same = rw (same OwnerField, same OwneeField)
-
   operation_same : (op : List ℕ) → operation op (object ms) ≡ operation op (object ns)
-  unfolding operation
+  unfolding operation alloc_in store_in set_weak_in root_in dead_in start_in all_dead_in instances_in unshared_in owned_in
   operation_same op =
-      rw (alloc_same, store_same, set_weak_same, root_same, dead_same, start_same, all_dead_same, instances_same, unshared_same, owned_same)
+      rw (same IdField, same TypeField, same SlotsField, same ThreadField, same AtField, same SlotField, same ToField, same WeakField, same NameField)
+      (rw (same LimitField, same OwnerField, same OwneeField))
 
   event_same : event_in (object ms) ≡ event_in (object ns)
   unfolding event_in

@@ -104,6 +104,20 @@ Gives (Ok a) given = given ≡ Ok a
 Gives (Err (Refused r)) given = given ≡ Err r
 Gives (Err OutOfMemory) given = ⊤
 
+-- ---- operations that are made of the values of their fields
+
+-- of one value
+abbrev pub made_of : {A : Type 0} → (A → Event) → Result A Refusal → Result Event Refusal
+made_of make value = value >>= (λ a. Ok (make a))
+
+-- of two, of which the first is tested first
+abbrev pub made_of_two : {A B : Type 0} → (A → B → Event) → Result A Refusal → Result B Refusal → Result Event Refusal
+made_of_two make first second = first >>= (λ a. made_of (make a) second)
+
+-- of a slot, which is named by the id of its object and by its number, and of a value
+abbrev pub made_of_slot : {A : Type 0} → (ℕ → ℕ → A → Event) → Data → Result A Refusal → Result Event Refusal
+made_of_slot make d value = needed_field AtField id_value d >>= (λ at. made_of_two (make at) (needed_field SlotField count_value d) value)
+
 -- ---- the eleven operations, each with its fields in the order in which they are tested
 
 unfoldable pub alloc_in : Data → Result Event Refusal
@@ -115,56 +129,31 @@ alloc_in d = do
   Ok (Alloc id kind slots thread)
 
 unfoldable pub store_in : Data → Result Event Refusal
-store_in d = do
-  at ← needed_field AtField id_value d
-  slot ← needed_field SlotField count_value d
-  to ← needed_field ToField target_value d
-  Ok (Store at slot to)
+store_in d = made_of_slot Store d (needed_field ToField target_value d)
 
 unfoldable pub set_weak_in : Data → Result Event Refusal
-set_weak_in d = do
-  at ← needed_field AtField id_value d
-  slot ← needed_field SlotField count_value d
-  weak ← needed_field WeakField as_bool d
-  Ok (SetWeak at slot weak)
+set_weak_in d = made_of_slot SetWeak d (needed_field WeakField as_bool d)
 
 unfoldable pub root_in : Data → Result Event Refusal
-root_in d = do
-  name ← needed_field NameField name_value d
-  to ← needed_field ToField target_value d
-  Ok (Root name to)
+root_in d = made_of_two Root (needed_field NameField name_value d) (needed_field ToField target_value d)
 
 unfoldable pub dead_in : Data → Result Event Refusal
-dead_in d = do
-  id ← needed_field IdField id_value d
-  Ok (AssertDead id)
+dead_in d = made_of AssertDead (needed_field IdField id_value d)
 
 unfoldable pub start_in : Data → Result Event Refusal
-start_in d = do
-  thread ← field_or_zero ThreadField thread_value d
-  Ok (StartRegion thread)
+start_in d = made_of StartRegion (field_or_zero ThreadField thread_value d)
 
 unfoldable pub all_dead_in : Data → Result Event Refusal
-all_dead_in d = do
-  thread ← field_or_zero ThreadField thread_value d
-  Ok (AssertAllDead thread)
+all_dead_in d = made_of AssertAllDead (field_or_zero ThreadField thread_value d)
 
 unfoldable pub instances_in : Data → Result Event Refusal
-instances_in d = do
-  kind ← needed_field TypeField name_value d
-  limit ← needed_field LimitField count_value d
-  Ok (AssertInstances kind limit)
+instances_in d = made_of_two AssertInstances (needed_field TypeField name_value d) (needed_field LimitField count_value d)
 
 unfoldable pub unshared_in : Data → Result Event Refusal
-unshared_in d = do
-  id ← needed_field IdField id_value d
-  Ok (AssertUnshared id)
+unshared_in d = made_of AssertUnshared (needed_field IdField id_value d)
 
 unfoldable pub owned_in : Data → Result Event Refusal
-owned_in d = do
-  owner ← needed_field OwnerField id_value d
-  ownee ← needed_field OwneeField id_value d
-  Ok (AssertOwnedBy owner ownee)
+owned_in d = made_of_two AssertOwnedBy (needed_field OwnerField id_value d) (needed_field OwneeField id_value d)
 
 -- the operation of this name, from its fields
 unfoldable pub operation : List ℕ → Data → Result Event Refusal

@@ -1,5 +1,7 @@
 -- An object's fields, in the form in which they were read.
-use Rattle.std.specs.Prelude.{◌≡◌, ℕ, List, [], ◌∷◌, Option, None, Some, option_map}
+use Rattle.std.specs.Prelude.{◌≡◌, ℕ, List, [], ◌∷◌, length, replicate, slice_index_or, Option, None, Some, option_map}
+use Rattle.std.specs.List.{position_or_len}
+use Rattle.std.specs.Str.{bytes_eq}
 use Rattle.serde_json.specs.Data.{Data, null, boolean, number, unsigned, string, object, Members, no_members, put}
 use Rattle.serde_json.specs.Find.{get_member}
 use Rattle.serde_json.specs.View.{view}
@@ -23,51 +25,26 @@ value_data (Json v) = view v.now
 
 -- ---- the fields of an object
 
+abbrev pub all_fields : List FieldName
+all_fields =
+    OpField ∷ IdField ∷ TypeField ∷ SlotsField ∷ ThreadField ∷ AtField ∷ SlotField ∷ ToField ∷ NameField ∷ LimitField ∷ OwnerField ∷ OwneeField ∷ WeakField ∷ []
+
+-- the place of a field among them all, at which its value stands
+abbrev pub place_of : FieldName → ℕ
+place_of field = position_or_len (λ other. bytes_eq (field_text field) (field_text other)) all_fields
+
 abbrev pub no_fields : Fields
-no_fields =
-    record { op = None; id = None; kind = None; slots = None; thread = None; at = None; slot = None; to = None; name = None; limit = None; owner = None; ownee = None; weak = None }
+no_fields = record { values = replicate (length all_fields) None }
 
 -- the value of a field, if it is there
 abbrev pub value_of : Fields → FieldName → Option FieldValue
-value_of fields OpField = fields.op
-value_of fields IdField = fields.id
-value_of fields TypeField = fields.kind
-value_of fields SlotsField = fields.slots
-value_of fields ThreadField = fields.thread
-value_of fields AtField = fields.at
-value_of fields SlotField = fields.slot
-value_of fields ToField = fields.to
-value_of fields NameField = fields.name
-value_of fields LimitField = fields.limit
-value_of fields OwnerField = fields.owner
-value_of fields OwneeField = fields.ownee
-value_of fields WeakField = fields.weak
-
--- the same fields, but for this value at one of them
-abbrev pub with_value : Fields → FieldName → FieldValue → Fields
-with_value fields OpField v = record fields { op = Some v }
-with_value fields IdField v = record fields { id = Some v }
-with_value fields TypeField v = record fields { kind = Some v }
-with_value fields SlotsField v = record fields { slots = Some v }
-with_value fields ThreadField v = record fields { thread = Some v }
-with_value fields AtField v = record fields { at = Some v }
-with_value fields SlotField v = record fields { slot = Some v }
-with_value fields ToField v = record fields { to = Some v }
-with_value fields NameField v = record fields { name = Some v }
-with_value fields LimitField v = record fields { limit = Some v }
-with_value fields OwnerField v = record fields { owner = Some v }
-with_value fields OwneeField v = record fields { ownee = Some v }
-with_value fields WeakField v = record fields { weak = Some v }
+value_of fields field = slice_index_or fields.values (place_of field) None
 
 -- each field has the value that these members have at its key, and is missing where they have none
 abbrev pub HasFieldsOf : Fields → Members → Type 0
 HasFieldsOf fields members = (field : FieldName) → option_map value_data (value_of fields field) ≡ get_member (field_text field) members
 
 -- ---- an object of such fields, and of no other members
-
-abbrev pub all_fields : List FieldName
-all_fields =
-    OpField ∷ IdField ∷ TypeField ∷ SlotsField ∷ ThreadField ∷ AtField ∷ SlotField ∷ ToField ∷ NameField ∷ LimitField ∷ OwnerField ∷ OwneeField ∷ WeakField ∷ []
 
 abbrev pub put_if_some : List ℕ → Option FieldValue → Members → Members
 put_if_some key None members = members

@@ -6,6 +6,7 @@ use graph_meaning::FieldName;
 
 /// The field that is spelled so, if there is one.
 #[inline(always)]
+#[tactic(auto, using(crate::proofs::FieldLemmas::spelled))]
 pub fn field_spelled(key: &str) -> Option<FieldName>
     ensures { (field : FieldName) → (result ≡ Some field) ↔ (key.now ≡ field_text field) }
 {

@@ -19,5 +19,5 @@ returns-clause-value c = λ taken.
     let named = (c.in-Some.ensures c.in-Some.field).0 refl in (
       value_data v,
       c.in-Some-plain_value.ensures.value member_depth,
-      λ members has. fields_put c.args.fields.now members has c.set.new.self c.args.key.now v c.in-Some.field named c.set.ensures,
+      λ members has. fields_put c.args.fields.now c.set.new.self members has c.in-Some.field v c.set.ensures.value c.set.ensures.others c.args.key.now named,
     )
