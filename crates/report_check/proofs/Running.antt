@@ -8,7 +8,6 @@ use Rattle.std.proofs.lemmas.List.{take-append-drop}
 use Rattle.heap_base.specs.Sinks.{AppendsPart}
 use Rattle.heap_base.specs.Streams.{Stream}
 use Rattle.heap_base.specs.declared.limits.TheConstants.{LONGEST_TRACE}
-use Rattle.heap_base.specs.declared.status.Status.{Status}
 use Rattle.heap_base.specs.declared.status.Status.TheVariants.{TraceFault, NoMemory}
 use Rattle.graph_meaning.specs.declared.refusal.Refusal.{Refusal}
 use Rattle.graph_meaning.specs.declared.refusal.Refusal.TheVariants as refusal
@@ -223,18 +222,14 @@ module _ {first now : Moment} (u : UnderWay first now) (trace : Stream) (c : Cut
   pub line-too_long : (compared : Compared) → Steps (Err cut_error.LineTooLong) → Tells first.report.bytes (u.written ++ fault_text (now.lines + 1) refusal.LineTooLong) compared →
       TellsOfRun first.state first.trace.bytes first.report.bytes compared
   line-too_long compared steps tells =
-      let text = fault_text (now.lines + 1) refusal.LineTooLong in
-      tells-refused first.state first.trace first.report.bytes trace (u.written ++ text) compared
-      (line_too_long audit_meaning LONGEST_TRACE first.state start before (behind text) now.cutter c now.state now.lines took TraceFault u.so_far steps (refl, refl))
-      tells
+      tells-refused first.state first.trace first.report.bytes trace (u.written ++ fault_text (now.lines + 1) refusal.LineTooLong) compared
+      (line_too_long audit_meaning LONGEST_TRACE first.state start before (behind _) now.cutter c now.state now.lines took TraceFault u.so_far steps (refl, refl)) tells
 
   pub trace-too_long : (compared : Compared) → Steps (Err cut_error.TraceTooLong) → Tells first.report.bytes (u.written ++ fault_text (now.lines + 1) refusal.TraceTooLong) compared →
       TellsOfRun first.state first.trace.bytes first.report.bytes compared
   trace-too_long compared steps tells =
-      let text = fault_text (now.lines + 1) refusal.TraceTooLong in
-      tells-refused first.state first.trace first.report.bytes trace (u.written ++ text) compared
-      (trace_too_long audit_meaning LONGEST_TRACE first.state start before (behind text) now.cutter c now.state now.lines took TraceFault u.so_far steps (refl, refl))
-      tells
+      tells-refused first.state first.trace first.report.bytes trace (u.written ++ fault_text (now.lines + 1) refusal.TraceTooLong) compared
+      (trace_too_long audit_meaning LONGEST_TRACE first.state start before (behind _) now.cutter c now.state now.lines took TraceFault u.so_far steps (refl, refl)) tells
 
 -- the run from the beginning has the report that is defined
 pub as-defined : (paths : ℕ) (trace report : Option (List ℕ)) (compared : Compared) →

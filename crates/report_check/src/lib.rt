@@ -14,5 +14,6 @@ mod top_call;
 mod words;
 
 pub use laws::a_check_without_faults_ends;
+pub use settings::MOST_PATHS;
 pub use top_call::check_run;
-pub use words::{MOST_DIGITS, MOST_PATHS};
+pub use words::MOST_DIGITS;
