@@ -4,10 +4,12 @@
 
 mod ending;
 mod options;
+mod program;
 mod stream;
 mod words;
 
-pub use ending::{Messages, exit_code};
-pub use options::{Fault, OptionRule, Takes, first_fault};
+pub use ending::Messages;
+pub use options::{OptionRule, Options, Takes};
+pub use program::{Call, Program, run_program};
 pub use stream::Remembering;
-pub use words::{borrowed_words, program_words};
+pub use words::{NoWords, borrowed_words, exit_code_of, program_words};

@@ -3,38 +3,38 @@
 
 mod options;
 
-use crate::options::OPTIONS;
+use crate::options::{OPTIONS, PROGRAM};
 use audit_run::audit;
-use console::{Messages, Remembering, borrowed_words, exit_code, first_fault, program_words};
-use heap_base::{OpenGate, Status, StdSink, StdSource};
+use console::{Call, Messages, Program, run_program};
+use heap_base::{OpenGate, Sink, Source, Status};
 use std::process::ExitCode;
-
-const PROGRAM: &str = "gcaudit";
+use std::thread::Threads;
 
 fn main(rt: HostRuntime) -> ExitCode {
-    let owned = match program_words(&rt, PROGRAM) {
-        Ok(owned) => owned,
-        Err(ending) => return ending,
-    };
-    let Ok(words) = borrowed_words(rt.alloc(), &owned) else {
-        return exit_code(Status::NoMemory);
-    };
-    let mut stdin = Remembering::over(rt.stdin());
-    let mut stdout = Remembering::over(rt.stdout());
-    let mut source = StdSource::over(&mut stdin);
-    let mut sink = StdSink::over(&mut stdout);
-    let status = audit(&rt, rt.alloc(), &words, &mut source, &mut sink, &OpenGate);
-    match status {
-        Status::Usage => tell_fault(&rt, &words),
-        _ => Messages::of_report(PROGRAM).tell(&rt, status, stdin.why(), stdout.why()),
-    }
-    exit_code(status)
+    run_program(
+        &rt,
+        Messages::of_report(PROGRAM),
+        &Auditing { threads: &rt },
+    )
 }
 
-// Tells a person on standard error which of the words is refused, and why.
-fn tell_fault(rt: &HostRuntime, words: &[&str]) {
-    let _ = match first_fault(rt.alloc(), &OPTIONS, words) {
-        Some(fault) => eprintln!(rt; "{PROGRAM}: {fault}; --help lists the options"),
-        None => eprintln!(rt; "{PROGRAM}: --gen and --size go together; --help lists the options"),
-    };
+struct Auditing<'a, R> {
+    threads: &'a R,
+}
+
+impl<R: Threads + Sync> Program for Auditing<'_, R> {
+    fn run<S: Source, K: Sink>(&self, call: Call<'_, S, K>) -> Status {
+        audit(
+            self.threads,
+            call.alloc,
+            call.words,
+            call.source,
+            call.sink,
+            &OpenGate,
+        )
+    }
+
+    fn tell_refused(&self, rt: &HostRuntime, words: &[&str]) {
+        OPTIONS.tell_refused(rt, words)
+    }
 }

@@ -1,10 +1,18 @@
-use console::{OptionRule, Takes};
+use console::{OptionRule, Options, Takes};
 use generator::{LEAST_SIZE, MOST_NUMBER, MOST_SIZE};
 use heap_base::MOST_WORKERS;
 use settings::{LEAST_WORKERS, MOST_PATHS};
 
+pub const PROGRAM: &str = "gcaudit";
+
 /// The options, for whoever wrote a word that is refused. Which words are taken is for `audit` to say.
-pub const OPTIONS: [OptionRule; 5] = [
+pub const OPTIONS: Options = Options {
+    program: PROGRAM,
+    rules: &RULES,
+    together: "--gen and --size go together",
+};
+
+const RULES: [OptionRule; 5] = [
     OptionRule {
         name: "workers",
         takes: Takes::Number(LEAST_WORKERS, MOST_WORKERS),

@@ -1,52 +1,56 @@
 //! Audits a trace on standard input by workers that stay parked between collections, and writes the report to standard output.
 #![tactic(auto)]
 
-use console::{
-    Messages, OptionRule, Remembering, Takes, borrowed_words, exit_code, first_fault, program_words,
-};
-use heap_base::{MOST_WORKERS, OpenGate, Status, StdSink, StdSource};
+use console::{Call, Messages, OptionRule, Options, Program, Takes, run_program};
+use heap_base::{MOST_WORKERS, OpenGate, Sink, Source, Status};
 use resident_crew::audit_resident;
 use settings::LEAST_WORKERS;
 use std::process::ExitCode;
-use std::sync::Arc;
+use std::sync::{Arc, Wait};
+use std::thread::Threads;
 
 const PROGRAM: &str = "gcresident";
 
 /// The options, for whoever wrote a word that is refused. Which words are taken is for `audit_resident` to say.
-const OPTIONS: [OptionRule; 1] = [OptionRule {
+const OPTIONS: Options = Options {
+    program: PROGRAM,
+    rules: &RULES,
+    together: "--workers and its number are two words",
+};
+
+const RULES: [OptionRule; 1] = [OptionRule {
     name: "workers",
     takes: Takes::Number(LEAST_WORKERS, MOST_WORKERS),
 }];
 
 fn main(rt: HostRuntime) -> ExitCode {
-    let owned = match program_words(&rt, PROGRAM) {
-        Ok(owned) => owned,
-        Err(ending) => return ending,
-    };
-    let Ok(words) = borrowed_words(rt.alloc(), &owned) else {
-        return exit_code(Status::NoMemory);
-    };
-    let mut stdin = Remembering::over(rt.stdin());
-    let mut stdout = Remembering::over(rt.stdout());
-    let mut source = StdSource::over(&mut stdin);
-    let mut sink = StdSink::over(&mut stdout);
-    let status = match Arc::new(rt.alloc(), OpenGate) {
-        Ok(gate) => audit_resident(&rt, rt.alloc(), &words, &mut source, &mut sink, gate),
-        Err(_) => Status::NoMemory,
-    };
-    match status {
-        Status::Usage => tell_fault(&rt, &words),
-        _ => Messages::of_report(PROGRAM).tell(&rt, status, stdin.why(), stdout.why()),
-    }
-    exit_code(status)
+    run_program(
+        &rt,
+        Messages::of_report(PROGRAM),
+        &Residents { threads: &rt },
+    )
 }
 
-// Tells a person on standard error which of the words is refused, and why.
-fn tell_fault(rt: &HostRuntime, words: &[&str]) {
-    let _ = match first_fault(rt.alloc(), &OPTIONS, words) {
-        Some(fault) => eprintln!(rt; "{PROGRAM}: {fault}; --help lists the options"),
-        None => eprintln!(rt;
-            "{PROGRAM}: --workers and its number are two words; --help lists the options"
-        ),
-    };
+struct Residents<'a, R> {
+    threads: &'a R,
+}
+
+impl<R: Threads + Wait + Clone + Drop + Send + Sync + 'static> Program for Residents<'_, R> {
+    fn run<S: Source, K: Sink>(&self, call: Call<'_, S, K>) -> Status {
+        match Arc::new(call.alloc, OpenGate) {
+            Ok(gate) => audit_resident(
+                self.threads,
+                call.alloc,
+                call.words,
+                call.source,
+                call.sink,
+                gate,
+            ),
+            Err(_) => Status::NoMemory,
+        }
+    }
+
+    fn tell_refused(&self, rt: &HostRuntime, words: &[&str]) {
+        OPTIONS.tell_refused(rt, words)
+    }
 }
