@@ -5,36 +5,27 @@ mod options;
 
 use crate::options::{OPTIONS, PROGRAM};
 use audit_run::audit;
-use console::{Call, Messages, Program, run_program};
-use heap_base::{OpenGate, Sink, Source, Status};
+use console::{Messages, Remembering, borrowed_words, exit_code_of, program_words};
+use heap_base::{OpenGate, Status, StdSink, StdSource};
 use std::process::ExitCode;
-use std::thread::Threads;
 
 fn main(rt: HostRuntime) -> ExitCode {
-    run_program(
-        &rt,
-        Messages::of_report(PROGRAM),
-        &Auditing { threads: &rt },
-    )
-}
-
-struct Auditing<'a, R> {
-    threads: &'a R,
-}
-
-impl<R: Threads + Sync> Program for Auditing<'_, R> {
-    fn run<S: Source, K: Sink>(&self, call: Call<'_, S, K>) -> Status {
-        audit(
-            self.threads,
-            call.alloc,
-            call.words,
-            call.source,
-            call.sink,
-            &OpenGate,
-        )
+    let owned = match program_words(&rt) {
+        Ok(owned) => owned,
+        Err(why) => return exit_code_of(&rt, PROGRAM, Err(why)),
+    };
+    let words = match borrowed_words(rt.alloc(), &owned) {
+        Ok(words) => words,
+        Err(why) => return exit_code_of(&rt, PROGRAM, Err(why)),
+    };
+    let mut stdin = Remembering::over(rt.stdin());
+    let mut stdout = Remembering::over(rt.stdout());
+    let mut source = StdSource::over(&mut stdin);
+    let mut sink = StdSink::over(&mut stdout);
+    let status = audit(&rt, rt.alloc(), &words, &mut source, &mut sink, &OpenGate);
+    match status {
+        Status::Usage => OPTIONS.tell_refused(&rt, &words),
+        _ => Messages::of_report(PROGRAM).tell(&rt, status, stdin.why(), stdout.why()),
     }
-
-    fn tell_refused(&self, rt: &HostRuntime, words: &[&str]) {
-        OPTIONS.tell_refused(rt, words)
-    }
+    exit_code_of(&rt, PROGRAM, Ok(status))
 }

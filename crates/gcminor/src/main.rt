@@ -1,22 +1,25 @@
 //! Makes minor and full collections over a trace on standard input, and writes a line for each to standard output.
 #![tactic(auto)]
 
-use console::{Call, Messages, Program, run_program};
+use console::{Messages, Program, run_program};
 use heap_base::{Sink, Source, Status};
 use minor_gc::minor_run;
+use std::alloc::Global;
 use std::process::ExitCode;
 
 const PROGRAM: &str = "gcminor";
 
 fn main(rt: HostRuntime) -> ExitCode {
-    run_program(&rt, Messages::of_report(PROGRAM), &MinorCollections)
+    let collections = MinorCollections(rt.alloc());
+    run_program(&rt, Messages::of_report(PROGRAM), &collections)
 }
 
-struct MinorCollections;
+#[derive(Drop)]
+struct MinorCollections(Global);
 
 impl Program for MinorCollections {
-    fn run<S: Source, K: Sink>(&self, call: Call<'_, S, K>) -> Status {
-        minor_run(call.alloc, call.words, call.source, call.sink)
+    fn run<S: Source, K: Sink>(&self, words: &[&str], source: &mut S, sink: &mut K) -> Status {
+        minor_run(self.0, words, source, sink)
     }
 
     // The program takes no words.

@@ -1,13 +1,14 @@
 //! Audits a trace on standard input by workers that stay parked between collections, and writes the report to standard output.
 #![tactic(auto)]
 
-use console::{Call, Messages, OptionRule, Options, Program, Takes, run_program};
-use heap_base::{MOST_WORKERS, OpenGate, Sink, Source, Status};
+use console::{
+    Messages, OptionRule, Options, Remembering, Takes, borrowed_words, exit_code_of, program_words,
+};
+use heap_base::{MOST_WORKERS, OpenGate, Status, StdSink, StdSource};
 use resident_crew::audit_resident;
 use settings::LEAST_WORKERS;
 use std::process::ExitCode;
-use std::sync::{Arc, Wait};
-use std::thread::Threads;
+use std::sync::Arc;
 
 const PROGRAM: &str = "gcresident";
 
@@ -24,33 +25,25 @@ const RULES: [OptionRule; 1] = [OptionRule {
 }];
 
 fn main(rt: HostRuntime) -> ExitCode {
-    run_program(
-        &rt,
-        Messages::of_report(PROGRAM),
-        &Residents { threads: &rt },
-    )
-}
-
-struct Residents<'a, R> {
-    threads: &'a R,
-}
-
-impl<R: Threads + Wait + Clone + Drop + Send + Sync + 'static> Program for Residents<'_, R> {
-    fn run<S: Source, K: Sink>(&self, call: Call<'_, S, K>) -> Status {
-        match Arc::new(call.alloc, OpenGate) {
-            Ok(gate) => audit_resident(
-                self.threads,
-                call.alloc,
-                call.words,
-                call.source,
-                call.sink,
-                gate,
-            ),
-            Err(_) => Status::NoMemory,
-        }
+    let owned = match program_words(&rt) {
+        Ok(owned) => owned,
+        Err(why) => return exit_code_of(&rt, PROGRAM, Err(why)),
+    };
+    let words = match borrowed_words(rt.alloc(), &owned) {
+        Ok(words) => words,
+        Err(why) => return exit_code_of(&rt, PROGRAM, Err(why)),
+    };
+    let mut stdin = Remembering::over(rt.stdin());
+    let mut stdout = Remembering::over(rt.stdout());
+    let mut source = StdSource::over(&mut stdin);
+    let mut sink = StdSink::over(&mut stdout);
+    let status = match Arc::new(rt.alloc(), OpenGate) {
+        Ok(gate) => audit_resident(&rt, rt.alloc(), &words, &mut source, &mut sink, gate),
+        Err(_) => Status::NoMemory,
+    };
+    match status {
+        Status::Usage => OPTIONS.tell_refused(&rt, &words),
+        _ => Messages::of_report(PROGRAM).tell(&rt, status, stdin.why(), stdout.why()),
     }
-
-    fn tell_refused(&self, rt: &HostRuntime, words: &[&str]) {
-        OPTIONS.tell_refused(rt, words)
-    }
+    exit_code_of(&rt, PROGRAM, Ok(status))
 }

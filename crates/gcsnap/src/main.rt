@@ -1,9 +1,10 @@
 //! Makes a snapshot of the heap of a trace on standard input, or a trace of a snapshot, and writes it to standard output.
 #![tactic(auto)]
 
-use console::{Call, Messages, Program, run_program};
+use console::{Messages, Program, run_program};
 use heap_base::{Sink, Source, Status};
 use heap_snapshot::snap_run;
+use std::alloc::Global;
 use std::process::ExitCode;
 
 const PROGRAM: &str = "gcsnap";
@@ -16,17 +17,18 @@ const MESSAGES: Messages = Messages {
 };
 
 fn main(rt: HostRuntime) -> ExitCode {
-    run_program(&rt, MESSAGES, &Snapshots)
+    run_program(&rt, MESSAGES, &Snapshots(rt.alloc()))
 }
 
-struct Snapshots;
+#[derive(Drop)]
+struct Snapshots(Global);
 
 impl Program for Snapshots {
-    fn run<S: Source, K: Sink>(&self, call: Call<'_, S, K>) -> Status {
-        snap_run(call.alloc, call.words, call.source, call.sink)
-    }
-
     fn tell_refused(&self, rt: &HostRuntime, _words: &[&str]) {
         let _ = eprintln!(rt; "{PROGRAM}: one word is taken, from-trace or to-trace");
+    }
+
+    fn run<S: Source, K: Sink>(&self, words: &[&str], source: &mut S, sink: &mut K) -> Status {
+        snap_run(self.0, words, source, sink)
     }
 }
