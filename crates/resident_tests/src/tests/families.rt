@@ -29,6 +29,15 @@ pub fn family_table(alloc: Global) -> Result<ObjectTable, Fail> {
     Ok(table)
 }
 
+// The lines that make one more child of the object 1.
+fn child_lines(alloc: Global, slot: u32) -> Result<String, Fail> {
+    let child = slot.saturating_add(3);
+    Ok(format!(in alloc;
+        "{{\"op\":\"alloc\",\"id\":{child},\"type\":\"A\",\"slots\":0}}\n\
+         {{\"op\":\"store\",\"at\":1,\"slot\":{slot},\"to\":{child}}}\n"
+    )?)
+}
+
 /// A trace that makes it, and one collection.
 pub fn family_trace(alloc: Global) -> Result<String, Fail> {
     let mut trace = String::new(alloc);
@@ -39,11 +48,7 @@ pub fn family_trace(alloc: Global) -> Result<String, Fail> {
          {\"op\":\"root\",\"name\":\"b\",\"to\":2}\n",
     )?;
     for slot in 0..CHILDREN {
-        let child = slot + 3;
-        trace.push_str(&format!(in alloc;
-            "{{\"op\":\"alloc\",\"id\":{child},\"type\":\"A\",\"slots\":0}}\n\
-             {{\"op\":\"store\",\"at\":1,\"slot\":{slot},\"to\":{child}}}\n"
-        )?)?;
+        trace.push_str(&child_lines(alloc, slot)?)?;
     }
     trace.push_str("{\"op\":\"collect\"}\n")?;
     Ok(trace)

@@ -2,9 +2,9 @@
 //!
 //! Each run may have 1,000 tasks or more at a worker, since a smaller one goes without threads.
 
-use crate::families::{family_table, family_trace};
-use crate::gates::Meeting;
-use crate::runs::run_cells;
+use super::families::{family_table, family_trace};
+use super::gates::Meeting;
+use super::runs::run_cells;
 use crew_support::{Cells, Counter, Shape, times_seen};
 use heap_base::{MemSink, MemSource, OutOfMemory, Status};
 use object_table::ObjectTable;

@@ -1,7 +1,7 @@
 //! Each task is done once, by one and by many workers, in run after run of one crew.
 ghost use Rattle.std.specs.Prelude.{◌<◌, ◌≤◌};
 
-use crate::runs::run_cells;
+use super::runs::run_cells;
 use crew_support::{Cells, Counter, Shape, are_seen};
 use heap_base::{OpenGate, OutOfMemory};
 use resident_rounds::Residents;
@@ -23,28 +23,18 @@ fn new_crew<R: Threads + Wait + Clone + Drop + Send + Sync + 'static>(
     Residents::start(host.rt, host.alloc, workers, gate)
 }
 
-// Whether a run that begins with the first cell does each cell once.
-fn does_each_once<R: Wait>(
+// Whether a run with these first tasks does each cell as often as there are first tasks: once with that of the first cell, and never
+// with none.
+fn does_each<R: Wait>(
     host: &Host<'_, R>,
     crew: &mut Crew,
     cells: Cells,
+    firsts: &[(u32, u32)],
 ) -> Result<bool, OutOfMemory> {
     let count = cells.count;
     let cells = Arc::new(host.alloc, cells)?;
-    let jobs = run_cells(host, crew, &cells, &[(0, 0)])?;
-    Ok(are_seen(&jobs, count, 1))
-}
-
-// Whether a run without a first task does none of them.
-fn does_none<R: Wait>(
-    host: &Host<'_, R>,
-    crew: &mut Crew,
-    cells: Cells,
-) -> Result<bool, OutOfMemory> {
-    let count = cells.count;
-    let cells = Arc::new(host.alloc, cells)?;
-    let jobs = run_cells(host, crew, &cells, &[])?;
-    Ok(are_seen(&jobs, count, 0))
+    let jobs = run_cells(host, crew, &cells, firsts)?;
+    Ok(are_seen(&jobs, count, firsts.len() as u64))
 }
 
 // The cells 0 to 3 in a row; none of them, without a first task; and so many that each worker with a task has a thread.
@@ -62,9 +52,9 @@ fn does_all<R: Wait>(host: &Host<'_, R>, crew: &mut Crew) -> Result<bool, OutOfM
         shape: Shape::Tree,
     };
     Ok(
-        does_each_once(host, crew, chain)?
-            && does_none(host, crew, none)?
-            && does_each_once(host, crew, tree)?,
+        does_each(host, crew, chain, &[(0, 0)])?
+            && does_each(host, crew, none, &[])?
+            && does_each(host, crew, tree, &[(0, 0)])?,
     )
 }
 
@@ -88,7 +78,7 @@ fn good_runs<R: Wait>(host: &Host<'_, R>, crew: &mut Crew, runs: u32) -> Result<
             count: 1_500,
             shape: Shape::Tree,
         };
-        if does_each_once(host, crew, tree)? {
+        if does_each(host, crew, tree, &[(0, 0)])? {
             good = good.saturating_add(1);
         }
     }

@@ -3,7 +3,7 @@ use Rattle.crew_support.specs.declared.counters.Cells.{Cells}
 use Rattle.crew_support.specs.declared.counters.Counter.{Counter}
 use Rattle.crew_support.specs.CellTasks.{AreFirst}
 use Rattle.crew_support.proofs.CellTaskLemmas.{enough_turns}
-use Rattle.resident_tests.proofs.runs.run_cells.Goals as goal
+use Rattle.resident_tests.proofs.tests.runs.run_cells.Goals as goal
 
 pub run-requires-clause-turns : goal.run-requires-clause-turns
 run-requires-clause-turns g c κs within =
