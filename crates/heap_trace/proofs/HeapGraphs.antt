@@ -15,6 +15,7 @@ use Rattle.graph_meaning.specs.Heap.{Slot, Object, Table, Heap, ids, object_at, 
 use Rattle.graph_meaning.specs.Laws.{HoldsLive}
 use Rattle.graph_meaning.specs.Reach.{has_id}
 use Rattle.graph_meaning.specs.Roles.{RoleTable, id_at, AreRolesOf}
+use Rattle.graph_meaning.proofs.Edges.{edge-live}
 use Rattle.graph_meaning.proofs.Distances.{find_All}
 use Rattle.graph_meaning.proofs.HeapLemmas.{has_id-ids}
 use Rattle.graph_meaning.proofs.Membership.{has_id-Contains}
@@ -124,15 +125,6 @@ once-map base f alone xs are once z = go (times z (map f xs)) refl
 some-unwrapped : (o : Option ℕ) → is_some o ≡ true → o ≡ Some (unwrap_or o 0)
 some-unwrapped None e = absurd (false≢true e)
 some-unwrapped (Some x) e = refl
-
--- what an edge leads to is live
-edge-live : (t : Table) (s : Slot) (y : ℕ) → HoldsLive t s → edge_of s ≡ Some y → is_live t y ≡ true
-edge-live t s y live e = go s.weak s.held live e
-  where
-    go : (weak : Bool) (held : Option ℕ) → IfSome held (λ id. IsTrue (is_live t id)) → cond weak None held ≡ Some y → is_live t y ≡ true
-    go true held live e = absurd cc
-    go false None live e = absurd cc
-    go false (Some z) live e = let same : z ≡ y = cc in subst (λ w. is_live t w ≡ true) same live
 
 -- where a slot is an edge, its object is live
 pub from-live : (t : Table) (x y : ℕ) → has_id (targets t x) y ≡ true → is_live t x ≡ true
