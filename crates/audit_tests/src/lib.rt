@@ -3,14 +3,4 @@
 #![tactic(auto)]
 
 #[cfg(test)]
-mod calls;
-#[cfg(test)]
-mod day;
-#[cfg(test)]
-mod faults;
-#[cfg(test)]
-mod gates;
-#[cfg(test)]
-mod order;
-#[cfg(test)]
-mod refusals;
+mod tests;

@@ -3,16 +3,4 @@
 #![tactic(auto)]
 
 #[cfg(test)]
-mod devices;
-#[cfg(test)]
-mod generated;
-#[cfg(test)]
-mod lists;
-#[cfg(test)]
-mod memory;
-#[cfg(test)]
-mod numbers;
-#[cfg(test)]
-mod shown;
-#[cfg(test)]
-mod words;
+mod tests;

@@ -1,6 +1,6 @@
 //! Reads and writes that fail, each in turn.
 
-use crate::day::{DAY, REPORT};
+use super::day::{DAY, REPORT};
 use audit_run::audit;
 use heap_base::{MemSink, MemSource, OpenGate, OutOfMemory, Status};
 use std::alloc::Global;

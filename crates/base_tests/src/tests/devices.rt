@@ -1,6 +1,6 @@
 //! Sources and sinks over std's readers and writers, call by call.
 
-use crate::memory::four_reads;
+use super::memory::four_reads;
 use heap_base::{Failed, Sink, Source, StdSink, StdSource, put_all};
 use std::cell::Cell;
 use std::io;

@@ -1,6 +1,6 @@
 //! Paths through a heap as it is shown.
 
-use crate::lists::name;
+use super::lists::name;
 use graph_meaning::{
     HeapView, ObjectList, ObjectView, PathFrom, PathStep, PathView, RootList, SlotList, StepList,
     is_path,

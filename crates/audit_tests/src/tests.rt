@@ -1,0 +1,6 @@
+mod calls;
+mod day;
+mod faults;
+mod gates;
+mod order;
+mod refusals;

@@ -1,0 +1,7 @@
+mod devices;
+mod generated;
+mod lists;
+mod memory;
+mod numbers;
+mod shown;
+mod words;
