@@ -1,5 +1,5 @@
 //! Two workers at a collection, each on a thread of its own: gates that hold the one until the other has gone on.
-//! Their heap has 5,002 objects: two workers trace one of 4,096 cells or more, and a crew of two has two threads where a worker may
+//! Their heap has 40,002 objects: two workers trace one of 32,768 cells or more, and a crew of two has two threads where a worker may
 //! have 1,000 tasks or more. A smaller heap is traced by one worker.
 
 use audit_run::audit;
@@ -66,7 +66,7 @@ fn expect_held<R: Threads + Abort + Sync>(
         holds,
         watch: Watch::new(),
     };
-    expect_report(rt, alloc, 5_000, &gate)?;
+    expect_report(rt, alloc, 40_000, &gate)?;
     assert!(rt; !gate.watch.gave_up());
     Ok(())
 }
