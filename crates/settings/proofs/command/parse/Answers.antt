@@ -1,7 +1,9 @@
 use Rattle.std.proofs.Common.{◌≡◌, ◌≢◌, ◌∙◌, [], List, subst, sym, map, length, true, arith}
 use Rattle.std.proofs.lemmas.List.{length-map}
+use Rattle.std.proofs.lemmas.Bool.{and_parts}
 use Rattle.std.proofs.lemmas.Bool.Decides.{nat_tests}
-use Rattle.clap.specs.Words.{App, HasKind, Text, fault_of, is_simple_and_free, kind_of}
+use Rattle.clap.specs.Words as clap
+use Rattle.clap.specs.Words.{App, HasKind, Text, fault_of, found_of, is_simple_and_free, kind_of, matches_of, rows_of}
 use Rattle.clap.specs.declared.error.kind.ErrorKind.TheVariants.{OutOfMemory}
 use Rattle.settings.specs.declared.settings.SettingsError.TheVariants.{Usage}
 use Rattle.settings.specs.Command.{command}
@@ -31,3 +33,9 @@ returns-clause-taken c =
     let none : fault_of command words ≡ [] =
     subst (λ (a : App). is_simple_and_free a ≡ true → fault_of a words ≡ []) c.in_ok-command.ensures c.in_ok-matches.ensures.kinds is_simple in
     no_fault_taken words (λ z. some (sym (length-map c.args.words.now (λ w. w.now)) ∙ z)) none
+
+pub returns-clause-matches : goal.returns-clause-matches
+returns-clause-matches c =
+    let words : List Text = map (λ w. w.now) c.args.words.now in
+    let Finds : App → Type 0 = λ a. rows_of (found_of c.in_ok-matches.matches) ≡ matches_of a words in
+    subst (λ (a : App). clap.is_simple a ≡ true → Finds a) c.in_ok-command.ensures (λ simple. (c.in_ok-matches.ensures.matches simple).0) (and_parts (clap.is_simple command) _ is_simple).0
