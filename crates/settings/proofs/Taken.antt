@@ -1,5 +1,5 @@
 -- The settings are read of clap's matches.
-use Rattle.std.proofs.Common.{◌≡◌, ◌∙◌, List, true, codes, refl, ap}
+use Rattle.std.proofs.Common.{◌≡◌, ◌∙◌, List, true, ap}
 use Rattle.clap.specs.Words.{Text, first_of, first_value, found_of, matches_of, rows_of}
 use Rattle.clap.specs.declared.parser.matches.ArgMatches.{ArgMatches}
 use Rattle.clap.proofs.WalkLemmas.{first_value-rows}
@@ -8,8 +8,7 @@ use Rattle.settings.specs.Settings.{Given, settings_by, settings_from}
 
 -- the settings depend on nothing but the values that are given
 same_settings : (f g : Given) → ((name : Text) → f name ≡ g name) → settings_from f ≡ settings_from g
-unfolding settings_from
-same_settings f g same = rw (same (codes "workers"), same (codes "paths"), same (codes "react"), same (codes "gen"), same (codes "size")) refl
+same_settings f g same = λ i. settings_from (λ name. same name i)
 
 found_value : (words : List Text) (m : ArgMatches) → rows_of (found_of m) ≡ matches_of command words → (name : Text) → first_value (found_of m) name ≡ value_of name words
 unfolding value_of
