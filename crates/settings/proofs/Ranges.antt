@@ -5,7 +5,6 @@ use Rattle.std.specs.Str.Parse.{digits_value}
 use Rattle.std.proofs.lemmas.Bool.{and_parts}
 use Rattle.std.proofs.lemmas.Bool.Decides.{nat_tests}
 use Rattle.heap_base.specs.declared.limits.TheConstants.{MOST_WORKERS, USUAL_PATHS}
-use Rattle.graph_meaning.specs.declared.reaction.React.{React}
 use Rattle.generator.specs.declared.plan.GenPlan.{GenPlan}
 use Rattle.generator.specs.declared.plan.TheConstants.{LEAST_SIZE, MOST_NUMBER, MOST_SIZE}
 use Rattle.generator.specs.Plans.{IsPlan}
@@ -31,18 +30,26 @@ asked_number : (usual least most : ℕ) (value : Option (List ℕ)) → least �
 asked_number usual least most None low high = (low, high)
 asked_number usual least most (Some text) low high = taken_number least most text
 
--- of two that are there, each has what is said of it
-made_of_two : {X Y Z : Type 0} (a : Option X) (b : Option Y) (f : X → Y → Z) (P : X → Type 0) (Q : Y → Type 0) (R : Z → Type 0)
-    → ((x : X) (y : Y) → P x → Q y → R (f x y)) → IfSome a P → IfSome b Q → IfSome (option_and_then (λ x. option_map (f x) b) a) R
-made_of_two None b f P Q R join p q = tt
-made_of_two (Some x) None f P Q R join p q = tt
-made_of_two (Some x) (Some y) f P Q R join p q = join x y p q
+-- R holds of what is made of a value that may be missing, if it does for each value of which P holds
+made_of : {X Z : Type 0} (P : X → Type 0) (R : Z → Type 0) (a : Option X) (f : X → Option Z) → IfSome a P → ((x : X) → P x → IfSome (f x) R)
+    → IfSome (option_and_then f a) R
+made_of P R None f p rest = tt
+made_of P R (Some x) f p rest = rest x p
+
+made_of_any : {X Z : Type 0} (R : Z → Type 0) (a : Option X) (f : X → Option Z) → ((x : X) → IfSome (f x) R) → IfSome (option_and_then f a) R
+made_of_any R None f rest = tt
+made_of_any R (Some x) f rest = rest x
+
+made_of_last : {X Z : Type 0} (P : X → Type 0) (R : Z → Type 0) (a : Option X) (f : X → Z) → IfSome a P → ((x : X) → P x → R (f x))
+    → IfSome (option_map f a) R
+made_of_last P R None f p rest = tt
+made_of_last P R (Some x) f p rest = rest x p
 
 taken_plan : (number size : List ℕ) → IfSome (plan_by number size) IsPlan
 taken_plan number size =
-    made_of_two (number_by 0 MOST_NUMBER number) (number_by LEAST_SIZE MOST_SIZE size) (λ n s. record { number = n; size = s })
-    (λ n. (0 ≤ n) × (n ≤ MOST_NUMBER)) (λ s. (LEAST_SIZE ≤ s) × (s ≤ MOST_SIZE)) IsPlan
-    (λ n s p q. record { number = p.1; least = q.0; most = q.1 }) (taken_number 0 MOST_NUMBER number) (taken_number LEAST_SIZE MOST_SIZE size)
+    made_of (λ n. (0 ≤ n) × (n ≤ MOST_NUMBER)) IsPlan (number_by 0 MOST_NUMBER number) _ (taken_number 0 MOST_NUMBER number) (λ n p.
+    made_of_last (λ s. (LEAST_SIZE ≤ s) × (s ≤ MOST_SIZE)) IsPlan (number_by LEAST_SIZE MOST_SIZE size) _ (taken_number LEAST_SIZE MOST_SIZE size) (λ s q.
+    record { number = p.1; least = q.0; most = q.1 }))
 
 some_plan : (plan : Option GenPlan) → IfSome plan IsPlan → IfSome (option_map Some plan) (λ p. IfSome p IsPlan)
 some_plan None is = tt
@@ -54,20 +61,14 @@ planned_plan None (Some size) = tt
 planned_plan (Some number) None = tt
 planned_plan (Some number) (Some size) = some_plan (plan_by number size) (taken_plan number size)
 
--- settings made of four values that are there, where three of them are in range
-in_range : (workers paths : Option ℕ) (react : Option React) (plan : Option (Option GenPlan))
-    → IfSome workers (λ n. (LEAST_WORKERS ≤ n) × (n ≤ MOST_WORKERS)) → IfSome paths (λ n. (0 ≤ n) × (n ≤ MOST_PATHS)) → IfSome plan (λ p. IfSome p IsPlan)
-    → IfSome (option_and_then (λ w. option_and_then (λ p. option_and_then (λ r. option_map (λ g. record { workers = w; paths = p; react = r; plan = g }) plan) react) paths) workers) IsInRange
-in_range None paths react plan w p g = tt
-in_range (Some workers) None react plan w p g = tt
-in_range (Some workers) (Some paths) None plan w p g = tt
-in_range (Some workers) (Some paths) (Some react) None w p g = tt
-in_range (Some workers) (Some paths) (Some react) (Some plan) w p g = record { least_workers = w.0; workers = w.1; paths = p.1; plan = g }
-
 pub settings_in_range : (given : Given) → IfSome (settings_from given) IsInRange
 unfolding settings_from
 settings_in_range given =
-    in_range (workers_asked given) (paths_asked given) (react_asked given) (plan_asked given)
-    (asked_number USUAL_WORKERS LEAST_WORKERS MOST_WORKERS (given (codes "workers")) (omega arith) (omega arith))
-    (asked_number USUAL_PATHS 0 MOST_PATHS (given (codes "paths")) (omega arith) (omega arith))
-    (planned_plan (given (codes "gen")) (given (codes "size")))
+    made_of (λ n. (LEAST_WORKERS ≤ n) × (n ≤ MOST_WORKERS)) IsInRange (workers_asked given) _
+    (asked_number USUAL_WORKERS LEAST_WORKERS MOST_WORKERS (given (codes "workers")) (omega arith) (omega arith)) (λ workers w.
+    made_of (λ n. (0 ≤ n) × (n ≤ MOST_PATHS)) IsInRange (paths_asked given) _
+    (asked_number USUAL_PATHS 0 MOST_PATHS (given (codes "paths")) (omega arith) (omega arith)) (λ paths p.
+    made_of_any IsInRange (react_asked given) _ (λ react.
+    made_of_last (λ plan. IfSome plan IsPlan) IsInRange (plan_asked given) _
+    (planned_plan (given (codes "gen")) (given (codes "size"))) (λ plan g.
+    record { least_workers = w.0; workers = w.1; paths = p.1; plan = g }))))
