@@ -1,3 +1,5 @@
+ghost use Rattle.std.specs.Prelude.{◌≡◌, Some};
+
 use heap_base::Failed;
 use std::error::Error;
 use std::fmt;
@@ -20,7 +22,6 @@ pub enum CompareError {
 }
 
 impl fmt::Display for CompareError {
-    ghost use Rattle.std.specs.Prelude.{Some};
     ghost use Rattle.text_comparison.specs.Messages.{error_text};
 
     ghost output = { λ e. Some (error_text e) };
@@ -36,7 +37,6 @@ impl fmt::Display for CompareError {
 impl Error for CompareError {}
 
 impl From<Failed> for CompareError {
-    ghost use Rattle.std.specs.Prelude.{◌≡◌};
     ghost use Rattle.text_comparison.specs.declared.outcome.CompareError.{CompareError};
 
     ghost from_gives = { λ e r. r ≡ CompareError.ReadFault };
