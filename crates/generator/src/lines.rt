@@ -1,6 +1,6 @@
 //! The lines of a generated trace.
 ghost use Rattle.std.specs.Prelude.{◌≡◌, ◌+◌, ◌<◌, ◌≤◌, ◌++◌, [], length, codes, decimal};
-ghost use Rattle.generator.specs.Text.{alloc_line, assertion_line, dead_line, gap, held_line, holds_line, last_lines, limit_line, lines_by, owned_line, store_line, turn_line, unshared_line};
+ghost use Rattle.generator.specs.Text.{alloc_line, assertion_line, gap, held_line, holds_line, last_lines, lines_by, owned_line, store_line, turn_line};
 ghost use Rattle.generator.specs.declared.piece.TheConstants.{NUMBER_ROOM, PIECE_ROOM};
 ghost use Rattle.generator.specs.declared.lines.TheConstants.{LINE_ROOM};
 
@@ -83,19 +83,6 @@ fn put_holds(text: &mut Piece, object: Object)
     put_store(text, object.id, 2, 1 + object.draw % object.id);
 }
 
-#[tactic(auto, unfolding(crate::specs::Text::store_line))]
-fn put_store(text: &mut Piece, at: u32, slot: u32, to: u32)
-    requires fits { length text.old + LINE_ROOM ≤ PIECE_ROOM }
-    ensures line { text.new ≡ text.old ++ store_line at slot to }
-    ensures short { length text.new ≤ length text.old + LINE_ROOM }
-{
-    text.put(b"{\"op\":\"store\",\"at\":");
-    text.put_number(at);
-    text.put(b",\"slot\":");
-    text.put_number(slot);
-    put_last_field(text, b",\"to\":", to);
-}
-
 // An assertion, where it is this object's turn to have one.
 #[tactic(auto, unfolding(crate::specs::Text::assertion_line))]
 fn put_assertion(text: &mut Piece, size: u32, id: u32)
@@ -109,27 +96,22 @@ fn put_assertion(text: &mut Piece, size: u32, id: u32)
     }
 }
 
-#[tactic(auto, unfolding(crate::specs::Text::turn_line))]
+#[tactic(auto, unfolding(crate::specs::Text::turn_line, crate::specs::Text::unshared_line, crate::specs::Text::limit_line, crate::specs::Text::dead_line))]
 fn put_turn(text: &mut Piece, turn: u32, id: u32)
     requires fits { length text.old + LINE_ROOM ≤ PIECE_ROOM }
     ensures line { text.new ≡ text.old ++ turn_line turn id }
     ensures short { length text.new ≤ length text.old + LINE_ROOM }
 {
     match turn {
-        1 => put_unshared(text, id),
+        1 => put_last_field(text, b"{\"op\":\"assert-unshared\",\"id\":", id),
         2 => put_owned(text, id / 2, id),
-        3 => put_limit(text, id / 4),
-        _ => put_dead(text, id),
+        3 => put_last_field(
+            text,
+            b"{\"op\":\"assert-instances\",\"type\":\"T0\",\"limit\":",
+            id / 4,
+        ),
+        _ => put_last_field(text, b"{\"op\":\"assert-dead\",\"id\":", id),
     }
-}
-
-#[tactic(auto, unfolding(crate::specs::Text::unshared_line))]
-fn put_unshared(text: &mut Piece, id: u32)
-    requires fits { length text.old + LINE_ROOM ≤ PIECE_ROOM }
-    ensures line { text.new ≡ text.old ++ unshared_line id }
-    ensures short { length text.new ≤ length text.old + LINE_ROOM }
-{
-    put_last_field(text, b"{\"op\":\"assert-unshared\",\"id\":", id);
 }
 
 #[tactic(auto, unfolding(crate::specs::Text::owned_line))]
@@ -143,26 +125,17 @@ fn put_owned(text: &mut Piece, owner: u32, ownee: u32)
     put_last_field(text, b",\"ownee\":", ownee);
 }
 
-#[tactic(auto, unfolding(crate::specs::Text::limit_line))]
-fn put_limit(text: &mut Piece, limit: u32)
+#[tactic(auto, unfolding(crate::specs::Text::store_line))]
+fn put_store(text: &mut Piece, at: u32, slot: u32, to: u32)
     requires fits { length text.old + LINE_ROOM ≤ PIECE_ROOM }
-    ensures line { text.new ≡ text.old ++ limit_line limit }
+    ensures line { text.new ≡ text.old ++ store_line at slot to }
     ensures short { length text.new ≤ length text.old + LINE_ROOM }
 {
-    put_last_field(
-        text,
-        b"{\"op\":\"assert-instances\",\"type\":\"T0\",\"limit\":",
-        limit,
-    );
-}
-
-#[tactic(auto, unfolding(crate::specs::Text::dead_line))]
-fn put_dead(text: &mut Piece, id: u32)
-    requires fits { length text.old + LINE_ROOM ≤ PIECE_ROOM }
-    ensures line { text.new ≡ text.old ++ dead_line id }
-    ensures short { length text.new ≤ length text.old + LINE_ROOM }
-{
-    put_last_field(text, b"{\"op\":\"assert-dead\",\"id\":", id);
+    text.put(b"{\"op\":\"store\",\"at\":");
+    text.put_number(at);
+    text.put(b",\"slot\":");
+    text.put_number(slot);
+    put_last_field(text, b",\"to\":", to);
 }
 
 // The last field of a line, a number, with the end of the line.
