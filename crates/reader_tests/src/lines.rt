@@ -17,6 +17,9 @@ fn number_or_zero(id: &Option<ObjId>) -> u32 {
 // An operation by its name, the name in it and its numbers, with 0 for no object.
 fn parts_of(event: &Event) -> (&str, &str, [u32; 3]) {
     match event {
+        // those with a name
+        Event::Root { name, to } => ("root", name.as_str(), [number_or_zero(to), 0, 0]),
+        Event::AssertInstances { kind, limit } => ("limit", kind.as_str(), [*limit, 0, 0]),
         Event::Alloc {
             id,
             kind,
@@ -27,16 +30,15 @@ fn parts_of(event: &Event) -> (&str, &str, [u32; 3]) {
             kind.as_str(),
             [id.number(), *slots, thread.number()],
         ),
+        // and those without
         Event::Store { at, slot, to } => ("store", "-", [at.number(), *slot, number_or_zero(to)]),
         Event::SetWeak { at, slot, weak } => {
             let name = if *weak { "weak" } else { "strong" };
             (name, "-", [at.number(), *slot, 0])
         }
-        Event::Root { name, to } => ("root", name.as_str(), [number_or_zero(to), 0, 0]),
         Event::AssertDead { id } => ("dead", "-", [id.number(), 0, 0]),
         Event::StartRegion { thread } => ("start", "-", [thread.number(), 0, 0]),
         Event::AssertAllDead { thread } => ("alldead", "-", [thread.number(), 0, 0]),
-        Event::AssertInstances { kind, limit } => ("limit", kind.as_str(), [*limit, 0, 0]),
         Event::AssertUnshared { id } => ("unshared", "-", [id.number(), 0, 0]),
         Event::AssertOwnedBy { owner, ownee } => {
             ("ownedby", "-", [owner.number(), ownee.number(), 0])
