@@ -6,6 +6,7 @@ ghost use Rattle.heap_base.specs.Causes.{HasCause, Rose};
 ghost use Rattle.heap_base.specs.Sinks.{AppendsPart};
 ghost use Rattle.report.specs.Text.{collection_text, verdict_line};
 ghost use Rattle.report.specs.Pieces.{IsWritten};
+ghost use Rattle.report.specs.declared.writing.WriteError.{WriteError};
 ghost use Rattle.report.specs.declared.writing.WriteError.TheVariants.{WriteFailed};
 
 use crate::verdicts::{put_cleared, put_line, put_summary};
@@ -23,9 +24,6 @@ pub enum WriteError {
 }
 
 impl From<Failed> for WriteError {
-    ghost use Rattle.std.specs.Prelude.{◌≡◌};
-    ghost use Rattle.report.specs.declared.writing.WriteError.{WriteError};
-
     ghost from_gives = { λ e r. r ≡ WriteError.WriteFailed };
 
     fn from(_failed: Failed) -> WriteError {
@@ -34,9 +32,6 @@ impl From<Failed> for WriteError {
 }
 
 impl From<OutOfMemory> for WriteError {
-    ghost use Rattle.std.specs.Prelude.{◌≡◌};
-    ghost use Rattle.report.specs.declared.writing.WriteError.{WriteError};
-
     ghost from_gives = { λ e r. r ≡ WriteError.OutOfMemory };
 
     fn from(_refused: OutOfMemory) -> WriteError {

@@ -1,5 +1,8 @@
-ghost use Rattle.std.specs.Prelude.{◌≡◌, Some, None, Err, map, IfOk};
+ghost use Rattle.std.specs.Prelude.{◌≡◌, ◌≢◌, Some, None, Err, map, IfOk};
+ghost use Rattle.clap.specs.Words.{kind_of};
+ghost use Rattle.clap.specs.declared.error.kind.ErrorKind.{ErrorKind};
 ghost use Rattle.settings.specs.Settings.{IsInRange, settings_by};
+ghost use Rattle.settings.specs.declared.settings.SettingsError.{SettingsError};
 ghost use Rattle.settings.specs.declared.settings.SettingsError.TheVariants.{Usage};
 
 use crate::command::parse;
@@ -45,9 +48,6 @@ impl fmt::Display for SettingsError {
 impl Error for SettingsError {}
 
 impl From<AllocError> for SettingsError {
-    ghost use Rattle.std.specs.Prelude.{◌≡◌};
-    ghost use Rattle.settings.specs.declared.settings.SettingsError.{SettingsError};
-
     ghost from_gives = { λ e r. r ≡ SettingsError.OutOfMemory };
 
     fn from(_refused: AllocError) -> SettingsError {
@@ -56,11 +56,6 @@ impl From<AllocError> for SettingsError {
 }
 
 impl From<clap::Error> for SettingsError {
-    ghost use Rattle.std.specs.Prelude.{◌≡◌, ◌≢◌};
-    ghost use Rattle.clap.specs.Words.{kind_of};
-    ghost use Rattle.clap.specs.declared.error.kind.ErrorKind.{ErrorKind};
-    ghost use Rattle.settings.specs.declared.settings.SettingsError.{SettingsError};
-
     ghost from_gives = { λ e r. (kind_of e ≡ ErrorKind.OutOfMemory → r ≡ SettingsError.OutOfMemory)
         × (kind_of e ≢ ErrorKind.OutOfMemory → r ≡ SettingsError.Usage) };
 

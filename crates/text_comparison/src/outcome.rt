@@ -1,4 +1,6 @@
 ghost use Rattle.std.specs.Prelude.{◌≡◌, Some};
+ghost use Rattle.text_comparison.specs.Messages.{error_text};
+ghost use Rattle.text_comparison.specs.declared.outcome.CompareError.{CompareError};
 
 use heap_base::Failed;
 use std::error::Error;
@@ -22,8 +24,6 @@ pub enum CompareError {
 }
 
 impl fmt::Display for CompareError {
-    ghost use Rattle.text_comparison.specs.Messages.{error_text};
-
     ghost output = { λ e. Some (error_text e) };
 
     fn fmt<W: fmt::Write>(&self, f: &mut fmt::Formatter<W>) -> fmt::Result {
@@ -37,8 +37,6 @@ impl fmt::Display for CompareError {
 impl Error for CompareError {}
 
 impl From<Failed> for CompareError {
-    ghost use Rattle.text_comparison.specs.declared.outcome.CompareError.{CompareError};
-
     ghost from_gives = { λ e r. r ≡ CompareError.ReadFault };
 
     fn from(_failed: Failed) -> CompareError {
