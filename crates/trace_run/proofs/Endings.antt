@@ -20,8 +20,8 @@ use Rattle.trace_reader.specs.Items.{pieces, items_from, items_of}
 use Rattle.trace_reader.specs.Cutter.{CutterState, StepsOn, Cuts, GivesNone, with_source}
 use Rattle.trace_run.specs.Lines.{whole_lines}
 use Rattle.trace_run.specs.Program.{Meaning, Ran, Report, end_of_trace, refused_line, takes_item, by_effect, ends_so, behind, run, report_on, report_by}
-use Rattle.trace_run.specs.Outcome.{Outside, TraceReport, trace_report, of_bytes, IsTrace, ReportsTrace, Ended, AppendsPartOfReport}
-use Rattle.trace_run.specs.Turn.{EndsRun, sink_change}
+use Rattle.trace_run.specs.Outcome.{Outside, sink_change, TraceReport, trace_report, of_bytes, IsTrace, ReportsTrace, Ended, AppendsPartOfReport}
+use Rattle.trace_run.specs.Turn.{EndsRun}
 use Rattle.report.proofs.Pieces.{AppendsPart-behind}
 use Rattle.trace_reader.proofs.Pieces.{items_from-append, items_from-given, items_from-line_too_long, items_from-trace_too_long}
 use Rattle.trace_run.proofs.Runs.{LeadsTo, run-takes, run-nil, run-refused, run-leads_to, report_on-text, report_on-behind}

@@ -10,7 +10,8 @@ use Rattle.trace_reader.specs.Meaning.{Item, refused}
 use Rattle.trace_run.specs.declared.taken.LastText.{LastText}
 use Rattle.trace_run.specs.declared.turn.Flow.{Flow}
 use Rattle.trace_run.specs.Program.{Meaning, Last, IsLast, Effect, halts, takes_item, Ran, halted, refused_line, by_effect, ends_so, behind, report_on}
-use Rattle.trace_run.specs.Turn.{EndsRun, TakesLine, line_effect, sink_change}
+use Rattle.trace_run.specs.Outcome.{sink_change}
+use Rattle.trace_run.specs.Turn.{EndsRun, TakesLine, line_effect}
 use Rattle.trace_run.proofs.Runs.{report_on-text}
 use Rattle.report.proofs.Pieces.{AppendsPart-behind}
 use Rattle.trace_run.proofs.Endings.{Rose-earlier}

@@ -24,6 +24,14 @@ seen source sink = record { source = source; sink = sink }
 abbrev pub reading : List ℕ → Outside → Outside
 reading bytes o = record o { source = record { bytes = Some bytes; faults = 0 } }
 
+-- What can be seen of a sink before and after.
+pub record SinkChange : Type 0 where
+  pub old : Stream
+  pub new : Stream
+
+abbrev pub sink_change : Stream → Stream → SinkChange
+sink_change old new = record { old = old; new = new }
+
 -- What a run is to report on a trace that may have so many bytes: the report on its items.
 pub record TraceReport : Type 0 where
   pub limit : ℕ
@@ -84,10 +92,10 @@ Ended report old new NoMemory = AppendsPartOfReport report old new
 Ended report old new Usage = ⊥
 
 -- One text was written and this status is answered; or the sink failed in it, and a beginning of it was appended.
-abbrev pub WritesOnce : List ℕ → Status → Stream → Stream → Status → Type 0
-WritesOnce text status sink sink' answer =
-    ((answer ≡ status) × Appends sink.bytes sink'.bytes text)
-    ⊎ ((answer ≡ WriteFault) × Rose sink.faults sink'.faults × AppendsPart sink.bytes sink'.bytes text)
+abbrev pub WritesOnce : List ℕ → Status → SinkChange → Status → Type 0
+WritesOnce text status sink answer =
+    ((answer ≡ status) × Appends sink.old.bytes sink.new.bytes text)
+    ⊎ ((answer ≡ WriteFault) × Rose sink.old.faults sink.new.faults × AppendsPart sink.old.bytes sink.new.bytes text)
 
 -- What was appended where the words of the command line are refused, by the status.
 abbrev pub RefusesWords : List ℕ → Outside → Outside → Status → Type 0

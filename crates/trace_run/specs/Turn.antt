@@ -3,22 +3,14 @@ use Rattle.std.specs.Prelude.{◌≡◌, ℕ, ◌+◌, List, Bool, false, ◌||�
 use Rattle.std.specs.Io.KnownBytes.{Appends}
 use Rattle.heap_base.specs.Causes.{Rose}
 use Rattle.heap_base.specs.Sinks.{AppendsPart}
-use Rattle.heap_base.specs.Streams.{Stream}
 use Rattle.heap_base.specs.declared.status.Status.{Status}
 use Rattle.heap_base.specs.declared.status.Status.TheVariants.{Clean, Violated, TraceFault, ReadFault, WriteFault, NoMemory, Usage}
 use Rattle.report.specs.declared.writing.WriteError.{WriteError}
 use Rattle.report.specs.declared.writing.WriteError.TheVariants.{WriteFailed, OutOfMemory}
+use Rattle.trace_run.specs.Outcome.{SinkChange}
 use Rattle.trace_run.specs.Program.{Effect, goes_on, Ran, Report, report_on, by_effect}
 use Rattle.trace_run.specs.declared.turn.Flow.{Flow}
 use Rattle.trace_run.specs.declared.turn.Flow.TheVariants.{GoesOn, Ends}
-
--- What can be seen of a sink before and after.
-pub record SinkChange : Type 0 where
-  pub old : Stream
-  pub new : Stream
-
-abbrev pub sink_change : Stream → Stream → SinkChange
-sink_change old new = record { old = old; new = new }
 
 -- how a run ends where a text was not written whole
 abbrev pub status_of_error : WriteError → Status

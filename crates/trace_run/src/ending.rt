@@ -2,7 +2,8 @@
 ghost use Rattle.std.specs.Prelude.{◌≤◌, true, false};
 ghost use Rattle.heap_base.specs.Streams.{stream_of};
 ghost use Rattle.trace_run.specs.Program.{IsLast, Last, end_of_trace, ends_so, halted, refused_line, report_on};
-ghost use Rattle.trace_run.specs.Turn.{EndsRun, sink_change};
+ghost use Rattle.trace_run.specs.Outcome.{sink_change};
+ghost use Rattle.trace_run.specs.Turn.{EndsRun};
 
 use crate::once::write_once;
 use crate::program::Program;

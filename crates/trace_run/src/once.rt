@@ -1,13 +1,13 @@
 //! Programs that write one text.
 ghost use Rattle.std.specs.Prelude.{◌≤◌};
 ghost use Rattle.heap_base.specs.Streams.{Stream, stream_of};
-ghost use Rattle.trace_run.specs.Outcome.{RefusesWords, WritesOnce, seen};
+ghost use Rattle.trace_run.specs.Outcome.{RefusesWords, WritesOnce, seen, sink_change};
 
 use heap_base::{Sink, Status, put_all};
 
 /// Writes a text, and then answers this status.
 pub fn write_once<K: Sink>(text: &[u8], status: Status, sink: &mut K) -> Status
-    ensures writes { WritesOnce text.now status (stream_of K.held K.faults sink.old) (stream_of K.held K.faults sink.new) result }
+    ensures writes { WritesOnce text.now status (sink_change (stream_of K.held K.faults sink.old) (stream_of K.held K.faults sink.new)) result }
     ensures later { K.faults sink.old ≤ K.faults sink.new }
 {
     match put_all(sink, text) {

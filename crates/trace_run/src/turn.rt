@@ -3,7 +3,8 @@ ghost use Rattle.heap_base.specs.declared.limits.TheConstants.{LONGEST_TRACE};
 ghost use Rattle.heap_base.specs.Streams.{stream_of};
 ghost use Rattle.trace_reader.specs.Meaning.{item_of_line};
 ghost use Rattle.trace_run.specs.Program.{CountsEvents, MayTake, TakesEvents, takes_item};
-ghost use Rattle.trace_run.specs.Turn.{TakesLine, line_effect, sink_change};
+ghost use Rattle.trace_run.specs.Outcome.{sink_change};
+ghost use Rattle.trace_run.specs.Turn.{TakesLine, line_effect};
 
 use crate::due::{failed, write_due};
 use crate::ending::{put_last, refuse};

@@ -24,28 +24,23 @@ trace-preserved g c =
 
 pub trace-smaller : goal.trace-smaller
 trace-smaller g c =
-    let steps = rw c.in-Ok-Some.field-0-is at c.in-Ok-Some.ensures.1 in
-    line_leaves_fewer g.P.Program.meaning _ _ _ _ _ _ _ _ _ _ _ c.trace.invariant.0 steps
+    line_leaves_fewer g.P.Program.meaning _ _ _ _ _ _ _ _ _ _ _ c.trace.invariant.0 (rw c.in-Ok-Some.field-0-is at c.in-Ok-Some.ensures.1)
 
 pub returns-in-Ok-None : goal.returns-in-Ok-None
 returns-in-Ok-None g c =
-    let steps = rw c.in-Ok-None.field-0-is at c.in-Ok-None.ensures.1 in
-    finished g.P.Program.meaning _ _ _ _ _ _ _ _ _ _ _ c.trace.invariant.0 steps c.finish.ensures.ends
+    finished g.P.Program.meaning _ _ _ _ _ _ _ _ _ _ _ c.trace.invariant.0 (rw c.in-Ok-None.field-0-is at c.in-Ok-None.ensures.1) c.finish.ensures.ends
 
 pub returns-in-Err-ReadFault : goal.returns-in-Err-ReadFault
 returns-in-Err-ReadFault g c =
-    let steps = rw c.in-Err-ReadFault.field-0-is at c.in-Err-ReadFault.ensures.1 in
-    cut_short g.P.Program.meaning _ _ _ _ _ _ _ _ _ _ c.trace.invariant.0 steps refl
+    cut_short g.P.Program.meaning _ _ _ _ _ _ _ _ _ _ c.trace.invariant.0 (rw c.in-Err-ReadFault.field-0-is at c.in-Err-ReadFault.ensures.1) refl
 
 pub returns-in-Err-LineTooLong : goal.returns-in-Err-LineTooLong
 returns-in-Err-LineTooLong g c =
-    let steps = rw c.in-Err-LineTooLong.field-0-is at c.in-Err-LineTooLong.ensures.1 in
-    line_too_long g.P.Program.meaning _ _ _ _ _ _ _ _ _ _ _ c.trace.invariant.0 steps c.refuse.ensures.ends
+    line_too_long g.P.Program.meaning _ _ _ _ _ _ _ _ _ _ _ c.trace.invariant.0 (rw c.in-Err-LineTooLong.field-0-is at c.in-Err-LineTooLong.ensures.1) c.refuse.ensures.ends
 
 pub returns-in-Err-TraceTooLong : goal.returns-in-Err-TraceTooLong
 returns-in-Err-TraceTooLong g c =
-    let steps = rw c.in-Err-TraceTooLong.field-0-is at c.in-Err-TraceTooLong.ensures.1 in
-    trace_too_long g.P.Program.meaning _ _ _ _ _ _ _ _ _ _ _ c.trace.invariant.0 steps c.refuse-in-Err-TraceTooLong.ensures.ends
+    trace_too_long g.P.Program.meaning _ _ _ _ _ _ _ _ _ _ _ c.trace.invariant.0 (rw c.in-Err-TraceTooLong.field-0-is at c.in-Err-TraceTooLong.ensures.1) c.refuse-in-Err-TraceTooLong.ensures.ends
 
 pub returns-in_default : goal.returns-in_default
 returns-in_default g c = nothing_written _ _ _ refl
