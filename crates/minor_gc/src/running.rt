@@ -29,12 +29,13 @@ pub fn minor_run<S: Source, K: Sink>(
     source: &mut S,
     sink: &mut K,
 ) -> Status
+    ensures unread { length words.now ≢ 1 → source.new ≡ source.old }
     ensures taken { let old = seen (stream_of S.left S.faults source.old) (stream_of K.held K.faults sink.old) in
         let new = seen (stream_of S.left S.faults source.new) (stream_of K.held K.faults sink.new) in
         length words.now ≡ 1 → Ended (trace_report LONGEST_TRACE (report_by minor_meaning first_minor_state)) old new result }
     ensures refused { let old = seen (stream_of S.left S.faults source.old) (stream_of K.held K.faults sink.old) in
         let new = seen (stream_of S.left S.faults source.new) (stream_of K.held K.faults sink.new) in
-        length words.now ≢ 1 → (source.new ≡ source.old) × RefusesWords minor_usage old new result }
+        length words.now ≢ 1 → RefusesWords minor_usage old new result }
 {
     if words.len() != 1 {
         return refuse_words(USAGE, sink);

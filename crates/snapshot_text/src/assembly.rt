@@ -4,7 +4,7 @@ ghost use Rattle.heap_base.specs.declared.limits.TheConstants.{MOST_OBJECTS, MOS
 ghost use Rattle.std.specs.Ordering.{is_lt};
 ghost use Rattle.graph_meaning.specs.Heap.{name_cmp};
 ghost use Rattle.snapshot_text.specs.Lines.{line_in};
-ghost use Rattle.snapshot_text.specs.Table.{ended, is_before_roots, is_empty, is_ended, is_under_way, last_name, may_add, may_root, nothing_read, objects_read, reading_where, take_line, take_said, take_slot, with_object, with_root};
+ghost use Rattle.snapshot_text.specs.Table.{Reading, ended, is_before_roots, is_empty, is_ended, is_under_way, last_name, may_add, may_root, nothing_read, objects_read, reading_where, take_line, take_said, take_slot, with_object, with_root};
 ghost use Rattle.snapshot_text.specs.Bounds.{IsBounded};
 
 use crate::line::{Line, line_in};
@@ -29,8 +29,6 @@ pub(crate) struct Assembly {
 }
 
 impl Model for Assembly {
-    ghost use Rattle.snapshot_text.specs.Table.{Reading};
-
     ghost Value = { Reading };
 
     ghost view = { λ a. record { stage = a.stage; objects = a.objects; roots = a.roots; kinds = a.types; slots = a.slots; greatest = a.greatest } };

@@ -1,3 +1,6 @@
+ghost use Rattle.std.specs.Prelude.{◌≡◌};
+ghost use Rattle.snapshot_text.specs.declared.refusal.SnapError.{SnapError};
+
 use heap_base::OutOfMemory;
 
 /// Why the bytes are no snapshot, in the order in which the reasons are tried.
@@ -22,9 +25,6 @@ pub enum SnapError {
 }
 
 impl From<OutOfMemory> for SnapError {
-    ghost use Rattle.std.specs.Prelude.{◌≡◌};
-    ghost use Rattle.snapshot_text.specs.declared.refusal.SnapError.{SnapError};
-
     ghost from_gives = { λ _ error. error ≡ SnapError.OutOfMemory };
 
     fn from(_: OutOfMemory) -> SnapError {

@@ -8,7 +8,7 @@ use Rattle.minor_gc.specs.MinorRuns.{first_minor_state, minor_meaning}
 use Rattle.minor_gc.proofs.running.minor_run.Goals as goal
 
 pub returns-then-words-ne1-clause-refused : goal.returns-then-words-ne1-clause-refused
-returns-then-words-ne1-clause-refused g c = λ _. (refl, c.refuse_words.ensures (stream_of g.S.Source.left g.S.Source.faults c.args.source.now))
+returns-then-words-ne1-clause-refused g c = λ _. c.refuse_words.ensures (stream_of g.S.Source.left g.S.Source.faults c.args.source.now)
 
 pub returns-in_default-clause-taken : goal.returns-in_default-clause-taken
 returns-in_default-clause-taken g c = λ _. nothing_written (trace_report LONGEST_TRACE (report_by minor_meaning first_minor_state)) _ _ refl
