@@ -12,7 +12,7 @@ use Rattle.graph_meaning.specs.declared.views.HeapView.{HeapView}
 use Rattle.snapshot_text.specs.declared.read.TheConstants.{LONGEST_SNAPSHOT}
 use Rattle.snapshot_text.specs.declared.refusal.SnapWhy.TheVariants.{TooLong}
 use Rattle.snapshot_text.specs.Reading.{Refusal, refused, line_behind, snapshot_in}
-use Rattle.trace_run.specs.Outcome.{Outside, WritesOnce}
+use Rattle.trace_run.specs.Outcome.{Outside, WritesOnce, sink_change}
 use Rattle.heap_snapshot.specs.ToTrace.{IsRead, WritesPart, Converted, status_by, status_of, text_by, text_of}
 
 -- the bytes past the most that a snapshot may have don't matter
@@ -78,7 +78,7 @@ module _ (old new : Outside) (text bytes : List ℕ) (read : IsRead old.source.b
 
 -- what was read, and then written once
 converted : (old new : Outside) (text : List ℕ) (answer : Status) → IsRead old.source.bytes new.source.bytes text →
-    WritesOnce (text_of text) (status_of text) old.sink new.sink answer → Converted old new answer
+    WritesOnce (text_of text) (status_of text) (sink_change old.sink new.sink) answer → Converted old new answer
 converted old new text answer read writes =
     let (bytes, all) = all_of old.source.bytes new.source.bytes text read in
     ⊎_elim
@@ -87,10 +87,10 @@ converted old new text answer read writes =
 
 -- the same, of a text and a status that are those of what was read
 module _ (old new : Outside) (text : List ℕ) {written : List ℕ} {status answer : Status} (read : IsRead old.source.bytes new.source.bytes text) where
-  pub converted_by : written ≡ text_of text → status ≡ status_of text → WritesOnce written status old.sink new.sink answer → Converted old new answer
+  pub converted_by : written ≡ text_of text → status ≡ status_of text → WritesOnce written status (sink_change old.sink new.sink) answer → Converted old new answer
   converted_by is_text is_status writes =
-      let with_text = subst (λ (t : List ℕ). WritesOnce t status old.sink new.sink answer) is_text writes in
-      converted old new text answer read (subst (λ (s : Status). WritesOnce (text_of text) s old.sink new.sink answer) is_status with_text)
+      let with_text = subst (λ (t : List ℕ). WritesOnce t status (sink_change old.sink new.sink) answer) is_text writes in
+      converted old new text answer read (subst (λ (s : Status). WritesOnce (text_of text) s (sink_change old.sink new.sink) answer) is_status with_text)
 
 some_bytes : (left : Option (List ℕ)) → (bytes : List ℕ) × IfSome left (λ told. told ≡ bytes)
 some_bytes None = ([], tt)

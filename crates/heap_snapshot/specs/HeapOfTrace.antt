@@ -26,16 +26,16 @@ abbrev pub store_of : ℕ → ℕ → Option ℕ → List Event
 store_of at slot None = []
 store_of at slot (Some to) = Store at slot (Some to) ∷ []
 
--- the same of these slots of an object, of which the first has this number
+abbrev pub root_of : List ℕ × ℕ → Event
+root_of r = Root r.0 (Some r.1)
+
+-- what is put into these slots of an object, of which the first has this number
 abbrev pub stores_from : ℕ → ℕ → List (Option ℕ) → List Event
 stores_from at slot [] = []
 stores_from at slot (held ∷ slots) = store_of at slot held ++ stores_from at (slot + 1) slots
 
 abbrev pub stores_of : ObjectView → List Event
 stores_of o = stores_from o.id 0 o.slots
-
-abbrev pub root_of : List ℕ × ℕ → Event
-root_of r = Root r.0 (Some r.1)
 
 -- The objects by id, what their slots hold by id and slot, and the roots by name.
 abbrev pub events_of : HeapView → List Event
