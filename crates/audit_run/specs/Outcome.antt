@@ -7,10 +7,15 @@ use Rattle.trace_run.specs.Outcome as outcome
 use Rattle.trace_run.specs.Outcome.{Outside, TraceReport, trace_report}
 use Rattle.audit_program.specs.Audits.{audit_report, rules_by}
 use Rattle.settings.specs.declared.settings.Settings.{Settings}
+use Rattle.trace_audit.specs.declared.auditing.Plan.{Plan}
 
 -- what a run goes by with these settings; the number of workers is no part of it
 abbrev pub rules_of : Settings → RunRules
 rules_of s = rules_by s.paths s.react
+
+-- what an audit goes by with this plan
+abbrev pub rules_in : Plan → RunRules
+rules_in plan = rules_by plan.paths plan.react
 
 -- what is to be reported on a trace by these rules
 abbrev pub report_by_rules : RunRules → TraceReport

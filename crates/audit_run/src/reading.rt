@@ -2,9 +2,9 @@
 ghost use Rattle.std.specs.Prelude.{◌<◌, ◌≤◌};
 ghost use Rattle.heap_base.specs.Streams.{stream_of};
 ghost use Rattle.heap_base.specs.declared.limits.TheConstants.{LONGEST_TRACE, MOST_WORKERS};
-ghost use Rattle.trace_run.specs.Outcome.{Ended, seen, trace_report};
-ghost use Rattle.audit_program.specs.Audits.{audit_report, rules_by};
+ghost use Rattle.trace_run.specs.Outcome.{seen};
 ghost use Rattle.trace_audit.specs.Auditors.{MakesCollections, MayCollect};
+ghost use Rattle.audit_run.specs.Outcome.{Ended, rules_in};
 
 use audit_core::Auditor;
 use graph_meaning::Collection;
@@ -27,7 +27,7 @@ pub fn audit_lines<
     requires collects { MakesCollections C.step }
     ensures { let old = seen (stream_of S.left S.faults source.old) (stream_of K.held K.faults sink.old) in
         let new = seen (stream_of S.left S.faults source.new) (stream_of K.held K.faults sink.new) in
-        Ended (trace_report LONGEST_TRACE (audit_report (rules_by audit.plan.paths audit.plan.react))) old new result }
+        Ended (rules_in audit.plan) old new result }
 {
     let plan = audit.plan;
     if plan.workers == 1 {

@@ -7,9 +7,8 @@ ghost use Rattle.generator.specs.Text.{gen_text};
 ghost use Rattle.settings.specs.declared.settings.Settings.{Settings};
 ghost use Rattle.settings.specs.Settings.{settings_by};
 ghost use Rattle.trace_run.specs.Outcome.{reading, seen};
-ghost use Rattle.audit_program.specs.Audits.{rules_by};
 ghost use Rattle.trace_audit.specs.Auditors.{IsCollected, MakesCollections, MayCollect};
-ghost use Rattle.audit_run.specs.Outcome.{Ended, RefusesWords, rules_of};
+ghost use Rattle.audit_run.specs.Outcome.{Ended, RefusesWords, rules_in, rules_of};
 
 use crate::reading::audit_lines;
 use audit_core::Auditor;
@@ -84,7 +83,7 @@ fn audit_generated<
     ensures { (stream : Stream) →
         let old = seen stream (stream_of K.held K.faults sink.old) in
         let new = seen stream (stream_of K.held K.faults sink.new) in
-        (left : List ℕ) × Ended (rules_by audit.plan.paths audit.plan.react) (reading (gen_text trace.number trace.size) old) (reading left new) result }
+        (left : List ℕ) × Ended (rules_in audit.plan) (reading (gen_text trace.number trace.size) old) (reading left new) result }
 {
     let Ok(mut source) = GenSource::make(audit.plan.alloc, trace) else {
         return Status::NoMemory;
