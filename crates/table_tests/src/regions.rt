@@ -84,10 +84,16 @@ impl Run {
         )
     }
 
-    // Whether the innermost region has what the case says after its steps.
+    // Whether the regions have what the case says after its steps.
     fn holds(&mut self, rt: &impl Abort, case: &Case) -> Result<bool, Fail> {
         self.take_all(rt, case.steps)?;
-        self.has(case.thread, case.members, case.unasserted)
+        for region in case.regions {
+            let Innermost(thread, members, unasserted) = region;
+            if !self.has(*thread, members, unasserted)? {
+                return Ok(false);
+            }
+        }
+        Ok(true)
     }
 
     // Whether the thread has no region that could end.
@@ -111,16 +117,16 @@ enum Step {
     Finish(u32),
 }
 
-// What a thread's innermost region has after these steps.
+// A thread, what its innermost region has, and what of that was in no inner region that ended.
+struct Innermost(u32, &'static [u32], &'static [u32]);
+
+// The regions that there are after these steps.
 struct Case {
     steps: &'static [Step],
-    thread: u32,
-    members: &'static [u32],
-    // those that were in no inner region that ended
-    unasserted: &'static [u32],
+    regions: &'static [Innermost],
 }
 
-const CASES: [Case; 6] = [
+const CASES: [Case; 5] = [
     Case {
         steps: &[
             Step::Start(7),
@@ -128,9 +134,7 @@ const CASES: [Case; 6] = [
             Step::Start(7),
             Step::Note(7, 4_294_967_295),
         ],
-        thread: 7,
-        members: &[4_294_967_295],
-        unasserted: &[4_294_967_295],
+        regions: &[Innermost(7, &[4_294_967_295], &[4_294_967_295])],
     },
     // an object belongs to the outer regions too
     Case {
@@ -143,9 +147,7 @@ const CASES: [Case; 6] = [
             Step::Finish(7),
             Step::Finish(7),
         ],
-        thread: 7,
-        members: &[5, 8],
-        unasserted: &[5],
+        regions: &[Innermost(7, &[5, 8], &[5])],
     },
     // and to none that comes later
     Case {
@@ -157,9 +159,7 @@ const CASES: [Case; 6] = [
             Step::Note(0, 3),
             Step::Start(0),
         ],
-        thread: 0,
-        members: &[],
-        unasserted: &[],
+        regions: &[Innermost(0, &[], &[])],
     },
     // threads are apart
     Case {
@@ -169,9 +169,7 @@ const CASES: [Case; 6] = [
             Step::Note(0, 2),
             Step::Note(1_023, 3),
         ],
-        thread: 1_023,
-        members: &[1, 3],
-        unasserted: &[1, 3],
+        regions: &[Innermost(1_023, &[1, 3], &[1, 3])],
     },
     Case {
         steps: &[
@@ -180,20 +178,7 @@ const CASES: [Case; 6] = [
             Step::Start(0),
             Step::Note(0, 4),
         ],
-        thread: 1_023,
-        members: &[1],
-        unasserted: &[1],
-    },
-    Case {
-        steps: &[
-            Step::Start(1_023),
-            Step::Note(1_023, 1),
-            Step::Start(0),
-            Step::Note(0, 4),
-        ],
-        thread: 0,
-        members: &[4],
-        unasserted: &[4],
+        regions: &[Innermost(1_023, &[1], &[1]), Innermost(0, &[4], &[4])],
     },
 ];
 
@@ -204,8 +189,8 @@ fn holds(rt: &impl Abort, alloc: Global, case: &Case) -> Result<bool, Fail> {
 
 #[test]
 fn a_region_has_what_its_thread_allocates_until_it_ends(rt: HostRuntime) -> Result<(), Fail> {
-    for case in &CASES {
-        assert!(rt; holds(&rt, rt.alloc(), case)?, "{:?}", case.members);
+    for (number, case) in CASES.iter().enumerate() {
+        assert!(rt; holds(&rt, rt.alloc(), case)?, "{number}");
     }
     Ok(())
 }
