@@ -17,9 +17,9 @@ use Rattle.trace_reader.specs.Cutter.{CutterState, StepsOn, fresh_cutter, with_s
 use Rattle.trace_reader.specs.Items.{items_of}
 use Rattle.trace_reader.specs.Meaning.{item_of_line}
 use Rattle.report.specs.Text.{fault_text}
-use Rattle.trace_run.specs.Outcome.{Outside, Ended, RefusesLine, AppendsPartOfReport, seen, trace_report}
+use Rattle.trace_run.specs.Outcome.{Outside, Ended, RefusesLine, AppendsPartOfReport, seen, sink_change, trace_report}
 use Rattle.trace_run.specs.Program.{Effect, Last, Report, by_effect, end_of_trace, ends_so, goes_on, refuses, report_by, report_on, status_by, takes_item}
-use Rattle.trace_run.specs.Turn.{EndsRun, sink_change}
+use Rattle.trace_run.specs.Turn.{EndsRun}
 use Rattle.report.proofs.Pieces.{AppendsPart-longer}
 use Rattle.trace_run.proofs.Endings.{finished, line_ends, line_too_long, trace_too_long}
 use Rattle.trace_run.proofs.Progress.{InProgress, begins_at, line_leaves_fewer, line_taken, line_within}
@@ -156,7 +156,7 @@ module _ {first now : Moment} (u : UnderWay first now) (trace : Stream) (c : Cut
 
   -- a line was taken, and its text is equal
   pub goes-on : (report : Stream) (s : AuditState) (number : ℕ) (k : ComparisonState) → Steps (Ok (Some number)) →
-      ComparesLine (checked_line effect number s) (comparison_of first.report.bytes report.bytes k) u.written GoesOn → now.report.faults ≤ report.faults →
+      ComparesLine (checked_line number effect s) (comparison_of first.report.bytes report.bytes k) u.written GoesOn → now.report.faults ≤ report.faults →
       UnderWay first (record { trace = trace; report = report; cutter = c; state = s; lines = number; comparison = k })
   goes-on report s number k steps (text, taken, equal) later =
       let was = u.later in
@@ -194,7 +194,7 @@ module _ {first now : Moment} (u : UnderWay first now) (trace : Stream) (c : Cut
 
   -- a line behind which the check ends
   pub ends-line : (number : ℕ) (s : AuditState) (left : Option (List ℕ)) (k : ComparisonState) (compared : Compared) → Steps (Ok (Some number)) →
-      ComparesLine (checked_line effect number s) (comparison_of first.report.bytes left k) u.written (Ends compared) → TellsOfRun first.state first.trace.bytes first.report.bytes compared
+      ComparesLine (checked_line number effect s) (comparison_of first.report.bytes left k) u.written (Ends compared) → TellsOfRun first.state first.trace.bytes first.report.bytes compared
   ends-line number s left k compared steps flow =
       ⊎_elim
       (λ d. subst (λ (x : Compared). TellsOfRun first.state first.trace.bytes first.report.bytes x) (sym d.2.1) (differs-there number d.0 s d.2.0 steps d.1 d.2.2))

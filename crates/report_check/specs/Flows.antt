@@ -19,14 +19,14 @@ abbrev pub ComparesText : ComparisonWithSource → List ℕ → Flow → Type 0
 ComparesText c text GoesOn = IsEqualSoFar c text
 ComparesText c text (Ends compared) = Differ c.start text compared
 
--- A line of the trace: what it leads to, its number, and the state after it, where the run goes on.
+-- A line of the trace: its number, what it leads to, and the state after it, where the run goes on.
 pub record CheckedLine : Type 0 where
-  pub effect : Effect AuditState
   pub number : ℕ
+  pub effect : Effect AuditState
   pub after : AuditState
 
-abbrev pub checked_line : Effect AuditState → ℕ → AuditState → CheckedLine
-checked_line effect number after = record { effect = effect; number = number; after = after }
+abbrev pub checked_line : ℕ → Effect AuditState → AuditState → CheckedLine
+checked_line number effect after = record { number = number; effect = effect; after = after }
 
 -- Behind a line, where the reports were equal in what was written before: the run goes on and they are still equal; or they differ in the text
 -- that was due; or the line is refused, and this is how the whole reports compare.

@@ -8,7 +8,7 @@ use Rattle.heap_base.specs.declared.limits.TheConstants.{LONGEST_TRACE}
 use Rattle.graph_meaning.specs.declared.reaction.React.TheVariants.{Report}
 use Rattle.trace_reader.specs.Items.{items_of}
 use Rattle.report.specs.Report.{report_of}
-use Rattle.trace_run.specs.Outcome.{WritesOnce}
+use Rattle.trace_run.specs.Outcome.{WritesOnce, sink_change}
 use Rattle.trace_run.specs.Program.{report_by}
 use Rattle.audit_program.specs.Audits.{AuditState, audit_meaning, rules_by}
 use Rattle.text_comparison.specs.Comparing.{Tells}
@@ -41,4 +41,4 @@ status_of (Differs n) = Violated
 -- The line was appended, or a beginning of it where the sink failed, or nothing where memory ran out.
 abbrev pub Writes : Compared → Stream → Stream → Status → Type 0
 Writes compared old new NoMemory = Keeps old.bytes new.bytes
-Writes compared old new answer = WritesOnce (line_of compared) (status_of compared) old new answer
+Writes compared old new answer = WritesOnce (line_of compared) (status_of compared) (sink_change old new) answer

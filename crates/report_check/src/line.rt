@@ -45,7 +45,7 @@ impl Check {
         requires few { self.old.checking.collections < LONGEST_TRACE }
         ensures compares { let effect = takes_item audit_meaning (state_in self.old.checking) (item_of_line self.old.cutter.line) in
             (start : Option (List ℕ)) (before : List ℕ) → IsEqualSoFar (comparison_of start (B.left report.old) self.old.comparison) before →
-            IfOk result (ComparesLine (checked_line effect number (state_in self.new.checking)) (comparison_of start (B.left report.new) self.new.comparison) before) }
+            IfOk result (ComparesLine (checked_line number effect (state_in self.new.checking)) (comparison_of start (B.left report.new) self.new.comparison) before) }
         ensures cutter { self.new.cutter ≡ self.old.cutter }
         ensures few { self.new.checking.collections ≤ self.old.checking.collections + 1 }
         ensures later { B.faults report.old ≤ B.faults report.new }

@@ -1,3 +1,7 @@
+ghost use Rattle.std.specs.Prelude.{◌≡◌};
+ghost use Rattle.report_check.specs.declared.outcome.CheckError.{CheckError};
+ghost use Rattle.text_comparison.specs.declared.outcome.CompareError.{CompareError};
+
 use heap_base::OutOfMemory;
 use text_comparison::CompareError;
 
@@ -10,22 +14,7 @@ pub enum CheckError {
     OutOfMemory,
 }
 
-impl From<OutOfMemory> for CheckError {
-    ghost use Rattle.std.specs.Prelude.{◌≡◌};
-    ghost use Rattle.report_check.specs.declared.outcome.CheckError.{CheckError};
-
-    ghost from_gives = { λ e r. r ≡ CheckError.OutOfMemory };
-
-    fn from(_refused: OutOfMemory) -> CheckError {
-        CheckError::OutOfMemory
-    }
-}
-
 impl From<CompareError> for CheckError {
-    ghost use Rattle.std.specs.Prelude.{◌≡◌};
-    ghost use Rattle.text_comparison.specs.declared.outcome.CompareError.{CompareError};
-    ghost use Rattle.report_check.specs.declared.outcome.CheckError.{CheckError};
-
     ghost from_gives = { λ e r. r ≡ CheckError.ReadFault → e ≡ CompareError.ReadFault };
 
     fn from(error: CompareError) -> CheckError {
@@ -33,5 +22,13 @@ impl From<CompareError> for CheckError {
             CompareError::ReadFault => CheckError::ReadFault,
             CompareError::TooLong => CheckError::OutOfMemory,
         }
+    }
+}
+
+impl From<OutOfMemory> for CheckError {
+    ghost from_gives = { λ e r. r ≡ CheckError.OutOfMemory };
+
+    fn from(_refused: OutOfMemory) -> CheckError {
+        CheckError::OutOfMemory
     }
 }

@@ -33,13 +33,13 @@ count_one-requires-clause-few c =
 
 pub loop-slot-preserved : goal.loop-slot-preserved
 loop-slot-preserved c =
+    let was = c.loop-slot.invariant in
+    let counts = c.loop-slot.counts.items in
     let p = c.args.table.now in
     let slot = c.loop-slot.slot in
     let slots = slots_in c.args.table.now c.args.holder in
     let holder = id_at c.args.table.now.cells c.args.holder in
     let within : c.loop-slot.slot < length (slots_in c.args.table.now c.args.holder) = omega arith in
-    let counts = c.loop-slot.counts.items in
-    let was = c.loop-slot.invariant in
     elim c.match-slot_at.branch [
       | in-Some w ↦
           let held = target-held p w.in-Some.target (edge_of (slot_in p c.args.holder slot)) w.in-Some.ensures.leads w.in-Some.ensures.in_a_cell in

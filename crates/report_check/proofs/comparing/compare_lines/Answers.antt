@@ -39,33 +39,30 @@ returns-in-Ok-Ends-clause-tells g c =
     let flow = rw c.in-Ok-Ends.field-0-is at (c.in-Ok-Ends.ensures.compares _ under_way.written under_way.equal) in
     ends-line under_way trace _ _ _ (state_in c.compare_line.new.self.checking) (g.B.Source.left c.compare_line.new.report) c.compare_line.new.self.comparison _ steps flow
 
+pub returns-in-Ok-None-clause-cause : goal.returns-in-Ok-None-clause-cause
+returns-in-Ok-None-clause-cause g c = λ failed. inr (Rose-earlier _ _ _ c.trace.invariant.0.later (c.compare_end.ensures.cause failed))
+
+pub returns-in-Err-LineTooLong-clause-cause : goal.returns-in-Err-LineTooLong-clause-cause
+returns-in-Err-LineTooLong-clause-cause g c = λ failed. inr (Rose-earlier _ _ _ c.trace.invariant.0.later (c.compare_fault.ensures.cause failed))
+
+pub returns-in-Err-TraceTooLong-clause-cause : goal.returns-in-Err-TraceTooLong-clause-cause
+returns-in-Err-TraceTooLong-clause-cause g c = λ failed. inr (Rose-earlier _ _ _ c.trace.invariant.0.later (c.compare_fault-in-Err-TraceTooLong.ensures.cause failed))
+
 pub returns-in-Ok-None-clause-tells : goal.returns-in-Ok-None-clause-tells
 returns-in-Ok-None-clause-tells g c =
     let under_way = c.trace.invariant.0 in
     let trace = stream_of g.A.Source.left g.A.Source.faults c.next.new.source in
-    let steps = rw c.in-Ok-None.field-0-is at c.in-Ok-None.ensures.1 in
-    IfOk-weaker c.compare_end.result _ _ (λ compared tells. ends-there under_way trace _ _ compared steps tells) (c.compare_end.ensures.tells _ under_way.written under_way.equal)
-
-pub returns-in-Ok-None-clause-cause : goal.returns-in-Ok-None-clause-cause
-returns-in-Ok-None-clause-cause g c = λ failed. inr (Rose-earlier _ _ _ c.trace.invariant.0.later (c.compare_end.ensures.cause failed))
-
-pub returns-in-Err-LineTooLong-clause-tells : goal.returns-in-Err-LineTooLong-clause-tells
-returns-in-Err-LineTooLong-clause-tells g c =
-    let under_way = c.trace.invariant.0 in
-    let trace = stream_of g.A.Source.left g.A.Source.faults c.next.new.source in
-    let steps = rw c.in-Err-LineTooLong.field-0-is at c.in-Err-LineTooLong.ensures.1 in
-    IfOk-weaker c.compare_fault.result _ _ (λ compared tells. line-too_long under_way trace _ _ compared steps tells) (c.compare_fault.ensures.tells _ under_way.written under_way.equal)
-
-pub returns-in-Err-LineTooLong-clause-cause : goal.returns-in-Err-LineTooLong-clause-cause
-returns-in-Err-LineTooLong-clause-cause g c = λ failed. inr (Rose-earlier _ _ _ c.trace.invariant.0.later (c.compare_fault.ensures.cause failed))
+    IfOk-weaker c.compare_end.result _ _ (λ compared tells. ends-there under_way trace _ _ compared (rw c.in-Ok-None.field-0-is at c.in-Ok-None.ensures.1) tells) (c.compare_end.ensures.tells _ under_way.written under_way.equal)
 
 pub returns-in-Err-TraceTooLong-clause-tells : goal.returns-in-Err-TraceTooLong-clause-tells
 returns-in-Err-TraceTooLong-clause-tells g c =
     let under_way = c.trace.invariant.0 in
     let fault = c.compare_fault-in-Err-TraceTooLong in
     let trace = stream_of g.A.Source.left g.A.Source.faults c.next.new.source in
-    let steps = rw c.in-Err-TraceTooLong.field-0-is at c.in-Err-TraceTooLong.ensures.1 in
-    IfOk-weaker fault.result _ _ (λ compared tells. trace-too_long under_way trace _ _ compared steps tells) (fault.ensures.tells _ under_way.written under_way.equal)
+    IfOk-weaker fault.result _ _ (λ compared tells. trace-too_long under_way trace _ _ compared (rw c.in-Err-TraceTooLong.field-0-is at c.in-Err-TraceTooLong.ensures.1) tells) (fault.ensures.tells _ under_way.written under_way.equal)
 
-pub returns-in-Err-TraceTooLong-clause-cause : goal.returns-in-Err-TraceTooLong-clause-cause
-returns-in-Err-TraceTooLong-clause-cause g c = λ failed. inr (Rose-earlier _ _ _ c.trace.invariant.0.later (c.compare_fault-in-Err-TraceTooLong.ensures.cause failed))
+pub returns-in-Err-LineTooLong-clause-tells : goal.returns-in-Err-LineTooLong-clause-tells
+returns-in-Err-LineTooLong-clause-tells g c =
+    let under_way = c.trace.invariant.0 in
+    let trace = stream_of g.A.Source.left g.A.Source.faults c.next.new.source in
+    IfOk-weaker c.compare_fault.result _ _ (λ compared tells. line-too_long under_way trace _ _ compared (rw c.in-Err-LineTooLong.field-0-is at c.in-Err-LineTooLong.ensures.1) tells) (c.compare_fault.ensures.tells _ under_way.written under_way.equal)
