@@ -6,16 +6,15 @@ use heap_base::Source;
 use std::alloc::Global;
 use std::test::Fail;
 
+// The lines of the only object of a trace.
 const ONE: &str = r#"{"op":"alloc","id":1,"type":"T2","slots":3}
 {"op":"root","name":"main","to":1}
 {"op":"store","at":1,"slot":2,"to":1}
 {"op":"assert-unshared","id":1}
-{"op":"collect"}
-{"op":"root","name":"main","to":null}
-{"op":"collect"}
 "#;
 
-const SIX: &str = r#"{"op":"alloc","id":1,"type":"T2","slots":3}
+// The lines of five objects.
+const FIVE: &str = r#"{"op":"alloc","id":1,"type":"T2","slots":3}
 {"op":"root","name":"main","to":1}
 {"op":"store","at":1,"slot":2,"to":1}
 {"op":"assert-unshared","id":1}
@@ -35,15 +34,9 @@ const SIX: &str = r#"{"op":"alloc","id":1,"type":"T2","slots":3}
 {"op":"store","at":2,"slot":1,"to":5}
 {"op":"store","at":5,"slot":2,"to":2}
 {"op":"assert-unshared","id":5}
-{"op":"alloc","id":6,"type":"T3","slots":3}
-{"op":"store","at":3,"slot":0,"to":6}
-{"op":"store","at":6,"slot":2,"to":6}
-{"op":"assert-ownedby","owner":3,"ownee":6}
-{"op":"collect"}
-{"op":"root","name":"main","to":null}
-{"op":"collect"}
 "#;
 
+// What comes behind the objects of any trace.
 const LAST: &str = r#"{"op":"collect"}
 {"op":"root","name":"main","to":null}
 {"op":"collect"}
@@ -60,7 +53,7 @@ fn end_of<S: Source>(alloc: Global, source: &mut S, piece: usize) -> Result<Vec<
         if n == 0 {
             return Ok(end);
         }
-        if LAST.len() <= n && SIX.len() < end.len() {
+        if LAST.len() <= n && FIVE.len() < end.len() {
             end.clear();
         }
         end.extend_from_slice(&into[..n])?;
@@ -68,14 +61,22 @@ fn end_of<S: Source>(alloc: Global, source: &mut S, piece: usize) -> Result<Vec<
     Ok(end)
 }
 
+// Whether a text has these lines of objects, and then the last ones.
+fn is_trace_of(text: &[u8], objects: &str) -> bool {
+    match text.strip_suffix(LAST.as_bytes()) {
+        Some(front) => front == objects.as_bytes(),
+        None => false,
+    }
+}
+
 #[test]
 fn traces_are_the_same_by_any_reads(rt: HostRuntime) -> Result<(), Fail> {
     let alloc = rt.alloc();
-    for (size, text) in [(1, ONE), (6, SIX)] {
+    for (size, objects) in [(1, ONE), (5, FIVE)] {
         for piece in [1, 7, 65_536] {
             let mut source = GenSource::make(alloc, GenPlan { number: 1, size })?;
             let read = end_of(alloc, &mut source, piece)?;
-            assert!(rt; read.as_slice() == text.as_bytes(), "{size} by {piece}");
+            assert!(rt; is_trace_of(read.as_slice(), objects), "{size} by {piece}");
         }
     }
     Ok(())
