@@ -15,7 +15,7 @@ use trace_audit::{Audit, audit_trace};
 use trace_reader::LineReader;
 
 /// Audits the trace that the source has left, as `audit_trace` does. One worker reads it line by line, and starts no thread; where there
-/// are more, they read many lines side by side.
+/// are more, they read many lines side by side, in threads that end before it returns.
 pub fn audit_lines<
     C: FnMut(&mut Auditor) -> Result<Collection, OutOfMemory> + Drop,
     S: Source,
@@ -37,5 +37,7 @@ pub fn audit_lines<
     let Ok(mut reader) = ParallelReader::make(rt, plan.alloc, plan.workers) else {
         return Status::NoMemory;
     };
-    audit_trace(audit, &mut reader, source, sink)
+    let status = audit_trace(audit, &mut reader, source, sink);
+    reader.end();
+    status
 }

@@ -4,7 +4,7 @@ use Rattle.std.specs.List.{All}
 use Rattle.trace_reader.specs.Cutter.{Tells}
 use Rattle.trace_reader.specs.Meaning.{item_of_line}
 use Rattle.parallel_reader.specs.declared.line_ahead.LineAhead.{LineAhead}
-use Rattle.parallel_reader.specs.declared.share.Share.{Share}
+use Rattle.parallel_reader.specs.declared.lines.LinesAhead.{LinesAhead}
 
 -- The line stands in the text, and was read as what it is.
 pub record IsReadOf (text : List ℕ) (line : LineAhead) : Type 0 where
@@ -12,6 +12,6 @@ pub record IsReadOf (text : List ℕ) (line : LineAhead) : Type 0 where
   pub within : line.to ≤ length text
   pub told : Tells line.told (item_of_line (slice_range text line.from line.to))
 
--- All lines of the share stand in the text, and were read as what they are.
-abbrev pub HoldsLinesOf : List ℕ → Share → Type 0
-HoldsLinesOf text share = All (IsReadOf text) share.lines.items
+-- All these lines stand in the text, and were read as what they are.
+abbrev pub HoldsLinesOf : List ℕ → LinesAhead → Type 0
+HoldsLinesOf text lines = All (IsReadOf text) lines.lines.items

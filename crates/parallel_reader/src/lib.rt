@@ -1,10 +1,13 @@
 //! Reads the lines of a trace before their turn, by several workers side by side.
 #![tactic(auto)]
 
-mod batch;
+mod crew;
+mod helper;
 mod line_ahead;
+mod lines;
+mod piece;
+mod pieces;
 mod reader;
-mod share;
-mod sharing;
+mod seat;
 
 pub use reader::ParallelReader;

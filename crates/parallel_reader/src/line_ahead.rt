@@ -3,7 +3,6 @@ ghost use Rattle.parallel_reader.specs.Ahead.{IsReadOf};
 
 use graph_meaning::{Event, Stop};
 use memchr::memchr;
-use std::ops::Range;
 use trace_reader::LineReader;
 
 /// A line that was read before its turn: where it stands in a text, without its newline, and what it is.
@@ -15,15 +14,13 @@ pub struct LineAhead {
 }
 
 impl LineAhead {
-    /// The first line in the range, if a whole one begins there, and there is memory to read it.
-    pub fn read(reader: &mut LineReader, text: &[u8], range: Range<usize>) -> Option<LineAhead>
-        requires order { range.start ≤ range.end }
-        requires within { range.end ≤ length text.now }
+    /// The line that begins at this place of the text, if a whole one does, and there is memory to read it.
+    pub fn read(reader: &mut LineReader, text: &[u8], from: usize) -> Option<LineAhead>
+        requires { from ≤ length text.now }
         ensures read { IfSome result (IsReadOf text.now) }
-        ensures first { IfSome result (λ line. (range.start ≤ line.to) × (line.to < range.end)) }
+        ensures first { IfSome result (λ line. (from ≤ line.to) × (line.to < length text.now)) }
     {
-        let from = range.start;
-        let n = memchr(b'\n', &text[from..range.end])?;
+        let n = memchr(b'\n', &text[from..])?;
         let to = from + n;
         match reader.event_of(&text[from..to]) {
             // in its turn it may find memory

@@ -1,75 +1,173 @@
-ghost use denote.Param.Send.{IsSync};
+ghost use Rattle.std.specs.Prelude.{◌≤◌, ⊤, length, IfSome};
+ghost use Rattle.trace_reader.specs.Cutter.{Tells};
+ghost use Rattle.trace_reader.specs.Meaning.{item_of_line};
 
-use crate::batch::Batch;
+use crate::crew::Crew;
+use crate::pieces::Pieces;
 use graph_meaning::{Event, Stop};
 use heap_base::OutOfMemory;
+use memchr::{memchr, memrchr};
 use std::alloc::Global;
 use std::thread::Threads;
 use trace_reader::{EventReader, LineReader};
 
-// So many bytes are read ahead at once where the source has them: with fewer, threads would be started more often.
+// So many bytes are read ahead at once where the source has them.
 const AHEAD: usize = 1_048_576;
 
-// A thread is started for so many bytes at least. It may wait a millisecond or two before it runs, in which another reads some
+// With fewer bytes, none is read ahead: a thread may wait a millisecond or two before it runs, in which the others read some
 // thousand lines.
-const LEAST_PART: usize = 131_072;
+const LEAST_AHEAD: usize = 262_144;
+
+// A piece has so many bytes at most, unless its first line has more. Of a larger one more lines would be read twice, where the caller
+// comes to it while a thread is at it.
+const PIECE: usize = 16_384;
+
+// Into so many pieces a text is cut at most.
+const MOST_PIECES: usize = 128;
 
 // Where nothing could be read ahead, as when out of memory, so many lines are read one by one before it is tried again.
 const PAUSE: u32 = 1_000;
 
-/// Reads lines by several workers: where many lines stand behind the one that was read last, they are read at once, each by one
-/// worker. A line's meaning doesn't depend on another line, so each has the meaning that `LineReader` gives it.
+/// Reads lines by several workers: where many lines stand behind the one that was read last, they are cut into pieces, which threads
+/// read while the caller goes on. The caller never waits for a thread: it reads what no thread has read. A line's meaning doesn't depend
+/// on another line, so each has the meaning that `LineReader` gives it.
 #[derive(Drop)]
-pub struct ParallelReader<'a, R: Threads + Sync> {
+pub struct ParallelReader<'a, R: Threads> {
     rt: &'a R,
     own: LineReader,
-    batch: Batch,
+    crew: Crew,
+    pieces: Pieces,
     // so many lines are still to be read one by one
     pause: u32,
+    told_ahead: u64,
 }
 
-impl<'a, R: Threads + Sync> ParallelReader<'a, R> {
-    /// A reader with so many workers, the caller's thread among them.
+impl<'a, R: Threads> ParallelReader<'a, R> {
+    /// A reader with so many workers, the caller's thread among them. `end` ends the others.
     pub fn make(
         rt: &'a R,
         alloc: Global,
         workers: u32,
     ) -> Result<ParallelReader<'a, R>, OutOfMemory> {
-        let batch = Batch::make(alloc, workers as usize)?;
+        let threads = workers.saturating_sub(1) as usize;
         Ok(ParallelReader {
             rt,
             own: LineReader::make(alloc),
-            batch,
+            crew: Crew::make(alloc, threads, MOST_PIECES)?,
+            pieces: Pieces::none(alloc),
             pause: 0,
+            told_ahead: 0,
         })
+    }
+
+    /// How many lines it has told that had been read before their turn.
+    pub fn told_ahead(&self) -> u64 {
+        self.told_ahead
+    }
+
+    /// Ends the threads that it has started.
+    pub fn end(self) {
+        self.crew.end(self.rt);
+    }
+
+    // What the next line is, which is this one, where it was read before its turn.
+    fn take(&mut self, line: &[u8]) -> Option<Result<Option<Event>, Stop>>
+        ensures { IfSome result (λ told. Tells told (item_of_line line.now)) }
+    {
+        if self.pieces.is_over() {
+            return None;
+        }
+        if !self.pieces.is_read() {
+            self.fetch();
+        }
+        let told = self.pieces.take(line);
+        self.pieces.pass(line.len().saturating_add(1));
+        told
+    }
+
+    // Puts the pieces that threads have read in their places, and answers whether that of the next line is there.
+    fn gather(&mut self) -> bool {
+        for _ in 0..MOST_PIECES {
+            let Some(piece) = self.crew.fetch() else {
+                break;
+            };
+            self.pieces.put(piece);
+        }
+        self.pieces.is_read()
+    }
+
+    // Sees to it that the piece of the next line is read, unless a thread is at it: until it has come, the caller reads pieces that wait.
+    fn fetch(&mut self) {
+        for _ in 0..MOST_PIECES {
+            if self.gather() {
+                return;
+            }
+            let Some(mut piece) = self.crew.take_back() else {
+                return;
+            };
+            piece.read(&mut self.own);
+            self.pieces.put(piece);
+        }
+    }
+
+    // Cuts the whole lines of the text into pieces, as far as there is memory, and lets them wait.
+    fn cut(&mut self, text: &[u8]) {
+        let mut rest = text;
+        for _ in 0..MOST_PIECES {
+            let end = piece_end(rest);
+            if end == 0 {
+                return;
+            }
+            let (piece, behind) = rest.split_at(end);
+            let Ok(piece) = self.pieces.cut(piece) else {
+                return;
+            };
+            self.crew.offer(piece);
+            rest = behind;
+        }
     }
 }
 
-impl<'a, R: Threads + Sync> EventReader for ParallelReader<'a, R> {
-    ghost ready = { λ _. IsSync R.row };
+// Where the first piece of the text ends, which has whole lines, or 0 where there is no whole line.
+fn piece_end(text: &[u8]) -> usize
+    ensures { result ≤ length text.now }
+{
+    let front = &text[..text.len().min(PIECE)];
+    if let Some(n) = memrchr(b'\n', front) {
+        return n + 1;
+    }
+    match memchr(b'\n', text) {
+        Some(n) => n + 1,
+        None => 0,
+    }
+}
+
+impl<'a, R: Threads> EventReader for ParallelReader<'a, R> {
+    ghost ready = { λ _. ⊤ };
 
     fn event_of(&mut self, line: &[u8]) -> Result<Option<Event>, Stop> {
-        match self.batch.take(line) {
-            Some(told) => told,
+        match self.take(line) {
+            Some(told) => {
+                self.told_ahead = self.told_ahead.wrapping_add(1);
+                told
+            }
             None => self.own.event_of(line),
         }
     }
 
     fn look_ahead(&mut self, behind: &[u8]) {
-        if !self.batch.is_empty() {
+        if !self.pieces.is_over() || behind.len() < LEAST_AHEAD {
             return;
         }
         if self.pause > 0 {
             self.pause -= 1;
             return;
         }
-        let text = &behind[..behind.len().min(AHEAD)];
-        let threads = self.batch.workers().min(text.len() / LEAST_PART);
-        if threads >= 2 {
-            self.batch.read(self.rt, text, threads);
-            if self.batch.is_empty() {
-                self.pause = PAUSE;
-            }
+        self.pieces.clear();
+        self.crew.start(self.rt);
+        self.cut(behind);
+        if self.pieces.count() == 0 {
+            self.pause = PAUSE;
         }
     }
 

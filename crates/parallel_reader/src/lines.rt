@@ -1,4 +1,4 @@
-ghost use Rattle.std.specs.Prelude.{◌≡◌, ◌<◌, ◌≤◌, ◌↔◌, [], length, IfSome, IsTrue};
+ghost use Rattle.std.specs.Prelude.{◌≡◌, ◌<◌, ◌≤◌, [], length, IfSome};
 ghost use Rattle.trace_reader.specs.Cutter.{Tells};
 ghost use Rattle.trace_reader.specs.Meaning.{item_of_line};
 ghost use Rattle.parallel_reader.specs.Ahead.{HoldsLinesOf};
@@ -6,33 +6,23 @@ ghost use Rattle.parallel_reader.specs.Ahead.{HoldsLinesOf};
 use crate::line_ahead::LineAhead;
 use graph_meaning::{Event, Stop};
 use std::alloc::Global;
-use std::ops::Range;
 use trace_reader::LineReader;
 
-/// What one worker reads before its turn, in memory that it keeps.
+/// Lines of a text that were read before their turn, in memory that it keeps.
 #[derive(Drop)]
-pub struct Share {
-    reader: LineReader,
+pub struct LinesAhead {
     // the next line last
     lines: Vec<LineAhead>,
 }
 
-impl Share {
-    /// A share without lines.
-    pub fn make(alloc: Global) -> Share
+impl LinesAhead {
+    /// No lines.
+    pub fn none(alloc: Global) -> LinesAhead
         ensures { result.lines.items ≡ [] }
     {
-        Share {
-            reader: LineReader::make(alloc),
+        LinesAhead {
             lines: Vec::new(alloc),
         }
-    }
-
-    /// Whether it has no line.
-    pub fn is_empty(&self) -> bool
-        ensures { IsTrue result ↔ (self.now.lines.items ≡ []) }
-    {
-        self.lines.is_empty()
     }
 
     /// Forgets its lines.
@@ -42,18 +32,26 @@ impl Share {
         self.lines.clear();
     }
 
-    /// Reads the whole lines in the range of the text, in place of those that it has.
-    pub fn read(&mut self, text: &[u8], range: Range<usize>)
-        requires order { range.start ≤ range.end }
-        requires within { range.end ≤ length text.now }
+    /// Reads the whole lines of the text, in place of those that it has. When out of memory, it has the first of them or none.
+    pub fn read(&mut self, text: &[u8], reader: &mut LineReader)
         ensures { HoldsLinesOf text.now self.new }
     {
         self.lines.clear();
-        let mut from = range.start;
-        while let Some(next) = self.read_next(text, from..range.end) {
+        let mut from = 0;
+        while let Some(next) = self.read_next(text, from, reader) {
             from = next;
         }
         self.lines.reverse();
+    }
+
+    /// Forgets the lines that begin before this place of the text.
+    pub fn skip(&mut self, text: &[u8], place: usize)
+        requires { HoldsLinesOf text.now self.old }
+        ensures { HoldsLinesOf text.now self.new }
+    {
+        while self.lines.last().is_some_and(|line| line.from < place) {
+            self.lines.pop();
+        }
     }
 
     /// What the next of its lines is, where it is this line. Else it keeps the line.
@@ -70,17 +68,16 @@ impl Share {
         Some(next.told)
     }
 
-    // Reads the first line in the range behind those that it has, if a whole one begins there, and answers where the one behind it
-    // begins. When out of memory it reads none.
-    fn read_next(&mut self, text: &[u8], range: Range<usize>) -> Option<usize>
-        requires order { range.start ≤ range.end }
-        requires within { range.end ≤ length text.now }
+    // Reads the line that begins at this place behind those that it has, if a whole one begins there, and answers where the one behind
+    // it begins. When out of memory it reads none.
+    fn read_next(&mut self, text: &[u8], from: usize, reader: &mut LineReader) -> Option<usize>
+        requires within { from ≤ length text.now }
         requires lines { HoldsLinesOf text.now self.old }
         ensures lines { HoldsLinesOf text.now self.new }
-        ensures next { IfSome result (λ next. (range.start < next) × (next ≤ range.end)) }
+        ensures next { IfSome result (λ next. (from < next) × (next ≤ length text.now)) }
     {
         self.lines.reserve(1).ok()?;
-        let line = LineAhead::read(&mut self.reader, text, range)?;
+        let line = LineAhead::read(reader, text, from)?;
         let next = line.to + 1;
         self.lines.push_reserved(line);
         Some(next)

@@ -3,7 +3,7 @@ use Rattle.std.proofs.lemmas.List.Elements.{All-push}
 use Rattle.std.specs.List.{All}
 use Rattle.parallel_reader.specs.Ahead.{IsReadOf}
 use Rattle.parallel_reader.specs.declared.line_ahead.LineAhead.{LineAhead}
-use Rattle.parallel_reader.proofs.share.Share.read_next.Goals as goal
+use Rattle.parallel_reader.proofs.lines.LinesAhead.read_next.Goals as goal
 
 pub returns-clause-lines : goal.returns-clause-lines
 returns-clause-lines c =
