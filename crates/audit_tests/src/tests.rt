@@ -3,4 +3,5 @@ mod day;
 mod faults;
 mod gates;
 mod order;
+mod reading;
 mod refusals;
