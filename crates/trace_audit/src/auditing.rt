@@ -43,10 +43,10 @@ pub fn audit_trace<
     S: Source,
     K: Sink,
 >(audit: Audit<C>, reader: &mut L, source: &mut S, sink: &mut K) -> Status
-    requires ready { L.ready reader.old }
     requires workers { (0 < audit.plan.workers) × (audit.plan.workers ≤ MOST_WORKERS) }
     requires may_collect { MayCollect C.pre }
     requires collects { MakesCollections C.step }
+    requires ready { L.ready reader.old }
     ensures { let old = seen (stream_of S.left S.faults source.old) (stream_of K.held K.faults sink.old) in
         let new = seen (stream_of S.left S.faults source.new) (stream_of K.held K.faults sink.new) in
         Ended (trace_report LONGEST_TRACE (audit_report (rules_by audit.plan.paths audit.plan.react))) old new result }

@@ -27,39 +27,32 @@ impl Calls {
     }
 }
 
-/// A source that notes each read.
+/// A source or a sink whose reads or writes are noted.
 #[derive(Drop)]
-struct NotedSource<'a> {
-    source: MemSource,
+struct Noted<'a, S: Drop> {
+    stream: S,
     calls: &'a Calls,
 }
 
-impl<'a> Source for NotedSource<'a> {
-    ghost left = { λ s. Some s.source.left };
+impl<'a> Source for Noted<'a, MemSource> {
+    ghost left = { λ s. Some s.stream.left };
 
-    ghost faults = { λ s. s.source.faults };
+    ghost faults = { λ s. s.stream.faults };
 
     fn read(&mut self, into: &mut [u8]) -> Result<usize, Failed> {
         self.calls.note(b'r');
-        self.source.read(into)
+        self.stream.read(into)
     }
 }
 
-/// A sink that notes each write.
-#[derive(Drop)]
-struct NotedSink<'a> {
-    sink: MemSink,
-    calls: &'a Calls,
-}
+impl<'a> Sink for Noted<'a, MemSink> {
+    ghost held = { λ s. Some s.stream.held };
 
-impl<'a> Sink for NotedSink<'a> {
-    ghost held = { λ s. Some s.sink.held };
-
-    ghost faults = { λ s. s.sink.faults };
+    ghost faults = { λ s. s.stream.faults };
 
     fn write(&mut self, piece: &[u8]) -> Result<usize, Failed> {
         self.calls.note(b'w');
-        self.sink.write(piece)
+        self.stream.write(piece)
     }
 }
 
@@ -74,12 +67,12 @@ fn expect_order<R: Threads + Abort + Sync>(
         made: Cell::new([b' '; 8]),
         count: Cell::new(0),
     };
-    let mut source = NotedSource {
-        source: MemSource::make(alloc, trace, 17, &[])?,
+    let mut source = Noted {
+        stream: MemSource::make(alloc, trace, 17, &[])?,
         calls: &calls,
     };
-    let mut sink = NotedSink {
-        sink: MemSink::make(alloc, 4096, 4096, &[])?,
+    let mut sink = Noted {
+        stream: MemSink::make(alloc, 4096, 4096, &[])?,
         calls: &calls,
     };
     let status = audit(rt, alloc, words, &mut source, &mut sink, &OpenGate);
