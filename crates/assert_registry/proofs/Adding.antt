@@ -6,15 +6,15 @@ use Rattle.std.proofs.lemmas.Bool.{or_cases, or_right, false≢true, false_from_
 use Rattle.std.proofs.lemmas.List.{append_assoc, map-append}
 use Rattle.graph_meaning.specs.Reach.{has_id}
 use Rattle.graph_meaning.proofs.Membership.{has_id-head, has_id-append}
-use Rattle.object_table.specs.Placed.{Placed, id_in}
+use Rattle.object_table.specs.Placed.{PlacedTable, id_in}
 use Rattle.assert_registry.proofs.Rising.{Rise-sorted, Rise-head}
 
 -- The objects in these cells have ids below those that are left.
-abbrev pub AreBelow : Placed → List ℕ → List ℕ → Type 0
+abbrev pub AreBelow : PlacedTable → List ℕ → List ℕ → Type 0
 AreBelow p owners left =
     (owner x y : ℕ) → has_id owners owner ≡ true → id_in p owner ≡ Some x → has_id left y ≡ true → x < y
 
-module _ (p : Placed) (owners left : List ℕ) (id cell : ℕ) (held : id_in p cell ≡ Some id) where
+module _ (p : PlacedTable) (owners left : List ℕ) (id cell : ℕ) (held : id_in p cell ≡ Some id) where
   -- the cell of the next owner is none of those before
   pub is_new : AreBelow p owners (id ∷ left) → has_id owners cell ≡ false
   is_new below =

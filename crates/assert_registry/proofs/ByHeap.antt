@@ -16,7 +16,7 @@ use Rattle.graph_meaning.specs.Heap.{Heap, is_live}
 use Rattle.graph_meaning.specs.Reach.{has_id}
 use Rattle.graph_meaning.specs.Roles.{RoleTable, owner_in}
 use Rattle.graph_meaning.proofs.Membership.{list_any_agree}
-use Rattle.object_table.specs.Placed.{Placed, IsPlaced, id_in}
+use Rattle.object_table.specs.Placed.{PlacedTable, IsPlaced, id_in}
 use Rattle.object_table.proofs.Positions.{position_named}
 use Rattle.assert_registry.specs.Assertions.{Assertions, limit_of, owner_of}
 use Rattle.assert_registry.specs.ByCell.{AreRolesBy, IsRoleBy, holds_one_of, owner_at, live_owners}
@@ -31,7 +31,7 @@ ownee_found owners id =
     same_test : (x y : ℕ) → (x == y) ≡ is_at (nat_cmp y) x
     same_test x y = grind (arith, nat_tests)
 
-module _ (a : Assertions) (p : Placed) (r : RoleTable) (placed : IsPlaced p) (by : AreRolesBy a p r) where
+module _ (a : Assertions) (p : PlacedTable) (r : RoleTable) (placed : IsPlaced p) (by : AreRolesBy a p r) where
   flag : (flags : List Bool) (ids : List ℕ) → ((cell : ℕ) → get_or flags cell false ≡ holds_one_of p ids cell) → (cell id : ℕ) → id_in p cell ≡ Some id → get_or flags cell false ≡ has_id ids id
   flag flags ids says cell id held = says cell ∙ ap (λ o. option_map_or (has_id ids) o false) held
 
@@ -73,7 +73,7 @@ module _ (a : Assertions) (p : Placed) (r : RoleTable) (placed : IsPlaced p) (by
 abbrev assertions_in : Heap → RoleTable → Assertions
 assertions_in h r = record { dead = h.dead; unshared = h.unshared; limits = r.limits; owners = h.owners }
 
-are_roles_by : (h : Heap) (p : Placed) (r : RoleTable) → StandFor p r h → AreRolesBy (assertions_in h r) p r
+are_roles_by : (h : Heap) (p : PlacedTable) (r : RoleTable) → StandFor p r h → AreRolesBy (assertions_in h r) p r
 are_roles_by h p r stand = record { dead = stand.dead; unshared = stand.unshared; ownees = stand.ownees; limits = λ kind. refl; owners = stand.owners }
 
 pub roles_say_of_heap : RolesSayOfHeap

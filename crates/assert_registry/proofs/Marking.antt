@@ -7,12 +7,12 @@ use Rattle.graph_meaning.specs.declared.roles.OwnerRole.{OwnerRole}
 use Rattle.graph_meaning.specs.declared.roles.OwnerRole.TheVariants.{NotOwned}
 use Rattle.graph_meaning.specs.Reach.{has_id}
 use Rattle.graph_meaning.proofs.Membership.{has_id-head}
-use Rattle.object_table.specs.Placed.{Placed, IsPlaced, id_in}
+use Rattle.object_table.specs.Placed.{PlacedTable, IsPlaced, id_in}
 use Rattle.assert_registry.specs.Assertions.{owner_of}
 use Rattle.assert_registry.specs.ByCell.{holds_one_of, owner_at, IsRoleBy}
 use Rattle.assert_registry.proofs.Owners.{is_at-other}
 
-module _ (p : Placed) (placed : IsPlaced p) (id cell : ℕ) (held : id_in p cell ≡ Some id) where
+module _ (p : PlacedTable) (placed : IsPlaced p) (id cell : ℕ) (held : id_in p cell ≡ Some id) where
   -- no other cell holds the object
   elsewhere : (other : ℕ) → other ≢ cell → id_in p other ≢ Some id
   elsewhere other ne at = ne (placed.once other cell id at held)
@@ -60,13 +60,13 @@ module _ (p : Placed) (placed : IsPlaced p) (id cell : ℕ) (held : id_in p cell
       go (Some x) apart = rw (is_at-other x id (λ e. apart (ap Some e))) refl
 
 -- A cell has the role that these owners give its object; or it has none yet, and the owners that are left give it the same.
-abbrev pub HasRoleSoFar : Placed → List (ℕ × ℕ) → List (ℕ × ℕ) → List OwnerRole → ℕ → Type 0
+abbrev pub HasRoleSoFar : PlacedTable → List (ℕ × ℕ) → List (ℕ × ℕ) → List OwnerRole → ℕ → Type 0
 HasRoleSoFar p owners rest roles cell =
     IsRoleBy p (owner_at p owners cell) (get_or roles cell NotOwned)
     ⊎ ((get_or roles cell NotOwned ≡ NotOwned) × (owner_at p rest cell ≡ owner_at p owners cell))
 
 -- The role of an ownee's cell is set, and fewer owners are left.
-pub role_more : (p : Placed) (placed : IsPlaced p) (owners rest : List (ℕ × ℕ)) (roles : List OwnerRole) (ownee owner cell : ℕ) (role : OwnerRole) →
+pub role_more : (p : PlacedTable) (placed : IsPlaced p) (owners rest : List (ℕ × ℕ)) (roles : List OwnerRole) (ownee owner cell : ℕ) (role : OwnerRole) →
     id_in p cell ≡ Some ownee → owner_of owners ownee ≡ Some owner → IsRoleBy p (Some owner) role → cell < length roles → (other : ℕ) →
     HasRoleSoFar p owners ((ownee, owner) ∷ rest) roles other → HasRoleSoFar p owners rest (set roles cell role) other
 role_more p placed owners rest roles ownee owner cell role held owned by within other so_far =
@@ -87,7 +87,7 @@ role_more p placed owners rest roles ownee owner cell role held owned by within 
         so_far
 
 -- no owner is left
-pub role_all : (p : Placed) (owners : List (ℕ × ℕ)) (roles : List OwnerRole) (cell : ℕ) → HasRoleSoFar p owners [] roles cell → IsRoleBy p (owner_at p owners cell) (get_or roles cell NotOwned)
+pub role_all : (p : PlacedTable) (owners : List (ℕ × ℕ)) (roles : List OwnerRole) (cell : ℕ) → HasRoleSoFar p owners [] roles cell → IsRoleBy p (owner_at p owners cell) (get_or roles cell NotOwned)
 role_all p owners roles cell so_far =
     ⊎_elim (λ has. has) (λ none. rw none.0 (sym none.1 ∙ nobody (id_in p cell))) so_far
   where

@@ -18,7 +18,7 @@ use Rattle.graph_meaning.specs.Reach.{has_id}
 use Rattle.graph_meaning.specs.Roles.{RoleTable, AreRolesOf, cells_of, kinds_of, owner_in, id_at}
 use Rattle.graph_meaning.proofs.HeapLemmas.{has_id-ids}
 use Rattle.graph_meaning.proofs.Membership.{has_id-head, has_id-filter, has_id-Contains}
-use Rattle.object_table.specs.Placed.{Placed, IsPlaced, id_in}
+use Rattle.object_table.specs.Placed.{PlacedTable, IsPlaced, id_in}
 use Rattle.assert_registry.specs.Assertions.{Assertions, AreConsistent, owner_of}
 use Rattle.assert_registry.specs.ByCell.{SpeakOfTable, AreRolesBy, IsRoleBy, owner_at, live_owners}
 use Rattle.assert_registry.proofs.Owners.{IsByAnother, All-owner_of, has_id-owner_of, owner_of-has_id}
@@ -67,12 +67,12 @@ All-at P xs x all at = All-contains P xs x all ((has_id-Contains xs x).0 at)
 -- ---- owners that are live, and roles by them
 
 -- whether an object is among the owners that are live
-pub is_live_owner : (a : Assertions) (p : Placed) (id : ℕ) → has_id (live_owners p.table a.owners) id ≡ (has_id (values_of a.owners) id && is_live p.table id)
+pub is_live_owner : (a : Assertions) (p : PlacedTable) (id : ℕ) → has_id (live_owners p.table a.owners) id ≡ (has_id (values_of a.owners) id && is_live p.table id)
 is_live_owner a p id =
     has_id-filter (has_id (values_of a.owners)) (ids p.table) id ∙ ap (λ b. has_id (values_of a.owners) id && b) (has_id-ids p.table id)
 
 -- the role of an ownee whose owner is in this cell
-pub role-cell : (p : Placed) → IsPlaced p → (owner id : ℕ) (role : OwnerRole) → id_in p owner ≡ Some id → IsRoleBy p (Some id) role → role ≡ OwnerCell owner
+pub role-cell : (p : PlacedTable) → IsPlaced p → (owner id : ℕ) (role : OwnerRole) → id_in p owner ≡ Some id → IsRoleBy p (Some id) role → role ≡ OwnerCell owner
 role-cell p placed owner id NotOwned held is = cc
 role-cell p placed owner id (OwnerCell cell) held is = ap OwnerCell (placed.once cell owner id is.1 held)
 role-cell p placed owner id (OwnerGone gone) held is =
@@ -81,7 +81,7 @@ role-cell p placed owner id (OwnerGone gone) held is =
 
 -- ---- the roles
 
-module _ (a : Assertions) (p : Placed) (r : RoleTable) (placed : IsPlaced p) (rise : IdsRise p.table) (consistent : AreConsistent a) (speak : SpeakOfTable a p.table) (by : AreRolesBy a p r) where
+module _ (a : Assertions) (p : PlacedTable) (r : RoleTable) (placed : IsPlaced p) (rise : IdsRise p.table) (consistent : AreConsistent a) (speak : SpeakOfTable a p.table) (by : AreRolesBy a p r) where
   held-some : (held : List ℕ) (o : Option ℕ) → IsTrue (option_map_or (has_id held) o false) → IsSome o
   held-some held None at = absurd (false≢true at)
   held-some held (Some x) at = refl

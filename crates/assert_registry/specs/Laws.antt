@@ -11,7 +11,7 @@ use Rattle.graph_meaning.specs.Laws.{RefersToLive, IsOrdered}
 use Rattle.graph_meaning.specs.Reach.{has_id}
 use Rattle.graph_meaning.specs.Roles.{RoleTable, owner_in}
 use Rattle.graph_meaning.specs.Step.{with_kind}
-use Rattle.object_table.specs.Placed.{Placed, IsPlaced, id_in}
+use Rattle.object_table.specs.Placed.{PlacedTable, IsPlaced, id_in}
 use Rattle.assert_registry.specs.Assertions.{Assertions, AreOfSeenTypes, limit_of, owner_of, with_room}
 use Rattle.assert_registry.specs.ByCell.{AreRolesBy, IsRoleBy, holds_one_of, owner_at, live_owners}
 
@@ -31,7 +31,7 @@ pub record HasAssertions (h : Heap) (a : Assertions) : Type 0 where
 
 -- The heap has this table, and the roles say by cell and by number of a type what is asserted in it; the owners' cells
 -- stand in the order of the owners' ids. What the heap refers to is live, and its parts are in order.
-pub record StandFor (p : Placed) (r : RoleTable) (h : Heap) : Type 0 where
+pub record StandFor (p : PlacedTable) (r : RoleTable) (h : Heap) : Type 0 where
   pub refers : RefersToLive h
   pub ordered : IsOrdered h
   pub table : h.table ≡ p.table
@@ -44,11 +44,11 @@ pub record StandFor (p : Placed) (r : RoleTable) (h : Heap) : Type 0 where
 -- The roles that a registry gives stand for every heap in order with its assertions and this table.
 abbrev pub RolesStandForHeap : Type 0
 RolesStandForHeap =
-    (h : Heap) (a : Assertions) (p : Placed) (r : RoleTable) → RefersToLive h → IsOrdered h → HasAssertions h a → h.table ≡ p.table →
+    (h : Heap) (a : Assertions) (p : PlacedTable) (r : RoleTable) → RefersToLive h → IsOrdered h → HasAssertions h a → h.table ≡ p.table →
     IsDistinct bytes_eq p.table.kinds → AreRolesBy a p r → StandFor p r h
 
 -- The roles say of the object in a cell what the heap says of it by its id.
-pub record SayOfHeap (h : Heap) (p : Placed) (r : RoleTable) : Type 0 where
+pub record SayOfHeap (h : Heap) (p : PlacedTable) (r : RoleTable) : Type 0 where
   pub dead : (cell id : ℕ) → id_in p cell ≡ Some id → slice_index_or r.dead cell false ≡ has_id h.dead id
   pub unshared : (cell id : ℕ) → id_in p cell ≡ Some id → slice_index_or r.unshared cell false ≡ has_id h.unshared id
   pub owners : (cell id : ℕ) → id_in p cell ≡ Some id → has_id r.owners cell ≡ is_owner h id
@@ -57,7 +57,7 @@ pub record SayOfHeap (h : Heap) (p : Placed) (r : RoleTable) : Type 0 where
 
 -- Roles that stand for a heap say of the object in a cell what the heap says of it by its id.
 abbrev pub RolesSayOfHeap : Type 0
-RolesSayOfHeap = (h : Heap) (p : Placed) (r : RoleTable) → IsPlaced p → StandFor p r h → SayOfHeap h p r
+RolesSayOfHeap = (h : Heap) (p : PlacedTable) (r : RoleTable) → IsPlaced p → StandFor p r h → SayOfHeap h p r
 
 -- ---- by number
 

@@ -9,13 +9,14 @@ use Rattle.graph_meaning.specs.Collecting.{Rules, after_collection, violating_de
 use Rattle.graph_meaning.specs.Collecting.{violating_unshared, violating_ownees, dead_verdict, instances_verdict, unshared_verdict, ownedby_verdict}
 use Rattle.graph_meaning.specs.Collecting.{without_paths, all_verdicts, first_with_paths, collection_counted, collection_of}
 use Rattle.graph_meaning.specs.Roles.{RoleTable}
-use Rattle.object_table.specs.Placed.{Placed, IsPlaced}
+use Rattle.object_table.specs.Placed.{PlacedTable, IsPlaced}
 use Rattle.assert_registry.specs.Laws.{StandFor}
 use Rattle.heap_trace.specs.Results.{TraceResult}
 use Rattle.heap_trace.specs.Traces.{CountsReferences}
 use Rattle.verdict_list.proofs.Collected.{verdicts_agree}
-use Rattle.verdicts.specs.Verdicts.{counted_in, counts_of}
-use Rattle.audit_core.specs.Audit.{Audit, AreItsRoles, placed_of, next_collection, next_counted, after_next}
+use Rattle.verdict_list.specs.Counts.{counted_in}
+use Rattle.verdicts.specs.Verdicts.{counts_of}
+use Rattle.audit_core.specs.Audit.{Audit, AreItsRoles, audit_table, next_collection, next_counted, after_next}
 
 -- ---- how many verdicts there are
 
@@ -76,17 +77,18 @@ left_by count a after left found verdicts left_is found_is verdicts_are =
 
 -- ---- where the counts are the numbers of references
 
-module _ (p : Placed) (placed : IsPlaced p) (h : Heap) (t : TraceResult) (counts : CountsReferences p h t) where
-  pub collections_agree : AllLive p.table h.unshared → (rules : Rules) (number : ℕ) → collection_counted (counted_in p t) rules number h ≡ collection_of rules number h
+module _ (p : PlacedTable) (placed : IsPlaced p) (h : Heap) (t : TraceResult) (counts : CountsReferences p h t) where
+  pub collections_agree : AllLive p.table h.unshared → (rules : Rules) (number : ℕ) → collection_counted (counted_in p (counts_of t)) rules number h ≡ collection_of rules number h
   unfolding collection_counted
   collections_agree live rules number =
       ap (λ vs. record (collection_of rules number h) { verdicts = first_with_paths rules.paths vs }) (verdicts_agree p placed h (counts_of t) counts live)
 
 -- A collection by the counts of a trace is the next collection, where these are the numbers of references.
-pub counted_as_defined : (a : Audit) (p : Placed) → p ≡ placed_of a → IsPlaced p → (r : RoleTable) → AreItsRoles a r → (t : TraceResult) →
+pub counted_as_defined : (a : Audit) (p : PlacedTable) → p ≡ audit_table a → IsPlaced p → (r : RoleTable) → AreItsRoles a r → (t : TraceResult) →
     ((h : Heap) → StandFor p r h → CountsReferences p h t) → next_counted t a ≡ next_collection a
 counted_as_defined a p is placed r roles t counts =
-    let at = placed_of a in
+    let at = audit_table a in
     let placed_there : IsPlaced at = subst IsPlaced is placed in
-    let counts_there : CountsReferences at a.heap t = subst (λ (q : Placed). CountsReferences q a.heap t) is (counts a.heap (subst (λ (q : Placed). StandFor q r a.heap) (sym is) roles.of_heap)) in
+    let counts_there : CountsReferences at a.heap t =
+    subst (λ (q : PlacedTable). CountsReferences q a.heap t) is (counts a.heap (subst (λ (q : PlacedTable). StandFor q r a.heap) (sym is) roles.of_heap)) in
     collections_agree at placed_there a.heap t counts_there roles.of_heap.refers.unshared a.rules (a.collections + 1)

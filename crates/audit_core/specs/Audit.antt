@@ -4,11 +4,12 @@ use Rattle.graph_meaning.specs.declared.collection.Collection.{Collection}
 use Rattle.graph_meaning.specs.Heap.{Heap, empty_heap}
 use Rattle.graph_meaning.specs.Roles.{RoleTable, AreRolesOf}
 use Rattle.graph_meaning.specs.Collecting.{Rules, after_collection, collection_counted, collection_of}
-use Rattle.object_table.specs.Placed.{Placed}
+use Rattle.object_table.specs.Placed.{PlacedTable}
 use Rattle.assert_registry.specs.Laws.{StandFor}
 use Rattle.heap_parts.specs.Parts.{PlacedHeap}
 use Rattle.heap_trace.specs.Results.{TraceResult}
-use Rattle.verdicts.specs.Verdicts.{counted_in}
+use Rattle.verdict_list.specs.Counts.{counted_in}
+use Rattle.verdicts.specs.Verdicts.{counts_of}
 
 -- The heap as it stands; for each cell of its table the id of the object that it holds, if it holds one; the rules of
 -- collections; how many were made, and how many verdicts they had together.
@@ -20,16 +21,16 @@ pub record Audit : Type 0 where
   pub violations : ℕ
 
 -- the heap's table with its cells
-abbrev pub placed_of : Audit → Placed
-placed_of a = record { table = a.heap.table; cells = a.cells }
+abbrev pub audit_table : Audit → PlacedTable
+audit_table a = record { table = a.heap.table; cells = a.cells }
 
 -- the auditor's heap, and the cells of its objects
 abbrev pub heap_in : Audit → PlacedHeap
 heap_in a = record { heap = a.heap; cells = a.cells }
 
 -- so many paths are shown, and what is asserted dead is cut off or not
-abbrev pub rules_of : ℕ → Bool → Rules
-rules_of paths force = record { paths = paths; force = force }
+abbrev pub rules_with : ℕ → Bool → Rules
+rules_with paths force = record { paths = paths; force = force }
 
 -- an auditor at the beginning of a trace
 abbrev pub first_audit : Rules → Audit
@@ -43,7 +44,7 @@ next_collection a = collection_of a.rules (a.collections + 1) a.heap
 
 -- the same with the counts of a trace, which need not be the numbers of references
 abbrev pub next_counted : TraceResult → Audit → Collection
-next_counted t a = collection_counted (counted_in (placed_of a) t) a.rules (a.collections + 1) a.heap
+next_counted t a = collection_counted (counted_in (audit_table a) (counts_of t)) a.rules (a.collections + 1) a.heap
 
 -- the auditor after its next collection
 unfoldable pub after_next : Audit → Audit
@@ -56,4 +57,4 @@ after_next a = record a {
 -- The roles are those of the auditor's heap, by the cells and types of its table.
 pub record AreItsRoles (a : Audit) (r : RoleTable) : Type 0 where
   pub of_table : AreRolesOf a.cells (length a.heap.table.kinds) r
-  pub of_heap : StandFor (placed_of a) r a.heap
+  pub of_heap : StandFor (audit_table a) r a.heap

@@ -5,7 +5,7 @@ ghost use Rattle.heap_base.specs.declared.limits.TheConstants.{MOST_WORKERS};
 ghost use Rattle.graph_meaning.specs.Answers.{RefusesBy};
 ghost use Rattle.graph_meaning.specs.Step.{step};
 ghost use Rattle.heap_parts.specs.Parts.{is_operation};
-ghost use Rattle.audit_core.specs.Audit.{first_audit, rules_of, placed_of};
+ghost use Rattle.audit_core.specs.Audit.{first_audit, rules_with, audit_table};
 
 use graph_meaning::{Event, Stop};
 use heap_base::OutOfMemory;
@@ -33,11 +33,11 @@ impl Model for Auditor {
     ghost use Rattle.std.specs.Prelude.{◌*◌, ◌<◌, ◌≤◌};
     ghost use Rattle.heap_base.specs.declared.limits.TheConstants.{MOST_WORKERS};
     ghost use Rattle.verdict_list.specs.Listed.{most_verdicts};
-    ghost use Rattle.audit_core.specs.Audit.{Audit, rules_of};
+    ghost use Rattle.audit_core.specs.Audit.{Audit, rules_with};
 
     ghost Value = { Audit };
 
-    ghost view = { λ a. record { heap = a.parts.heap; cells = a.parts.cells; rules = rules_of a.paths a.force; collections = a.collections; violations = a.violations } };
+    ghost view = { λ a. record { heap = a.parts.heap; cells = a.parts.cells; rules = rules_with a.paths a.force; collections = a.collections; violations = a.violations } };
 
     ghost invariant = { λ a. (0 < a.workers) × (a.workers ≤ MOST_WORKERS) × (a.violations ≤ most_verdicts * a.collections) };
 }
@@ -53,7 +53,7 @@ impl Auditor {
         force: bool,
     ) -> Result<Auditor, OutOfMemory>
         requires workers { (0 < workers) × (workers ≤ MOST_WORKERS) }
-        ensures first { IfOk result (λ a. a ≡ first_audit (rules_of paths force)) }
+        ensures first { IfOk result (λ a. a ≡ first_audit (rules_with paths force)) }
     {
         let parts = HeapParts::make(alloc)?;
         Ok(Auditor {
@@ -95,7 +95,7 @@ impl Auditor {
 
     /// The table of the heap.
     pub fn table(&self) -> &ObjectTable
-        ensures table { result.now ≡ placed_of self.now }
+        ensures table { result.now ≡ audit_table self.now }
     {
         self.parts.table()
     }

@@ -2,7 +2,7 @@
 ghost use Rattle.std.specs.Prelude.{◌≡◌, ◌<◌, ◌≤◌, ◌^◌, is_some, IfOk, IfSome, OnOk, OnErr};
 ghost use Rattle.heap_parts.specs.Parts.{AreDeadAndTraced};
 ghost use Rattle.heap_trace.specs.Traces.{IsTraceOf};
-ghost use Rattle.audit_core.specs.Audit.{AreItsRoles, heap_in, placed_of, next_collection, next_counted, after_next};
+ghost use Rattle.audit_core.specs.Audit.{AreItsRoles, heap_in, audit_table, next_collection, next_counted, after_next};
 
 use crate::auditor::Auditor;
 use graph_meaning::{Collection, Roles};
@@ -41,7 +41,7 @@ impl Auditor {
     ) -> Result<Collection, OutOfMemory>
         requires few { self.old.collections < 2 ^ 40 }
         requires roles { AreItsRoles self.old roles.now }
-        requires trace { IsTraceOf (placed_of self.old) self.old.heap traced.now }
+        requires trace { IsTraceOf (audit_table self.old) self.old.heap traced.now }
         ensures found { IfOk result (λ c. c ≡ next_counted traced.now self.old) }
         ensures after { OnOk result (self.new ≡ record (after_next self.old) { cells = self.new.cells }) }
         ensures err { OnErr result (self.new ≡ self.old) }
@@ -66,7 +66,7 @@ impl Auditor {
     // For each cell whether its object is to be cut off, where that is done by force.
     fn to_clear(&self, roles: &Roles, traced: &Traced) -> Result<Option<Vec<bool>>, OutOfMemory>
         requires roles { AreItsRoles self.now roles.now }
-        requires trace { IsTraceOf (placed_of self.now) self.now.heap traced.now }
+        requires trace { IsTraceOf (audit_table self.now) self.now.heap traced.now }
         ensures force { IfOk result (λ to_clear. is_some to_clear ≡ self.now.rules.force) }
         ensures flags { IfOk result (λ to_clear. IfSome to_clear (λ flags. AreDeadAndTraced (heap_in self.now) flags.items)) }
     {

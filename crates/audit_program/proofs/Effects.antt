@@ -12,7 +12,7 @@ use Rattle.run_meaning.specs.Run.{collection_rules, Totals, RunState, Turn, turn
 use Rattle.report.specs.Text.{collection_text, halt_text}
 use Rattle.trace_run.specs.declared.taken.Taken.{Taken}
 use Rattle.trace_run.specs.declared.taken.Taken.TheVariants.{GoesOn, Halts}
-use Rattle.trace_run.specs.Program.{Effect, Last, Takes, goes_on, refuses, halts}
+use Rattle.trace_run.specs.Program.{Effect, Last, TakesEvent, goes_on, refuses, halts}
 use Rattle.audit_program.specs.Audits.{AuditState, IsDue, audit_meaning, behind_next, effect_of, next_of}
 use Rattle.run_meaning.proofs.Runs.{with_collections-one, turn-applied, turn-refused, turn-collect}
 use Rattle.report.proofs.Runs.{collections_text-one}
@@ -57,7 +57,8 @@ collect-halts s stops =
     ∙ ap (halt (collection_text made) made.number) violations
 
 -- what the next collection makes due is its effect
-pub takes-due : (s : AuditState) (made : Result Taken OutOfMemory) → IfOk made (IsDue s.rules.react (next_of s)) → IfOk made (λ taken. Takes (audit_meaning.takes s Collect) (Ok taken) (behind_next s))
+pub takes-due : (s : AuditState) (made : Result Taken OutOfMemory) → IfOk made (IsDue s.rules.react (next_of s)) →
+    IfOk made (λ taken. TakesEvent (audit_meaning.takes s Collect) (Ok taken) (behind_next s))
 takes-due s (Err e) due = tt
 takes-due s (Ok (GoesOn text)) due = collect-goes_on s due.0 ∙ ap (λ t. goes_on t (behind_next s)) (sym due.1)
 takes-due s (Ok (Halts text last)) due =

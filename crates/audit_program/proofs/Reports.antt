@@ -8,7 +8,7 @@ use Rattle.graph_meaning.specs.declared.refusal.Refusal.{Refusal}
 use Rattle.graph_meaning.specs.Heap.{Heap}
 use Rattle.trace_reader.specs.Meaning.{Item, blank, event, refused}
 use Rattle.run_meaning.specs.Run as meant
-use Rattle.run_meaning.specs.Run.{RunRules, collection_rules, Totals, RunState, Turn, Ran, with_collections, violations_of, turn, turn_of_item}
+use Rattle.run_meaning.specs.Run.{RunRules, collection_rules, Totals, RunState, Turn, RunResult, with_collections, violations_of, turn, turn_of_item}
 use Rattle.run_meaning.specs.Run.{turn_by_step, end_of_trace, refused_line, halted, is_halted, is_at_end, empty_run, with_earlier, run_status}
 use Rattle.run_meaning.specs.Run.{first_state, run}
 use Rattle.report.specs.Text.{halt_text}
@@ -30,7 +30,7 @@ Report-equal r q text part status halting ending =
     ∙ ap (λ e. of q.text q.part q.status q.is_halted e) ending
 
 -- the report on a run, where collections of these totals came before it
-abbrev report_from : Totals → Ran → Report
+abbrev report_from : Totals → RunResult → Report
 report_from before ran = record {
   text = report_text before ran;
   part = collections_text ran.collections;
@@ -85,7 +85,7 @@ takes-turn rules s (refused r) = refl
 -- ---- all items
 
 -- the report behind collections that came before
-from-with_earlier : (before : Totals) (made : List Collection) (r : Ran) (q : program.Ran) → report_on q ≡ report_from (with_collections before made) r →
+from-with_earlier : (before : Totals) (made : List Collection) (r : RunResult) (q : program.RunResult) → report_on q ≡ report_from (with_collections before made) r →
     report_on (behind (collections_text made) q) ≡ report_from before (with_earlier made r)
 from-with_earlier before made r q same = Report-equal _ _
     (runs.report_on-text (collections_text made) q ∙ ap (λ (x : Report). collections_text made ++ x.text) same ∙ sym (report_text-with_earlier before made r))
@@ -104,7 +104,7 @@ at_refusal before line r = Report-equal _ _ (sym (report_text-empty_run before (
 module _ (rules : RunRules) (s : RunState) (item : Item) (items : List Item)
     (later : (t : RunState) → report_on (program.run audit_meaning (state_of rules t) t.lines items) ≡ report_from t.totals (run rules t items))
   where
-    abbrev next : AuditState → program.Ran
+    abbrev next : AuditState → program.RunResult
     next t = program.run audit_meaning t (s.lines + 1) items
 
     of_turn : (t : Turn) → turn_of_item (collection_rules rules) s item ≡ Ok t → (b : Bool) → meant.halts rules.react t.collections ≡ b →

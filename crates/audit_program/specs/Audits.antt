@@ -13,7 +13,7 @@ use Rattle.report.specs.Text.{collection_text, halt_text, end_text}
 use Rattle.report.specs.Report.{collections_text, report_of, part_of}
 use Rattle.trace_run.specs.declared.taken.Taken.{Taken}
 use Rattle.trace_run.specs.declared.taken.Taken.TheVariants.{GoesOn, Halts}
-use Rattle.trace_run.specs.Program.{Effect, goes_on, refuses, halts, Last, Meaning, Report, due_text}
+use Rattle.trace_run.specs.Program.{Effect, goes_on, refuses, halts, Last, ProgramMeaning, Report, due_text}
 
 -- a run that shows so many paths of each collection and does this about violations
 abbrev pub rules_by : ℕ → React → RunRules
@@ -50,7 +50,7 @@ abbrev pub end_of : Totals → Last
 end_of t = record { text = end_text t.collections t.violations; violated = nat_lt 0 t.violations }
 
 -- An event is a turn of the run, which doesn't depend on the number of lines before it.
-abbrev pub audit_meaning : Meaning AuditState
+abbrev pub audit_meaning : ProgramMeaning AuditState
 audit_meaning = record {
   takes = λ s e. effect_of s.rules (turn (collection_rules s.rules) (record { heap = s.heap; totals = s.totals; lines = 0 }) e);
   ends = λ s. end_of s.totals;

@@ -26,8 +26,8 @@ abbrev pub usage_line : List ℕ
 usage_line = codes "usage: gcaudit [--workers N] [--paths P] [--react R] [--gen K --size N]\n"
 
 -- What stands after a run by these rules, by its status: the report is that of an audit.
-abbrev pub Ended : RunRules → Outside → Outside → Status → Type 0
-Ended rules old new answer = outcome.Ended (report_by_rules rules) old new answer
+abbrev pub EndsAs : RunRules → Outside → Outside → Status → Type 0
+EndsAs rules old new answer = outcome.EndsAs (report_by_rules rules) old new answer
 
 -- What was appended where the words of the command line are refused, by the status.
 abbrev pub RefusesWords : Outside → Outside → Status → Type 0

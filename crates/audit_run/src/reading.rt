@@ -2,9 +2,9 @@
 ghost use Rattle.std.specs.Prelude.{◌<◌, ◌≤◌};
 ghost use Rattle.heap_base.specs.Streams.{stream_of};
 ghost use Rattle.heap_base.specs.declared.limits.TheConstants.{LONGEST_TRACE, MOST_WORKERS};
-ghost use Rattle.trace_run.specs.Outcome.{seen};
+ghost use Rattle.trace_run.specs.Outcome.{outside_of};
 ghost use Rattle.trace_audit.specs.Auditors.{MakesCollections, MayCollect};
-ghost use Rattle.audit_run.specs.Outcome.{Ended, rules_in};
+ghost use Rattle.audit_run.specs.Outcome.{EndsAs, rules_in};
 
 use audit_core::Auditor;
 use graph_meaning::Collection;
@@ -25,9 +25,9 @@ pub fn audit_lines<
     requires workers { (0 < audit.plan.workers) × (audit.plan.workers ≤ MOST_WORKERS) }
     requires may_collect { MayCollect C.pre }
     requires collects { MakesCollections C.step }
-    ensures { let old = seen (stream_of S.left S.faults source.old) (stream_of K.held K.faults sink.old) in
-        let new = seen (stream_of S.left S.faults source.new) (stream_of K.held K.faults sink.new) in
-        Ended (rules_in audit.plan) old new result }
+    ensures { let old = outside_of (stream_of S.left S.faults source.old) (stream_of K.held K.faults sink.old) in
+        let new = outside_of (stream_of S.left S.faults source.new) (stream_of K.held K.faults sink.new) in
+        EndsAs (rules_in audit.plan) old new result }
 {
     let plan = audit.plan;
     if plan.workers == 1 {

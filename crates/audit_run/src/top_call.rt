@@ -6,9 +6,9 @@ ghost use Rattle.generator.specs.Plans.{IsPlan};
 ghost use Rattle.generator.specs.Text.{gen_text};
 ghost use Rattle.settings.specs.declared.settings.Settings.{Settings};
 ghost use Rattle.settings.specs.Settings.{settings_by};
-ghost use Rattle.trace_run.specs.Outcome.{reading, seen};
+ghost use Rattle.trace_run.specs.Outcome.{reading, outside_of};
 ghost use Rattle.trace_audit.specs.Auditors.{IsCollected, MakesCollections, MayCollect};
-ghost use Rattle.audit_run.specs.Outcome.{Ended, RefusesWords, rules_in, rules_of};
+ghost use Rattle.audit_run.specs.Outcome.{EndsAs, RefusesWords, rules_in, rules_of};
 
 use crate::reading::audit_lines;
 use audit_core::Auditor;
@@ -37,15 +37,15 @@ pub fn audit<S: Source, K: Sink, G: Gate, R: Threads + Sync>(
     sink: &mut K,
     gate: &G,
 ) -> Status
-    ensures taken { let old = seen (stream_of S.left S.faults source.old) (stream_of K.held K.faults sink.old) in
-        let new = seen (stream_of S.left S.faults source.new) (stream_of K.held K.faults sink.new) in
-        (s : Settings) → settings_by (map (λ w. w.now) words.now) ≡ Some s → s.plan ≡ None → Ended (rules_of s) old new result }
-    ensures generated { let old = seen (stream_of S.left S.faults source.old) (stream_of K.held K.faults sink.old) in
-        let new = seen (stream_of S.left S.faults source.new) (stream_of K.held K.faults sink.new) in
+    ensures taken { let old = outside_of (stream_of S.left S.faults source.old) (stream_of K.held K.faults sink.old) in
+        let new = outside_of (stream_of S.left S.faults source.new) (stream_of K.held K.faults sink.new) in
+        (s : Settings) → settings_by (map (λ w. w.now) words.now) ≡ Some s → s.plan ≡ None → EndsAs (rules_of s) old new result }
+    ensures generated { let old = outside_of (stream_of S.left S.faults source.old) (stream_of K.held K.faults sink.old) in
+        let new = outside_of (stream_of S.left S.faults source.new) (stream_of K.held K.faults sink.new) in
         (s : Settings) (plan : GenPlan) → settings_by (map (λ w. w.now) words.now) ≡ Some s → s.plan ≡ Some plan →
-        (source.new ≡ source.old) × ((left : List ℕ) × Ended (rules_of s) (reading (gen_text plan.number plan.size) old) (reading left new) result) }
-    ensures refused { let old = seen (stream_of S.left S.faults source.old) (stream_of K.held K.faults sink.old) in
-        let new = seen (stream_of S.left S.faults source.new) (stream_of K.held K.faults sink.new) in
+        (source.new ≡ source.old) × ((left : List ℕ) × EndsAs (rules_of s) (reading (gen_text plan.number plan.size) old) (reading left new) result) }
+    ensures refused { let old = outside_of (stream_of S.left S.faults source.old) (stream_of K.held K.faults sink.old) in
+        let new = outside_of (stream_of S.left S.faults source.new) (stream_of K.held K.faults sink.new) in
         settings_by (map (λ w. w.now) words.now) ≡ None → (source.new ≡ source.old) × RefusesWords old new result }
 {
     let settings = match settings_of(alloc, words) {
@@ -81,9 +81,9 @@ fn audit_generated<
     requires may_collect { MayCollect C.pre }
     requires collects { MakesCollections C.step }
     ensures { (stream : Stream) →
-        let old = seen stream (stream_of K.held K.faults sink.old) in
-        let new = seen stream (stream_of K.held K.faults sink.new) in
-        (left : List ℕ) × Ended (rules_in audit.plan) (reading (gen_text trace.number trace.size) old) (reading left new) result }
+        let old = outside_of stream (stream_of K.held K.faults sink.old) in
+        let new = outside_of stream (stream_of K.held K.faults sink.new) in
+        (left : List ℕ) × EndsAs (rules_in audit.plan) (reading (gen_text trace.number trace.size) old) (reading left new) result }
 {
     let Ok(mut source) = GenSource::make(audit.plan.alloc, trace) else {
         return Status::NoMemory;

@@ -5,7 +5,7 @@ use Rattle.std.specs.List.{All, AllByRecursion, Contains}
 use Rattle.heap_base.specs.declared.task.Task.{Task}
 use Rattle.steal_pool.specs.Jobs.{AllFit}
 use Rattle.steal_pool.specs.Runs.{HaveRoom, most_tasks}
-use Rattle.crew_support.specs.CellTasks.{tasks_below, cells_meaning, AreFirst}
+use Rattle.crew_support.specs.CellTasks.{tasks_below, cells_meaning, AreFirstTasks}
 use Rattle.steal_pool.proofs.Elements.{all-snoc}
 
 abbrev pub task_of : ℕ → Task
@@ -25,7 +25,7 @@ module _ {J S : Type 0} (count : S → ℕ) (room turns : J → ℕ) (cells : �
   abbrev AreCounters : List J → Type 0
   AreCounters js = All (λ j. (room j ≡ cells) × (turns j ≡ 2 ^ 40)) js
 
-  pub rooms : (n : ℕ) (js : List J) (fs : List (List Task)) → cells + 5 ≤ n → AreCounters js → AreFirst (length js) cells fs → HaveRoom (cells_meaning {J = J} {S = S} count room turns) n js fs
+  pub rooms : (n : ℕ) (js : List J) (fs : List (List Task)) → cells + 5 ≤ n → AreCounters js → AreFirstTasks (length js) cells fs → HaveRoom (cells_meaning {J = J} {S = S} count room turns) n js fs
   rooms n [] [] l a b = refl
   rooms n [] (f ∷ fs) l a b = absurd (let e = b.0 in omega arith)
   rooms n (j ∷ js) [] l a b = absurd (let e = b.0 in omega arith)
@@ -35,7 +35,7 @@ module _ {J S : Type 0} (count : S → ℕ) (room turns : J → ℕ) (cells : �
       let count-is = b.0 in
       (omega arith, rooms n js fs l (λ k d m. a (suc k) d (omega arith)) (omega arith, b.1.1))
 
-  few : (js : List J) (fs : List (List Task)) → AreCounters js → AreFirst (length js) cells fs → most_tasks (cells_meaning {J = J} {S = S} count room turns) js fs ≤ length js * (cells + 4)
+  few : (js : List J) (fs : List (List Task)) → AreCounters js → AreFirstTasks (length js) cells fs → most_tasks (cells_meaning {J = J} {S = S} count room turns) js fs ≤ length js * (cells + 4)
   few [] [] a b = omega arith
   few [] (f ∷ fs) a b = absurd (let e = b.0 in omega arith)
   few (j ∷ js) [] a b = absurd (let e = b.0 in omega arith)
@@ -51,7 +51,7 @@ module _ {J S : Type 0} (count : S → ℕ) (room turns : J → ℕ) (cells : �
   le-mul_right a b zero l = omega arith
   le-mul_right a b (suc c) l = let r = le-mul_right a b c l in let x : a * suc c ≡ a * c + a = omega arith in let y : b * suc c ≡ b * c + b = omega arith in omega arith
 
-  pub enough_turns : (js : List J) (fs : List (List Task)) → length js ≤ 16 → cells < 2 ^ 32 → AreCounters js → AreFirst (length js) cells fs →
+  pub enough_turns : (js : List J) (fs : List (List Task)) → length js ≤ 16 → cells < 2 ^ 32 → AreCounters js → AreFirstTasks (length js) cells fs →
       All (λ j. most_tasks (cells_meaning {J = J} {S = S} count room turns) js fs ≤ turns j) js
   enough_turns js fs l m a b k d n =
       let t = (a k d n).1 in
@@ -59,7 +59,7 @@ module _ {J S : Type 0} (count : S → ℕ) (room turns : J → ℕ) (cells : �
       let p = le-mul_right (length js) 16 (cells + 4) l in
       omega arith
 
-pub first_none : (workers cells : ℕ) → AreFirst workers cells (replicate workers [])
+pub first_none : (workers cells : ℕ) → AreFirstTasks workers cells (replicate workers [])
 first_none zero cells = (refl, tt)
 first_none (suc n) cells = let r = first_none n cells in ((let e = r.0 in omega arith), (((omega arith), tt), r.1))
 
@@ -73,8 +73,8 @@ at P [] i d a l = absurd (omega arith)
 at P (y ∷ ys) zero d a l = a.0
 at P (y ∷ ys) (suc i) d a l = at P ys i d a.1 (omega arith)
 
-pub first_more : (workers cells : ℕ) (fs : List (List Task)) (i c : ℕ) → AreFirst workers cells fs → i < workers → c < cells →
-    length (slice_index_or fs i []) < 4 → AreFirst workers cells (set fs i (slice_index_or fs i [] ++ task_of c ∷ []))
+pub first_more : (workers cells : ℕ) (fs : List (List Task)) (i c : ℕ) → AreFirstTasks workers cells fs → i < workers → c < cells →
+    length (slice_index_or fs i []) < 4 → AreFirstTasks workers cells (set fs i (slice_index_or fs i [] ++ task_of c ∷ []))
 first_more workers cells fs i c a l m few =
     let f = slice_index_or fs i [] in
     let P : List Task → Type 0 = λ g. (length g ≤ 4) × AllFit (tasks_below cells) g in

@@ -13,5 +13,5 @@ abbrev pub cells_meaning : {J S : Type 0} → (S → ℕ) → (J → ℕ) → (J
 cells_meaning count room turns = record { ready = λ _ _. ⊤; fit = λ _ s. tasks_below (count s); room = room; turns = turns; works = λ _ _ _ _. ⊤ }
 
 -- a list of at most four fit tasks for each worker
-abbrev pub AreFirst : ℕ → ℕ → List (List Task) → Type 0
-AreFirst workers cells fs = (length fs ≡ workers) × AllByRecursion (λ f. (length f ≤ 4) × AllFit (tasks_below cells) f) fs
+abbrev pub AreFirstTasks : ℕ → ℕ → List (List Task) → Type 0
+AreFirstTasks workers cells fs = (length fs ≡ workers) × AllByRecursion (λ f. (length f ≤ 4) × AllFit (tasks_below cells) f) fs

@@ -1,7 +1,7 @@
 //! A job that counts how often it did each cell.
 ghost use Rattle.std.specs.Prelude.{◌≡◌, ◌<◌, ◌^◌, IfOk, vec_len};
 ghost use Rattle.std.specs.List.{All};
-ghost use Rattle.crew_support.specs.CellTasks.{AreFirst};
+ghost use Rattle.crew_support.specs.CellTasks.{AreFirstTasks};
 
 use heap_base::{OutOfMemory, Task};
 use std::alloc::Global;
@@ -124,9 +124,9 @@ const MOST_FIRST: u32 = 4;
 
 // Adds the task of the cell, which comes second, for the worker, where there is such a worker and such a cell, and room for it.
 fn add_first(first: &mut FirstTasks, workers: u32, cells: u32, at: (u32, u32))
-    requires lists { AreFirst workers cells first.old.lists }
+    requires lists { AreFirstTasks workers cells first.old.lists }
     requires room { first.old.room ≡ 4 }
-    ensures lists { AreFirst workers cells first.new.lists }
+    ensures lists { AreFirstTasks workers cells first.new.lists }
     ensures room { first.new.room ≡ 4 }
 {
     let (worker, cell) = at;
@@ -142,7 +142,7 @@ pub fn first_tasks(
     cells: u32,
     firsts: &[(u32, u32)],
 ) -> Result<FirstTasks, OutOfMemory>
-    ensures { IfOk result (λ f. AreFirst workers cells f.lists) }
+    ensures { IfOk result (λ f. AreFirstTasks workers cells f.lists) }
 {
     let mut first = FirstTasks::make(alloc, workers, MOST_FIRST)?;
     for (worker, cell) in firsts {

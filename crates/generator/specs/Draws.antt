@@ -11,5 +11,5 @@ state_after zero first = first
 state_after (suc draws) first = next_state (state_after draws first)
 
 -- what the draw that led to this state gives: 0 to 32,767
-abbrev pub drawn : ℕ → ℕ
-drawn x = x / 65536
+abbrev pub draw_of : ℕ → ℕ
+draw_of x = x / 65536

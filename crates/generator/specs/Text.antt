@@ -1,7 +1,7 @@
 -- A generated trace, byte for byte. Numbers are decimal, and each line ends with a newline.
 use Rattle.std.specs.Prelude.{ℕ, ◌+◌, ◌-◌, ◌/◌, ◌%◌, ◌==◌, max, List, [], ◌++◌, if◌then◌else◌, codes, decimal}
 use Rattle.std.specs.List.{flat_map, range_with_len}
-use Rattle.generator.specs.Draws.{drawn, state_after}
+use Rattle.generator.specs.Draws.{draw_of, state_after}
 
 -- ---- lines
 
@@ -74,7 +74,7 @@ lines_by size id draw = alloc_line id (draw % 4) ++ held_line id draw ++ holds_l
 
 -- The lines of the object with this id: the id says how many draws there were, its own the last.
 abbrev pub object_lines : ℕ → ℕ → ℕ → List ℕ
-object_lines number size id = lines_by size id (drawn (state_after id number))
+object_lines number size id = lines_by size id (draw_of (state_after id number))
 
 -- ---- the trace
 

@@ -9,7 +9,7 @@ use Rattle.graph_meaning.specs.Step.{alloc_refusal, store_refusal, root_refusal,
 use Rattle.graph_meaning.specs.Examples.{DeadAndNamed, CycleIsFreed, FreedIsNotLive, RegionsNest, InstancesAreCounted, SharedIsFound, DeadIsCutOff, Refusals}
 use Rattle.graph_meaning.specs.Examples.{OwnershipIsKept, OwnershipIsLost, OwnerIsGone, OwneesInAList, PathsFromAnOwner, OwnerIsReplaced, OwnersDoNotMeet}
 use Rattle.graph_meaning.specs.Examples.{EdgesBackCount, ArrayIsShared, ArrayIsLetGo, LeastPredecessor, OnePathIsShown, WeakKeepsNothing, WeakFindsNothing}
-use Rattle.graph_meaning.specs.Examples.{ServicesDay, Generated, FreedIsNotCounted, SearchStopsAtOwners, LongPathIsCut, WeakIsKept, ForceClearsWhatStays}
+use Rattle.graph_meaning.specs.Examples.{ServicesDay, GeneratedTrace, FreedIsNotCounted, SearchStopsAtOwners, LongPathIsCut, WeakIsKept, ForceClearsWhatStays}
 use Rattle.graph_meaning.specs.Examples.{UnownedPathIsLonger}
 
 -- what opens the definitions that the examples compute with: of what is reached, of paths, of operations, of collections
@@ -125,7 +125,7 @@ pub services_day : ServicesDay
 unfolding all_definitions
 services_day = refl
 
-pub generated : Generated
+pub generated : GeneratedTrace
 unfolding all_definitions
 generated = refl
 

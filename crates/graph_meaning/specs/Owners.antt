@@ -9,5 +9,5 @@ pub record IsFlagged (flags : List Bool) (owners : List ℕ) : Type 0 where
   pub many : length owners ≡ sum_by bit flags
 
 -- a list with the value behind it until it has so many elements
-abbrev pub padded : {X : Type 0} → List X → ℕ → X → List X
-padded xs many x = xs ++ replicate (many - length xs) x
+abbrev pub with_padding : {X : Type 0} → List X → ℕ → X → List X
+with_padding xs many x = xs ++ replicate (many - length xs) x

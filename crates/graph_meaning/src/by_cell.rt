@@ -1,5 +1,5 @@
 ghost use Rattle.std.specs.Prelude.{◌≡◌, ◌<◌, ◌≤◌, IfOk, length, replicate, slice_index_or, slice_set, vec_capacity};
-ghost use Rattle.graph_meaning.specs.Owners.{padded};
+ghost use Rattle.graph_meaning.specs.Owners.{with_padding};
 
 use heap_base::OutOfMemory;
 use std::alloc::Global;
@@ -17,11 +17,11 @@ pub(crate) struct ByCell<T> {
 
 impl<T> Model for ByCell<T> {
     ghost use Rattle.std.specs.Prelude.{List, length, ◌≤◌, vec_capacity};
-    ghost use Rattle.graph_meaning.specs.Owners.{padded};
+    ghost use Rattle.graph_meaning.specs.Owners.{with_padding};
 
     ghost Value = { List T };
 
-    ghost view = { λ b. padded b.front.items b.cells b.rest };
+    ghost view = { λ b. with_padding b.front.items b.cells b.rest };
 
     ghost invariant = { λ b. (length b.front.items ≤ b.cells) × (b.cells ≤ vec_capacity b.front) };
 }
@@ -86,7 +86,7 @@ pub(crate) fn copy_with_room<T: Copy>(list: &Vec<T>) -> Result<Vec<T>, OutOfMemo
 // Puts the value last until there are so many.
 fn pad<T: Copy>(front: &mut Vec<T>, many: usize, value: T)
     requires room { many ≤ vec_capacity front.old }
-    ensures items { front.new.items ≡ padded front.old.items many value }
+    ensures items { front.new.items ≡ with_padding front.old.items many value }
     ensures room { vec_capacity front.new ≡ vec_capacity front.old }
 {
     for _ in front.len()..many {

@@ -1,6 +1,6 @@
 //! Worked examples of the definitions, each a theorem about a short trace.
 
-ghost use Rattle.graph_meaning.specs.Examples.{DeadAndNamed, CycleIsFreed, FreedIsNotLive, RegionsNest, InstancesAreCounted, SharedIsFound, OwnershipIsKept, OwnershipIsLost, OwnerIsGone, EdgesBackCount, ArrayIsShared, ArrayIsLetGo, OwneesInAList, LeastPredecessor, PathsFromAnOwner, OwnerIsReplaced, OnePathIsShown, WeakKeepsNothing, WeakFindsNothing, DeadIsCutOff, ServicesDay, Generated, Refusals, FreedIsNotCounted, SearchStopsAtOwners, OwnersDoNotMeet, LongPathIsCut, WeakIsKept, ForceClearsWhatStays, UnownedPathIsLonger};
+ghost use Rattle.graph_meaning.specs.Examples.{DeadAndNamed, CycleIsFreed, FreedIsNotLive, RegionsNest, InstancesAreCounted, SharedIsFound, OwnershipIsKept, OwnershipIsLost, OwnerIsGone, EdgesBackCount, ArrayIsShared, ArrayIsLetGo, OwneesInAList, LeastPredecessor, PathsFromAnOwner, OwnerIsReplaced, OnePathIsShown, WeakKeepsNothing, WeakFindsNothing, DeadIsCutOff, ServicesDay, GeneratedTrace, Refusals, FreedIsNotCounted, SearchStopsAtOwners, OwnersDoNotMeet, LongPathIsCut, WeakIsKept, ForceClearsWhatStays, UnownedPathIsLonger};
 
 /// `alloc 7 Order; root a 7; dead 7; collect`: one verdict, with the path that is the root alone.
 pub fn an_object_asserted_dead_that_a_root_names_is_a_verdict()
@@ -116,7 +116,7 @@ pub fn a_services_day_is_audited()
 
 /// Six objects with two owners: once the root is gone, the owners hold all six.
 pub fn owners_hold_what_no_root_reaches()
-    ensures { Generated }
+    ensures { GeneratedTrace }
 {}
 
 /// An object of the type that no root reaches isn't counted for the limit.

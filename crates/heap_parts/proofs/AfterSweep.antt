@@ -18,7 +18,7 @@ use Rattle.graph_meaning.proofs.Membership.{has_id-Contains}
 use Rattle.graph_meaning.proofs.Tracing.{traced_from_root, traced_along, traced_node}
 use Rattle.object_table.specs.Placed.{IsPlaced, LeadsToKept, kept_ids}
 use Rattle.assert_registry.specs.Assertions.{Assertions, AreOfSeenTypes}
-use Rattle.sweep.specs.Parts.{Parts, ArePartsOf, AreTraced, SweepsHeap, assertions_on, regions_with}
+use Rattle.sweep.specs.Parts.{PartsOfHeap, ArePartsOf, AreTracedIds, SweepsHeap, assertions_on, regions_with}
 use Rattle.heap_parts.specs.Parts.{AreParts, AreUnasserted, FlagTraced, IsWellFormed, heap_of, named_limits, placed_heap}
 use Rattle.region_log.specs.Regions.{RegionTable}
 use Rattle.heap_parts.proofs.Stepping.{well_formed-collection}
@@ -84,7 +84,7 @@ kinds-with_only : (kept : List ℕ) (t : Table) → (with_only kept t).kinds ≡
 unfolding with_only
 kinds-with_only kept t = refl
 
-module _ (s : Parts) (are : AreParts s) (placed : IsPlaced s.placed) (kept : List Bool) (tell : FlagTraced (placed_heap s) kept) where
+module _ (s : PartsOfHeap) (are : AreParts s) (placed : IsPlaced s.placed) (kept : List Bool) (tell : FlagTraced (placed_heap s) kept) where
   abbrev h : Heap
   h = heap_of s
 
@@ -108,7 +108,7 @@ module _ (s : Parts) (are : AreParts s) (placed : IsPlaced s.placed) (kept : Lis
       go false out true at = absurd (false≢true (sym out ∙ back at))
       go false out false is = out ∙ sym is
 
-  pub are_traced : AreTraced h stay
+  pub are_traced : AreTracedIds h stay
   are_traced id = kept_traced id ∙ sym (has_id-traced_ids h id)
 
   -- what is traced leads to what is traced
@@ -128,7 +128,7 @@ module _ (s : Parts) (are : AreParts s) (placed : IsPlaced s.placed) (kept : Lis
   pub parts_of_heap : ArePartsOf h s
   parts_of_heap = record { table = refl; dead = refl; unshared = refl; regions = refl; owners = refl }
 
-  module _ (after : Parts) (freed : ℕ) (sweeps : SweepsHeap h after freed) (table : after.placed.table ≡ with_only stay s.placed.table)
+  module _ (after : PartsOfHeap) (freed : ℕ) (sweeps : SweepsHeap h after freed) (table : after.placed.table ≡ with_only stay s.placed.table)
       (assertions : after.assertions ≡ assertions_on stay s.assertions) where
     same_kinds : after.placed.table.kinds ≡ s.placed.table.kinds
     same_kinds = ap (λ (t : Table). t.kinds) table ∙ kinds-with_only stay s.placed.table

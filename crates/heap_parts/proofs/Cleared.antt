@@ -18,10 +18,10 @@ use Rattle.graph_meaning.proofs.Edges.{plain_leaves_swept}
 use Rattle.graph_meaning.proofs.HeapLemmas.{is_live-with_only}
 use Rattle.graph_meaning.proofs.Keeping.{has_id-traced_ids}
 use Rattle.graph_meaning.proofs.Membership.{has_id-filter}
-use Rattle.object_table.specs.Placed.{Placed, IsPlaced, KeepsCells, kept_ids, id_in}
+use Rattle.object_table.specs.Placed.{PlacedTable, IsPlaced, KeepsCells, kept_ids, id_in}
 use Rattle.assert_registry.specs.Assertions.{Assertions, AreOfSeenTypes}
 use Rattle.assert_registry.specs.Laws.{StandFor}
-use Rattle.sweep.specs.Parts.{Parts, AreTraced, SweepsHeap, assertions_on, regions_with}
+use Rattle.sweep.specs.Parts.{PartsOfHeap, AreTracedIds, SweepsHeap, assertions_on, regions_with}
 use Rattle.object_table.proofs.ObjectsByCell.{held-within}
 use Rattle.region_log.specs.Regions.{RegionTable}
 use Rattle.heap_parts.specs.Parts.{AreDeadAndTraced, AreParts, AreUnasserted, FlagTraced, IsWellFormed, PlacedHeap, dead_below, heap_of, placed_heap, placed_in, named_limits}
@@ -65,7 +65,7 @@ flags_tell h placed r roles kept traced cells many = record {
 
 -- ---- after the sweep
 
-module _ (before after : Placed) (placed : IsPlaced before) (swept : IsPlaced after) (kept : List Bool)
+module _ (before after : PlacedTable) (placed : IsPlaced before) (swept : IsPlaced after) (kept : List Bool)
     (table : after.table ≡ with_only (kept_ids before.cells kept) before.table) (keeps : KeepsCells before after (kept_ids before.cells kept)) where
   -- an object that stays stood in its cell before
   stood : (cell id : ℕ) → id_in after cell ≡ Some id → id_in before cell ≡ Some id
@@ -78,7 +78,7 @@ module _ (before after : Placed) (placed : IsPlaced before) (swept : IsPlaced af
       subst (λ c. id_in before c ≡ Some id) (sym same) there.1
 
   -- the objects in the flagged cells are those that are asserted dead and were traced
-  pub cleared_are : (h : Heap) → AreTraced h (kept_ids before.cells kept) → (flags : List Bool) →
+  pub cleared_are : (h : Heap) → AreTracedIds h (kept_ids before.cells kept) → (flags : List Bool) →
       AreDeadAndTraced (let q : PlacedHeap = record { heap = h; cells = before.cells } in q) flags → (id : ℕ) →
       has_id (kept_ids after.cells flags) id ≡ has_id (violating_dead h) id
   cleared_are h traced flags are id = both_ways _ _ there back
@@ -130,7 +130,7 @@ left_without h left is rules force =
     is ∙ sym (plain_leaves_swept rules.paths h) ∙ ap (λ f. after_collection (let rs : Rules = record { paths = rules.paths; force = f } in rs) h) (sym force)
 
 -- by force the objects that are asserted dead and were traced are cut off
-pub left_by_force : (h : Heap) (swept after : Parts) → heap_of swept ≡ after_sweep h → (gone : ℕ → Bool) → gone ≡ has_id (violating_dead h) →
+pub left_by_force : (h : Heap) (swept after : PartsOfHeap) → heap_of swept ≡ after_sweep h → (gone : ℕ → Bool) → gone ≡ has_id (violating_dead h) →
     after.placed.table ≡ cut_off gone swept.placed.table → after.assertions ≡ swept.assertions → after.regions ≡ swept.regions → (rules : Rules) →
     rules.force ≡ true → heap_of after ≡ after_collection rules h
 unfolding after_collection
@@ -153,19 +153,19 @@ left_by_force h swept after left gone are table assertions regions rules force =
 -- ---- the sweep by force
 
 -- What a sweep by force leaves of the parts of a heap, and how many slots and roots it cleared.
-pub record IsSweptByForce (h : Heap) (after : Parts) (cleared : ℕ) : Type 0 where
+pub record IsSweptByForce (h : Heap) (after : PartsOfHeap) (cleared : ℕ) : Type 0 where
   pub left : (rules : Rules) → rules.force ≡ true → heap_of after ≡ after_collection rules h
   pub parts : AreParts after
   pub count : cleared ≡ holders_of (has_id (violating_dead h)) (after_sweep h).table
 
-module _ (s : Parts) (are : AreParts s) (placed : IsPlaced s.placed) (kept : List Bool) (tell : FlagTraced (placed_heap s) kept) where
+module _ (s : PartsOfHeap) (are : AreParts s) (placed : IsPlaced s.placed) (kept : List Bool) (tell : FlagTraced (placed_heap s) kept) where
   abbrev h : Heap
   h = heap_of s
 
   abbrev ids : List ℕ
   ids = kept_ids s.placed.cells kept
 
-  module _ (swept : Parts) (still : IsPlaced swept.placed) (freed : ℕ) (sweeps : SweepsHeap h swept freed)
+  module _ (swept : PartsOfHeap) (still : IsPlaced swept.placed) (freed : ℕ) (sweeps : SweepsHeap h swept freed)
       (table : swept.placed.table ≡ with_only ids s.placed.table) (keeps : KeepsCells s.placed swept.placed ids)
       (assertions : swept.assertions ≡ assertions_on ids s.assertions) (regions : swept.regions ≡ regions_with ids s.regions) (flags : List Bool)
       (to_clear : AreDeadAndTraced (placed_heap s) flags) where
@@ -184,7 +184,7 @@ module _ (s : Parts) (are : AreParts s) (placed : IsPlaced s.placed) (kept : Lis
     abbrev by_force : Rules
     by_force = record { paths = 0; force = true }
 
-    pub swept_by_force : (after : Parts) (cleared : ℕ) → after.placed.table ≡ cut_off gone swept.placed.table →
+    pub swept_by_force : (after : PartsOfHeap) (cleared : ℕ) → after.placed.table ≡ cut_off gone swept.placed.table →
         after.assertions ≡ swept.assertions → after.regions ≡ swept.regions → cleared ≡ holders_of gone swept.placed.table →
         IsSweptByForce h after cleared
     swept_by_force after cleared cut same_assertions same_regions count = record {

@@ -24,13 +24,13 @@ use Rattle.graph_meaning.specs.Step.{with_changed_slot, slot_holding, slot_made_
 use Rattle.graph_meaning.specs.Step.{step}
 use Rattle.graph_meaning.proofs.Keeping.{regions_of-live}
 use Rattle.graph_meaning.proofs.Rising.{alloc_refusal-None}
-use Rattle.object_table.specs.Placed.{Placed}
+use Rattle.object_table.specs.Placed.{PlacedTable}
 use Rattle.assert_registry.specs.Assertions.{Assertions, AreOfSeenTypes, with_room}
 use Rattle.assert_registry.proofs.ByName.{room_changes_no_limit}
 use Rattle.region_log.specs.Regions.{RegionTable, AreNested, IsAbove, start_refusal, end_refusal, with_region, without_innermost, without_innermost_ids, innermost}
 use Rattle.region_log.proofs.Above.{IsAbove-live}
 use Rattle.region_log.proofs.Steps.{step-start_region, step-assert_all_dead}
-use Rattle.sweep.specs.Parts.{Parts}
+use Rattle.sweep.specs.Parts.{PartsOfHeap}
 use Rattle.heap_parts.specs.Parts.{IsWellFormed, AreParts, AreUnasserted, Steps, heap_of, placed_heap, named_limits}
 use Rattle.heap_parts.proofs.Limits.{named-with_kind, named-with_room, named-set}
 use Rattle.heap_parts.proofs.Stepping.{steps-by, parts-after}
@@ -106,8 +106,8 @@ seen-with_kind limits kinds kind seen k some = go (is_seen kinds kind)
 
 -- ---- an operation that changes slots or roots alone
 
-module _ {T : Type 0} (s : Parts) (are : AreParts s) (after : Placed) (result : Result T Stop) where
-  abbrev s' : Parts
+module _ {T : Type 0} (s : PartsOfHeap) (are : AreParts s) (after : PlacedTable) (result : Result T Stop) where
+  abbrev s' : PartsOfHeap
   s' = record s { placed = after }
 
   abbrev table_change : Event → Option Refusal → Table → Type 0
@@ -131,7 +131,7 @@ module _ {T : Type 0} (s : Parts) (are : AreParts s) (after : Placed) (result : 
 
       same_kinds : (r : Result T Stop) → OnOk r (after.table ≡ t) → OnErr r (after ≡ s.placed) → after.table.kinds ≡ s.placed.table.kinds
       same_kinds (Ok x) done undone = ap (λ (table : Table). table.kinds) done ∙ kinds
-      same_kinds (Err e) done undone = ap (λ (p : Placed). p.table.kinds) undone
+      same_kinds (Err e) done undone = ap (λ (p : PlacedTable). p.table.kinds) undone
 
       seen : AreOfSeenTypes s.assertions.limits after.table.kinds
       seen = subst (AreOfSeenTypes s.assertions.limits) (sym (same_kinds result leaves err)) are.seen
@@ -160,8 +160,8 @@ module _ {T : Type 0} (s : Parts) (are : AreParts s) (after : Placed) (result : 
 
 -- ---- an operation that changes what is asserted of objects alone
 
-module _ {T : Type 0} (s : Parts) (are : AreParts s) (after : Assertions) (result : Result T Stop) where
-  abbrev r' : Parts
+module _ {T : Type 0} (s : PartsOfHeap) (are : AreParts s) (after : Assertions) (result : Result T Stop) where
+  abbrev r' : PartsOfHeap
   r' = record s { assertions = after }
 
   steps-assertions : (event : Event) (refusal : Option Refusal) (a : Assertions) →
@@ -214,8 +214,8 @@ module _ {T : Type 0} (s : Parts) (are : AreParts s) (after : Assertions) (resul
 -- ---- the others
 
 -- an object is added, also to the regions
-pub steps-alloc : {T : Type 0} (s : Parts) → AreParts s →
-    (after : Placed) (regions : RegionTable) (result : Result T Stop) (id : ℕ) (kind : List ℕ) (slots thread : ℕ) →
+pub steps-alloc : {T : Type 0} (s : PartsOfHeap) → AreParts s →
+    (after : PlacedTable) (regions : RegionTable) (result : Result T Stop) (id : ℕ) (kind : List ℕ) (slots thread : ℕ) →
     RefusesBy result (alloc_refusal s.placed.table id kind slots) →
     OnOk result ((after.table ≡ with_object s.placed.table id kind slots) × (regions.regions ≡ with_member s.regions.regions thread id)) →
     OnErr result ((after ≡ s.placed) × (regions.regions ≡ s.regions.regions)) →
@@ -240,7 +240,7 @@ steps-alloc {T} s are after regions result id kind slots thread refused leaves e
     t = s.placed.table
 
 -- a region begins
-pub steps-start_region : {T : Type 0} (s : Parts) → AreParts s → (after : RegionTable) (result : Result T Stop) (thread : ℕ) →
+pub steps-start_region : {T : Type 0} (s : PartsOfHeap) → AreParts s → (after : RegionTable) (result : Result T Stop) (thread : ℕ) →
     RefusesBy result (start_refusal s.regions.regions thread) →
     OnOk result ((after.regions ≡ with_region s.regions.regions thread) × (after.unasserted ≡ with_region s.regions.unasserted thread)) →
     OnErr result (after ≡ s.regions) →
@@ -263,7 +263,7 @@ steps-start_region {T} s are after result thread refused leaves err =
     agree (Err e) done undone = subst (λ (r : RegionTable). Agree s.assertions.dead r.regions r.unasserted) (sym undone) are.unasserted
 
 -- What the end of a region leaves of the parts: what was unasserted in it is asserted dead, and it is open no longer.
-pub record EndsRegion (s : Parts) (thread : ℕ) (after : Parts) : Type 0 where
+pub record EndsRegion (s : PartsOfHeap) (thread : ℕ) (after : PartsOfHeap) : Type 0 where
   pub placed : after.placed ≡ s.placed
   pub assertions : after.assertions ≡ record s.assertions { dead = fold (insert_key nat_cmp) s.assertions.dead (innermost s.regions.unasserted thread) }
   pub regions : after.regions.regions ≡ without_innermost s.regions.regions thread
@@ -271,7 +271,7 @@ pub record EndsRegion (s : Parts) (thread : ℕ) (after : Parts) : Type 0 where
   pub nested : AreNested (regions_of s.regions.unasserted thread)
 
 -- a region ends, and its objects are asserted dead
-pub steps-assert_all_dead : {T : Type 0} (s : Parts) → AreParts s → (after : Parts) (result : Result T Stop) (thread : ℕ) →
+pub steps-assert_all_dead : {T : Type 0} (s : PartsOfHeap) → AreParts s → (after : PartsOfHeap) (result : Result T Stop) (thread : ℕ) →
     RefusesBy result (end_refusal s.regions.regions thread) → OnOk result (EndsRegion s thread after) → OnErr result (after ≡ s) →
     Steps (placed_heap s) (AssertAllDead thread) result (placed_heap after) × AreParts after
 steps-assert_all_dead {T} s are after result thread refused leaves err =
@@ -301,9 +301,9 @@ steps-assert_all_dead {T} s are after result thread refused leaves err =
 
     seen : (r : Result T Stop) → OnOk r (EndsRegion s thread after) → OnErr r (after ≡ s) → AreOfSeenTypes after.assertions.limits after.placed.table.kinds
     seen (Ok x) e undone =
-        subst (λ (p : Placed). AreOfSeenTypes after.assertions.limits p.table.kinds) (sym e.placed)
+        subst (λ (p : PlacedTable). AreOfSeenTypes after.assertions.limits p.table.kinds) (sym e.placed)
         (subst (λ (a : Assertions). AreOfSeenTypes a.limits s.placed.table.kinds) (sym e.assertions) are.seen)
-    seen (Err x) e undone = subst (λ (p : Parts). AreOfSeenTypes p.assertions.limits p.placed.table.kinds) (sym undone) are.seen
+    seen (Err x) e undone = subst (λ (p : PartsOfHeap). AreOfSeenTypes p.assertions.limits p.placed.table.kinds) (sym undone) are.seen
 
     agree : (r : Result T Stop) → OnOk r (EndsRegion s thread after) → OnErr r (after ≡ s) → AreUnasserted after
     agree (Ok x) e undone =
@@ -333,13 +333,13 @@ refused_self t owner ownee result live other_live refused =
 -- ---- a new object and the regions
 
 -- the id of a new object is above all in the regions
-pub new_id-above : (s : Parts) → AreParts s → (id : ℕ) (kind : List ℕ) (slots thread : ℕ) → alloc_refusal s.placed.table id kind slots ≡ None → IsAbove id (regions_of s.regions.regions thread)
+pub new_id-above : (s : PartsOfHeap) → AreParts s → (id : ℕ) (kind : List ℕ) (slots thread : ℕ) → alloc_refusal s.placed.table id kind slots ≡ None → IsAbove id (regions_of s.regions.regions thread)
 new_id-above s are id kind slots thread none =
     IsAbove-live s.placed.table (regions_of s.regions.regions thread) id are.heap.rising (alloc_refusal-None s.placed.table id kind slots none)
     (regions_of-live s.placed.table s.regions.regions thread are.heap.refers.regions)
 
 -- the parts with a new object
-pub parts-alloc : (s : Parts) → AreParts s → (after : Placed) (regions : RegionTable) (id : ℕ) (kind : List ℕ) (slots thread : ℕ) →
+pub parts-alloc : (s : PartsOfHeap) → AreParts s → (after : PlacedTable) (regions : RegionTable) (id : ℕ) (kind : List ℕ) (slots thread : ℕ) →
     alloc_refusal s.placed.table id kind slots ≡ None → after.table ≡ with_object s.placed.table id kind slots →
     regions.regions ≡ with_member s.regions.regions thread id → regions.unasserted ≡ with_member s.regions.unasserted thread id →
     AreParts (record s { placed = after; regions = regions })
@@ -387,7 +387,7 @@ room_for_kind limits kinds kind number at =
         go true = omega arith
         go false = let more = length_push kinds kind in omega (arith, more)
 
-module _ (s : Parts) (are : AreParts s) (kind : List ℕ) (limit : ℕ) where
+module _ (s : PartsOfHeap) (are : AreParts s) (kind : List ℕ) (limit : ℕ) where
   abbrev t : Table
   t = s.placed.table
 
@@ -400,7 +400,7 @@ module _ (s : Parts) (are : AreParts s) (kind : List ℕ) (limit : ℕ) where
       record (heap_of s) { table = record t { kinds = with_kind t.kinds kind }; limits = insert_entry name_cmp (heap_of s).limits kind limit }
 
   -- Where it fails, there may be more room.
-  pub steps-no_limit : {T : Type 0} (e : Stop) (after : Placed) (assertions : Assertions) (room : ℕ) → RefusesBy {T = T} (Err e) refusal →
+  pub steps-no_limit : {T : Type 0} (e : Stop) (after : PlacedTable) (assertions : Assertions) (room : ℕ) → RefusesBy {T = T} (Err e) refusal →
       after ≡ s.placed → assertions ≡ record s.assertions { limits = with_room s.assertions.limits room } →
       Steps {T = T} (placed_heap s) (AssertInstances kind limit) (Err e) (placed_heap (record s { placed = after; assertions = assertions }))
   steps-no_limit {T} e after assertions room refused same more =
@@ -409,11 +409,11 @@ module _ (s : Parts) (are : AreParts s) (kind : List ℕ) (limit : ℕ) where
       ((λ i. placed_heap (record s { placed = same i; assertions = more i }))
       ∙ ap (λ named. record { heap = record (heap_of s) { limits = named }; cells = s.placed.cells }) (named-with_room t.kinds s.assertions.limits room))
 
-  pub parts-no_limit : (after : Placed) (assertions : Assertions) (room : ℕ) → after ≡ s.placed →
+  pub parts-no_limit : (after : PlacedTable) (assertions : Assertions) (room : ℕ) → after ≡ s.placed →
       assertions ≡ record s.assertions { limits = with_room s.assertions.limits room } →
       AreParts (record s { placed = after; assertions = assertions })
   parts-no_limit after assertions room same more =
-      subst (λ (p : Placed). AreParts (record s { placed = p; assertions = assertions })) (sym same)
+      subst (λ (p : PlacedTable). AreParts (record s { placed = p; assertions = assertions })) (sym same)
       (subst (λ (a : Assertions). AreParts (record s { assertions = a })) (sym more)
       (record {
         heap = subst (λ named. IsWellFormed (record (heap_of s) { limits = named })) (sym (named-with_room t.kinds s.assertions.limits room)) are.heap;
@@ -421,7 +421,7 @@ module _ (s : Parts) (are : AreParts s) (kind : List ℕ) (limit : ℕ) where
         unasserted = are.unasserted;
       }))
 
-  module _ (after : Placed) (assertions : Assertions) (number : ℕ) (none : refusal ≡ None)
+  module _ (after : PlacedTable) (assertions : Assertions) (number : ℕ) (none : refusal ≡ None)
       (seen : after.table ≡ record t { kinds = with_kind t.kinds kind }) (at : position (bytes_eq kind) after.table.kinds ≡ Some number)
       (set : assertions ≡ record s.assertions { limits = slice_set (with_room s.assertions.limits (length t.kinds + 1)) number (Some limit) }) where
     abbrev kinds : List (List ℕ)

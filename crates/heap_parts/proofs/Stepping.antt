@@ -17,11 +17,11 @@ use Rattle.graph_meaning.proofs.Rising.{ids_always_rise}
 use Rattle.object_table.specs.Placed.{nothing_placed}
 use Rattle.assert_registry.specs.Assertions.{AreOfSeenTypes, no_assertions}
 use Rattle.region_log.specs.Regions.{no_open_regions}
-use Rattle.sweep.specs.Parts.{Parts}
+use Rattle.sweep.specs.Parts.{PartsOfHeap}
 use Rattle.heap_parts.specs.declared.parts.HeapParts.TheInside.{Inside}
 use Rattle.heap_parts.specs.Parts.{PlacedHeap, IsWellFormed, AreParts, AreUnasserted, Steps, placed_heap}
 
-abbrev pub parts_in : Inside → Parts
+abbrev pub parts_in : Inside → PartsOfHeap
 parts_in i = record { placed = i.table; assertions = i.registry; regions = i.regions }
 
 -- ---- what is true of a heap at any time
@@ -59,7 +59,7 @@ well_formed-after before after event (Err e) steps well =
     subst IsWellFormed (sym (ap (λ (h : PlacedHeap). h.heap) steps.err)) well
 
 -- after an operation the parts are those of a heap, where types with a limit were seen
-pub parts-after : {T : Type 0} (before after : Parts) (event : Event) (result : Result T Stop) →
+pub parts-after : {T : Type 0} (before after : PartsOfHeap) (event : Event) (result : Result T Stop) →
     Steps (placed_heap before) event result (placed_heap after) → AreParts before →
     AreOfSeenTypes after.assertions.limits after.placed.table.kinds → AreUnasserted after → AreParts after
 parts-after before after event result steps are seen unasserted = record {

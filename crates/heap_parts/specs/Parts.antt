@@ -15,8 +15,8 @@ use Rattle.graph_meaning.specs.Reach.{has_id}
 use Rattle.graph_meaning.specs.Roles.{RoleTable}
 use Rattle.graph_meaning.specs.Step.{step}
 use Rattle.assert_registry.specs.Assertions.{AreOfSeenTypes}
-use Rattle.object_table.specs.Placed.{Placed, id_in}
-use Rattle.sweep.specs.Parts.{Parts}
+use Rattle.object_table.specs.Placed.{PlacedTable, id_in}
+use Rattle.sweep.specs.Parts.{PartsOfHeap}
 
 -- The types that have a limit, by name, each with its limit: type k has the k-th limit, if that is one.
 abbrev pub named_limits : List (List ℕ) → List (Option ℕ) → List (List ℕ × ℕ)
@@ -26,7 +26,7 @@ named_limits (kind ∷ kinds) (None ∷ limits) = named_limits kinds limits
 named_limits (kind ∷ kinds) (Some limit ∷ limits) = insert_entry name_cmp (named_limits kinds limits) kind limit
 
 -- the heap with these parts
-abbrev pub heap_of : Parts → Heap
+abbrev pub heap_of : PartsOfHeap → Heap
 heap_of parts = record {
   table = parts.placed.table;
   dead = parts.assertions.dead;
@@ -42,10 +42,10 @@ pub record PlacedHeap : Type 0 where
   pub cells : List (Option ℕ)
 
 -- the heap's table with its cells
-abbrev pub placed_in : PlacedHeap → Placed
+abbrev pub placed_in : PlacedHeap → PlacedTable
 placed_in h = record { table = h.heap.table; cells = h.cells }
 
-abbrev pub placed_heap : Parts → PlacedHeap
+abbrev pub placed_heap : PartsOfHeap → PlacedHeap
 placed_heap parts = record { heap = heap_of parts; cells = parts.placed.cells }
 
 -- What is true of a heap at any time of a trace: what it refers to is live, the ids of its objects rise, its parts are in
@@ -61,12 +61,12 @@ abbrev pub without_dead : List ℕ → List ℕ → List ℕ
 without_dead dead ids = filter (λ id. not (has_id dead id)) ids
 
 -- What is in an open region and not asserted dead is unasserted in it: what an inner region had when it ended is asserted dead.
-abbrev pub AreUnasserted : Parts → Type 0
+abbrev pub AreUnasserted : PartsOfHeap → Type 0
 AreUnasserted parts =
     map (map (without_dead parts.assertions.dead)) parts.regions.regions ≡ map (map (without_dead parts.assertions.dead)) parts.regions.unasserted
 
 -- The parts are those of such a heap, each type with a limit was seen, and what regions have to assert is known.
-pub record AreParts (parts : Parts) : Type 0 where
+pub record AreParts (parts : PartsOfHeap) : Type 0 where
   pub heap : IsWellFormed (heap_of parts)
   pub seen : AreOfSeenTypes parts.assertions.limits parts.placed.table.kinds
   pub unasserted : AreUnasserted parts

@@ -11,16 +11,16 @@ use Rattle.graph_meaning.specs.Step.{step}
 use Rattle.trace_reader.specs.Meaning.{Item, blank, event, refused}
 use Rattle.trace_reader.specs.Items.{items_of}
 use Rattle.trace_run.specs.Lines.{whole_lines}
-use Rattle.trace_run.specs.Program.{Ran, by_effect, takes_item, run, report_by}
-use Rattle.trace_run.specs.Outcome.{Outside, Ended, RefusesWords, trace_report}
+use Rattle.trace_run.specs.Program.{RunResult, by_effect, takes_item, run, report_by}
+use Rattle.trace_run.specs.Outcome.{Outside, EndsAs, RefusesWords, trace_report}
 use Rattle.heap_snapshot.specs.declared.from_trace.TheConstants.{LONGEST_TRACE}
 use Rattle.heap_snapshot.specs.FromTrace.{effect_of_step, takes, snapshot_meaning}
 use Rattle.heap_snapshot.specs.Laws.{WritesAtTheEnd}
-use Rattle.heap_snapshot.specs.ToTrace.{Converted}
+use Rattle.heap_snapshot.specs.ToTrace.{ConversionEndsAs}
 
 -- ---- no text is due
 
-module _ (line : ℕ) (on : Heap → Ran) (later : (h : Heap) → (on h).texts ≡ []) where
+module _ (line : ℕ) (on : Heap → RunResult) (later : (h : Heap) → (on h).texts ≡ []) where
   step_silent : (found : Result Heap Refusal) → (by_effect line (effect_of_step found) on).texts ≡ []
   step_silent (Ok h) = later h
   step_silent (Err r) = refl
@@ -60,13 +60,13 @@ nothing_appended (Some xs) None none appends = absurd appends
 nothing_appended (Some xs) (Some ys) none appends = appends ∙ ap (λ (t : List ℕ). xs ++ t) none ∙ append-nil xs
 
 module _ (old new : Outside) {status : Status} (failed : status ≡ ReadFault) where
-  pub unwritten_from_trace : Ended (trace_report LONGEST_TRACE (report_by snapshot_meaning empty_heap)) old new status → Keeps old.sink.bytes new.sink.bytes
+  pub unwritten_from_trace : EndsAs (trace_report LONGEST_TRACE (report_by snapshot_meaning empty_heap)) old new status → Keeps old.sink.bytes new.sink.bytes
   unwritten_from_trace ended =
-      let cut = (subst (λ (s : Status). Ended (trace_report LONGEST_TRACE (report_by snapshot_meaning empty_heap)) old new s) failed ended).1 in
+      let cut = (subst (λ (s : Status). EndsAs (trace_report LONGEST_TRACE (report_by snapshot_meaning empty_heap)) old new s) failed ended).1 in
       nothing_appended old.sink.bytes new.sink.bytes (writes_at_the_end (items_of LONGEST_TRACE (whole_lines cut.bytes))) cut.part
 
-  pub unwritten_to_trace : Converted old new status → Keeps old.sink.bytes new.sink.bytes
-  unwritten_to_trace converted = (subst (λ (s : Status). Converted old new s) failed converted).1
+  pub unwritten_to_trace : ConversionEndsAs old new status → Keeps old.sink.bytes new.sink.bytes
+  unwritten_to_trace converted = (subst (λ (s : Status). ConversionEndsAs old new s) failed converted).1
 
   pub unwritten_usage : (usage : List ℕ) → RefusesWords usage old new status → Keeps old.sink.bytes new.sink.bytes
   unwritten_usage usage refuses = absurd (subst (λ (s : Status). RefusesWords usage old new s) failed refuses)

@@ -11,9 +11,9 @@ use Rattle.heap_base.specs.declared.status.Status.TheVariants.{Clean, TraceFault
 use Rattle.graph_meaning.specs.declared.views.HeapView.{HeapView}
 use Rattle.snapshot_text.specs.declared.read.TheConstants.{LONGEST_SNAPSHOT}
 use Rattle.snapshot_text.specs.declared.refusal.SnapWhy.TheVariants.{TooLong}
-use Rattle.snapshot_text.specs.Reading.{Refusal, refused, line_behind, snapshot_in}
+use Rattle.snapshot_text.specs.Reading.{Refusal, refusal_at, line_behind, snapshot_in}
 use Rattle.trace_run.specs.Outcome.{Outside, WritesOnce, sink_change}
-use Rattle.heap_snapshot.specs.ToTrace.{IsRead, WritesPart, Converted, status_by, status_of, text_by, text_of}
+use Rattle.heap_snapshot.specs.ToTrace.{IsRead, WritesPart, ConversionEndsAs, view_status, snapshot_status, text_by, text_of}
 
 -- the bytes past the most that a snapshot may have don't matter
 same_reading : (text more : List ℕ) → LONGEST_SNAPSHOT < length text → snapshot_in (text ++ more) ≡ snapshot_in text
@@ -21,18 +21,19 @@ unfolding snapshot_in
 same_reading text more long =
     let le : LONGEST_SNAPSHOT ≤ length text = omega arith in
     let long_all : LONGEST_SNAPSHOT < length (text ++ more) = omega (arith, length-append text more) in
-    let all : snapshot_in (text ++ more) ≡ refused (line_behind (take LONGEST_SNAPSHOT (text ++ more))) TooLong =
+    let all : snapshot_in (text ++ more) ≡ refusal_at (line_behind (take LONGEST_SNAPSHOT (text ++ more))) TooLong =
     cond-true (ltb LONGEST_SNAPSHOT (length (text ++ more))) _ _ (lt-ltb LONGEST_SNAPSHOT (length (text ++ more)) long_all) in
-    let some : snapshot_in text ≡ refused (line_behind (take LONGEST_SNAPSHOT text)) TooLong = cond-true (ltb LONGEST_SNAPSHOT (length text)) _ _ (lt-ltb LONGEST_SNAPSHOT (length text) long) in
-    all ∙ ap (λ (t : List ℕ). refused (line_behind t) TooLong) (take-append-le LONGEST_SNAPSHOT text more le) ∙ sym some
+    let some : snapshot_in text ≡ refusal_at (line_behind (take LONGEST_SNAPSHOT text)) TooLong = cond-true (ltb LONGEST_SNAPSHOT (length text)) _ _ (lt-ltb LONGEST_SNAPSHOT (length text) long) in
+    all ∙ ap (λ (t : List ℕ). refusal_at (line_behind t) TooLong) (take-append-le LONGEST_SNAPSHOT text more le) ∙ sym some
 
 -- where the bytes are a snapshot, they are no more than one may have
-short_if_clean : (text : List ℕ) → status_of text ≡ Clean → length text ≤ LONGEST_SNAPSHOT
+short_if_clean : (text : List ℕ) → snapshot_status text ≡ Clean → length text ≤ LONGEST_SNAPSHOT
 unfolding snapshot_in
 short_if_clean text clean =
     ⊎_elim (λ (long : LONGEST_SNAPSHOT < length text).
-    let long_text : snapshot_in text ≡ refused (line_behind (take LONGEST_SNAPSHOT text)) TooLong = cond-true (ltb LONGEST_SNAPSHOT (length text)) _ _ (lt-ltb LONGEST_SNAPSHOT (length text) long) in
-    let fault : status_of text ≡ TraceFault = ap status_by long_text in absurd (cc))
+    let long_text : snapshot_in text ≡ refusal_at (line_behind (take LONGEST_SNAPSHOT text)) TooLong =
+    cond-true (ltb LONGEST_SNAPSHOT (length text)) _ _ (lt-ltb LONGEST_SNAPSHOT (length text) long) in
+    let fault : snapshot_status text ≡ TraceFault = ap view_status long_text in absurd (cc))
     (λ (short : length text ≤ LONGEST_SNAPSHOT). short) (cases_lt LONGEST_SNAPSHOT (length text))
 
 -- the bytes that the source had left, or those that were read where it doesn't tell them
@@ -55,39 +56,39 @@ module _ (old new : Outside) (text bytes : List ℕ) (read : IsRead old.source.b
   same_text : text_of text ≡ text_of bytes
   same_text = ap text_by (sym all.same)
 
-  same_status : status_of bytes ≡ status_of text
-  same_status = ap status_by all.same
+  same_status : snapshot_status bytes ≡ snapshot_status text
+  same_status = ap view_status all.same
 
   whole_part : AppendsPart old.sink.bytes new.sink.bytes (text_of text) → WritesPart old new
   whole_part part = record { bytes = bytes; snapshot = all.told; part = subst (λ (t : List ℕ). AppendsPart old.sink.bytes new.sink.bytes t) same_text part }
 
-  written : (found : Result HeapView Refusal) → snapshot_in text ≡ found → Appends old.sink.bytes new.sink.bytes (text_of text) → Converted old new (status_by found)
+  written : (found : Result HeapView Refusal) → snapshot_in text ≡ found → Appends old.sink.bytes new.sink.bytes (text_of text) → ConversionEndsAs old new (view_status found)
   written (Ok v) is appends = record {
     bytes = bytes;
     snapshot = all.told;
-    read = subst (Consumes old.source.bytes new.source.bytes) (sym (all.short (short_if_clean text (ap status_by is)))) read.consumed;
-    taken = same_status ∙ ap status_by is;
+    read = subst (Consumes old.source.bytes new.source.bytes) (sym (all.short (short_if_clean text (ap view_status is)))) read.consumed;
+    taken = same_status ∙ ap view_status is;
     text = subst (λ (t : List ℕ). Appends old.sink.bytes new.sink.bytes t) same_text appends;
   }
   written (Err r) is appends = record {
     bytes = bytes;
     snapshot = all.told;
-    refused = same_status ∙ ap status_by is;
+    refused = same_status ∙ ap view_status is;
     text = subst (λ (t : List ℕ). Appends old.sink.bytes new.sink.bytes t) same_text appends;
   }
 
 -- what was read, and then written once
 converted : (old new : Outside) (text : List ℕ) (answer : Status) → IsRead old.source.bytes new.source.bytes text →
-    WritesOnce (text_of text) (status_of text) (sink_change old.sink new.sink) answer → Converted old new answer
+    WritesOnce (text_of text) (snapshot_status text) (sink_change old.sink new.sink) answer → ConversionEndsAs old new answer
 converted old new text answer read writes =
     let (bytes, all) = all_of old.source.bytes new.source.bytes text read in
     ⊎_elim
-    (λ done. subst (Converted old new) (sym done.0) (written old new text bytes read all (snapshot_in text) refl done.1))
-    (λ failed. subst (Converted old new) (sym failed.0) (failed.1, whole_part old new text bytes read all failed.2)) writes
+    (λ done. subst (ConversionEndsAs old new) (sym done.0) (written old new text bytes read all (snapshot_in text) refl done.1))
+    (λ failed. subst (ConversionEndsAs old new) (sym failed.0) (failed.1, whole_part old new text bytes read all failed.2)) writes
 
 -- the same, of a text and a status that are those of what was read
 module _ (old new : Outside) (text : List ℕ) {written : List ℕ} {status answer : Status} (read : IsRead old.source.bytes new.source.bytes text) where
-  pub converted_by : written ≡ text_of text → status ≡ status_of text → WritesOnce written status (sink_change old.sink new.sink) answer → Converted old new answer
+  pub converted_by : written ≡ text_of text → status ≡ snapshot_status text → WritesOnce written status (sink_change old.sink new.sink) answer → ConversionEndsAs old new answer
   converted_by is_text is_status writes =
       let with_text = subst (λ (t : List ℕ). WritesOnce t status (sink_change old.sink new.sink) answer) is_text writes in
       converted old new text answer read (subst (λ (s : Status). WritesOnce (text_of text) s (sink_change old.sink new.sink) answer) is_status with_text)

@@ -31,10 +31,10 @@ use Rattle.graph_meaning.specs.Views.{object_view, heap_view}
 use Rattle.graph_meaning.proofs.HeapLemmas.{has_id-ids}
 use Rattle.trace_reader.specs.Meaning.{event, ◌>>=◌}
 use Rattle.snapshot_text.specs.Dangling.{object_ids}
-use Rattle.snapshot_text.specs.Formed.{IsWellFormed, kinds_of}
+use Rattle.snapshot_text.specs.Formed.{IsWellFormed, kind_names}
 use Rattle.snapshot_text.proofs.Formed.{slot_total}
 use Rattle.snapshot_text.proofs.Legal.{IsLegalObject}
-use Rattle.heap_snapshot.specs.FromTrace.{heap_of}
+use Rattle.heap_snapshot.specs.FromTrace.{bare_heap}
 use Rattle.heap_snapshot.specs.HeapOfTrace.{alloc_of, stores_from, stores_of, root_of, events_of, heap_after}
 use Rattle.heap_snapshot.proofs.Making.{alloc_answers, store_answers}
 
@@ -103,7 +103,7 @@ seen kinds o = with_kind kinds o.kind
 
 -- the table of these objects, with every slot empty
 abbrev table_of : List ObjectView → ℕ → Table
-table_of objects greatest = record { objects = map empty_object objects; roots = []; greatest = greatest; kinds = kinds_of objects }
+table_of objects greatest = record { objects = map empty_object objects; roots = []; greatest = greatest; kinds = kind_names objects }
 
 slot_count-empty : (before : ℕ) (objects : List ObjectView) →
     fold (λ (n : ℕ) (o : Object). n + length o.slots) before (map empty_object objects) ≡ fold (λ (n : ℕ) (o : ObjectView). n + length o.slots) before objects
@@ -153,11 +153,11 @@ alloc_allowed t o has =
 table_of-push : (done : List ObjectView) (o : ObjectView) (greatest : ℕ) → table_of (done ++ o ∷ []) o.id ≡ with_object (table_of done greatest) o.id o.kind (length o.slots)
 unfolding with_object
 table_of-push done o greatest =
-    ap (λ (xs : List Object). record { objects = xs; roots = []; greatest = o.id; kinds = kinds_of (done ++ o ∷ []) }) (map-append empty_object done (o ∷ []))
+    ap (λ (xs : List Object). record { objects = xs; roots = []; greatest = o.id; kinds = kind_names (done ++ o ∷ []) }) (map-append empty_object done (o ∷ []))
     ∙ ap (λ (ks : List (List ℕ)). record { objects = map empty_object done ++ empty_object o ∷ []; roots = []; greatest = o.id; kinds = ks }) (fold_push seen [] done o)
 
 alloc_one : (done : List ObjectView) (o : ObjectView) (greatest : ℕ) → HasRoomFor (table_of done greatest) o
-    → step (heap_of (table_of done greatest)) (alloc_of o) ≡ Ok (heap_of (table_of (done ++ o ∷ []) o.id))
+    → step (bare_heap (table_of done greatest)) (alloc_of o) ≡ Ok (bare_heap (table_of (done ++ o ∷ []) o.id))
 alloc_one done o greatest has =
     alloc_answers (table_of done greatest) (table_of (done ++ o ∷ []) o.id) o.id o.kind (length o.slots) 0 (Ok tt)
     (alloc_allowed (table_of done greatest) o has) (table_of-push done o greatest)
@@ -175,7 +175,7 @@ rising_tail o rest rising i j d below within = rising (suc i) (suc j) d (omega a
 record MayFollow (done rest : List ObjectView) (greatest : ℕ) : Type 0 where
   few : length done + length rest ≤ MOST_OBJECTS
   room : slot_total (done ++ rest) ≤ MOST_SLOTS
-  kinds : length (kinds_of (done ++ rest)) ≤ MOST_KINDS
+  kinds : length (kind_names (done ++ rest)) ≤ MOST_KINDS
   above : All (λ (id : ℕ). greatest < id) (object_ids rest)
   rising : Rising rest
 
@@ -187,10 +187,10 @@ first_has_room done o rest greatest may =
     let sum : slot_total now ≡ slot_total done + length o.slots = sum_by-append (λ (x : ObjectView). length x.slots) done (o ∷ []) ∙ omega arith in
     let split : slot_total (now ++ rest) ≡ slot_total now + slot_total rest = sum_by-append (λ (x : ObjectView). length x.slots) now rest in
     let room : slot_total (now ++ rest) ≤ MOST_SLOTS = subst (λ (xs : List ObjectView). slot_total xs ≤ MOST_SLOTS) (sym all) may.room in
-    let kinds : length (kinds_of (now ++ rest)) ≤ MOST_KINDS = subst (λ (xs : List ObjectView). length (kinds_of xs) ≤ MOST_KINDS) (sym all) may.kinds in
-    let more : length (kinds_of now) ≤ length (fold seen (kinds_of now) rest) = more_kinds (kinds_of now) rest in
-    let kinds_split : length (kinds_of (now ++ rest)) ≡ length (fold seen (kinds_of now) rest) = ap (λ (ks : List (List ℕ)). length ks) (fold-append seen [] now rest) in
-    let kinds_now : length (kinds_of now) ≤ MOST_KINDS = omega (arith, kinds, more, kinds_split) in
+    let kinds : length (kind_names (now ++ rest)) ≤ MOST_KINDS = subst (λ (xs : List ObjectView). length (kind_names xs) ≤ MOST_KINDS) (sym all) may.kinds in
+    let more : length (kind_names now) ≤ length (fold seen (kind_names now) rest) = more_kinds (kind_names now) rest in
+    let kinds_split : length (kind_names (now ++ rest)) ≡ length (fold seen (kind_names now) rest) = ap (λ (ks : List (List ℕ)). length ks) (fold-append seen [] now rest) in
+    let kinds_now : length (kind_names now) ≤ MOST_KINDS = omega (arith, kinds, more, kinds_split) in
     let few = may.few in
     record {
       above = All-head (λ (id : ℕ). greatest < id) o.id (object_ids rest) may.above;
@@ -200,8 +200,8 @@ first_has_room done o rest greatest may =
     }
 
 alloc_all : (done rest : List ObjectView) (greatest : ℕ) → MayFollow done rest greatest
-    → (last : ℕ) × (run_of (heap_of (table_of done greatest)) (map alloc_of rest) ≡ Ok (heap_of (table_of (done ++ rest) last)))
-alloc_all done [] greatest may = (greatest, ap (λ (xs : List ObjectView). Ok (heap_of (table_of xs greatest))) (sym (append-nil done)))
+    → (last : ℕ) × (run_of (bare_heap (table_of done greatest)) (map alloc_of rest) ≡ Ok (bare_heap (table_of (done ++ rest) last)))
+alloc_all done [] greatest may = (greatest, ap (λ (xs : List ObjectView). Ok (bare_heap (table_of xs greatest))) (sym (append-nil done)))
 alloc_all done (o ∷ rest) greatest may =
     let now : List ObjectView = done ++ o ∷ [] in
     let all : now ++ rest ≡ done ++ o ∷ rest = append_assoc done (o ∷ []) rest in
@@ -210,13 +210,13 @@ alloc_all done (o ∷ rest) greatest may =
     let later = alloc_all now rest o.id (record {
       few = omega (arith, few, length-append done (o ∷ []));
       room = subst (λ (xs : List ObjectView). slot_total xs ≤ MOST_SLOTS) (sym all) may.room;
-      kinds = subst (λ (xs : List ObjectView). length (kinds_of xs) ≤ MOST_KINDS) (sym all) may.kinds;
+      kinds = subst (λ (xs : List ObjectView). length (kind_names xs) ≤ MOST_KINDS) (sym all) may.kinds;
       above = rising_head o rest may.rising;
       rising = rising_tail o rest may.rising;
     }) in (
       later.0,
-      then_event (heap_of (table_of done greatest)) (heap_of (table_of now o.id)) (alloc_of o) (map alloc_of rest) one ∙ later.1
-          ∙ ap (λ (xs : List ObjectView). Ok (heap_of (table_of xs later.0))) all,
+      then_event (bare_heap (table_of done greatest)) (bare_heap (table_of now o.id)) (alloc_of o) (map alloc_of rest) one ∙ later.1
+          ∙ ap (λ (xs : List ObjectView). Ok (bare_heap (table_of xs later.0))) all,
     )
 
 -- ---- stores
@@ -278,7 +278,7 @@ module _ (t : Table) (before after : List Object) (o : ObjectView) (apart : Apar
       ap (λ (xs : List Object). with_objects t xs) (sym all)
 
   store_one : (done rest : List Slot) (x : Slot) (to : ℕ) → is_live (place (done ++ x ∷ rest)) to ≡ true →
-      step (heap_of (place (done ++ x ∷ rest))) (Store o.id (length done) (Some to)) ≡ Ok (heap_of (place (done ++ slot_holding (Some to) x ∷ rest)))
+      step (bare_heap (place (done ++ x ∷ rest))) (Store o.id (length done) (Some to)) ≡ Ok (bare_heap (place (done ++ slot_holding (Some to) x ∷ rest)))
   store_one done rest x to live =
       let slots : List Slot = done ++ x ∷ rest in
       let within : length done < length slots = omega (arith, length-append done (x ∷ rest)) in
@@ -296,25 +296,26 @@ module _ (t : Table) (before after : List Object) (o : ObjectView) (apart : Apar
 
     -- the same with one slot more behind those that are done
     one_more : (done : List Slot) (x : Slot) (slots : List (Option ℕ)) →
-        run_of (heap_of (place ((done ++ x ∷ []) ++ replicate (length slots) empty_slot))) (stores_from o.id (length (done ++ x ∷ [])) slots)
-        ≡ Ok (heap_of (place ((done ++ x ∷ []) ++ map slot_of slots)))
-        → run_of (heap_of (place (done ++ x ∷ replicate (length slots) empty_slot))) (stores_from o.id (length done + 1) slots) ≡ Ok (heap_of (place (done ++ x ∷ map slot_of slots)))
+        run_of (bare_heap (place ((done ++ x ∷ []) ++ replicate (length slots) empty_slot))) (stores_from o.id (length (done ++ x ∷ [])) slots)
+        ≡ Ok (bare_heap (place ((done ++ x ∷ []) ++ map slot_of slots)))
+        → run_of (bare_heap (place (done ++ x ∷ replicate (length slots) empty_slot))) (stores_from o.id (length done + 1) slots) ≡ Ok (bare_heap (place (done ++ x ∷ map slot_of slots)))
     one_more done x slots is =
         let rest : List Slot = replicate (length slots) empty_slot in
-        ap (λ (n : ℕ). run_of (heap_of (place (done ++ x ∷ rest))) (stores_from o.id n slots)) (sym (length-append done (x ∷ [])))
-        ∙ ap (λ (xs : List Slot). run_of (heap_of (place xs)) (stores_from o.id (length (done ++ x ∷ [])) slots)) (sym (append_assoc done (x ∷ []) rest))
+        ap (λ (n : ℕ). run_of (bare_heap (place (done ++ x ∷ rest))) (stores_from o.id n slots)) (sym (length-append done (x ∷ [])))
+        ∙ ap (λ (xs : List Slot). run_of (bare_heap (place xs)) (stores_from o.id (length (done ++ x ∷ [])) slots)) (sym (append_assoc done (x ∷ []) rest))
         ∙ is
-        ∙ ap (λ (xs : List Slot). Ok (heap_of (place xs))) (append_assoc done (x ∷ []) (map slot_of slots))
+        ∙ ap (λ (xs : List Slot). Ok (bare_heap (place xs))) (append_assoc done (x ∷ []) (map slot_of slots))
 
     slots_stored : (done : List Slot) (slots : List (Option ℕ)) → All (λ (held : Option ℕ). IfSome held (λ to. IsTrue (has_id all to))) slots
-        → run_of (heap_of (place (done ++ replicate (length slots) empty_slot))) (stores_from o.id (length done) slots) ≡ Ok (heap_of (place (done ++ map slot_of slots)))
+        → run_of (bare_heap (place (done ++ replicate (length slots) empty_slot))) (stores_from o.id (length done) slots) ≡ Ok (bare_heap (place (done ++ map slot_of slots)))
     slots_stored done [] refer = refl
     slots_stored done (None ∷ slots) refer =
         one_more done empty_slot slots (slots_stored (done ++ empty_slot ∷ []) slots (All-tail (λ (held : Option ℕ). IfSome held (λ to. IsTrue (has_id all to))) None slots refer))
     slots_stored done (Some to ∷ slots) refer =
         let rest : List Slot = replicate (length slots) empty_slot in
         let there : IsTrue (has_id all to) = All-head (λ (held : Option ℕ). IfSome held (λ to. IsTrue (has_id all to))) (Some to) slots refer in
-        then_event (heap_of (place (done ++ empty_slot ∷ rest))) (heap_of (place (done ++ slot_of (Some to) ∷ rest))) (Store o.id (length done) (Some to)) (stores_from o.id (length done + 1) slots)
+        then_event (bare_heap (place (done ++ empty_slot ∷ rest))) (bare_heap (place (done ++ slot_of (Some to) ∷ rest)))
+        (Store o.id (length done) (Some to)) (stores_from o.id (length done + 1) slots)
         (store_one done rest empty_slot to (lives (done ++ empty_slot ∷ rest) to there))
         ∙ one_more done (slot_of (Some to)) slots
         (slots_stored (done ++ slot_of (Some to) ∷ []) slots
@@ -357,7 +358,7 @@ module _ (t : Table) (all : List ℕ) where
   }
 
   objects_stored : (done : List Object) (rest : List ObjectView) → MayStore done rest
-      → run_of (heap_of (with_objects t (done ++ map empty_object rest))) (flat_map stores_of rest) ≡ Ok (heap_of (with_objects t (done ++ map full rest)))
+      → run_of (bare_heap (with_objects t (done ++ map empty_object rest))) (flat_map stores_of rest) ≡ Ok (bare_heap (with_objects t (done ++ map full rest)))
   objects_stored done [] may = refl
   objects_stored done (o ∷ rest) may =
       let after : List Object = map empty_object rest in
@@ -368,10 +369,10 @@ module _ (t : Table) (all : List ℕ) where
       let refers = All-head (Refers all) o rest may.refer in
       let stored = slots_stored t done after o apart (apart_emptied o.id rest (rising_head o rest may.rising)) all ids_same [] o.slots refers in
       let later = objects_stored (done ++ full o ∷ []) rest (first_stored done o rest may) in
-      then_events (heap_of (with_objects t (done ++ empty_object o ∷ after))) (heap_of (with_objects t (done ++ full o ∷ after))) (stores_of o) (flat_map stores_of rest) stored
-      ∙ ap (λ (xs : List Object). run_of (heap_of (with_objects t xs)) (flat_map stores_of rest)) (sym (append_assoc done (full o ∷ []) after))
+      then_events (bare_heap (with_objects t (done ++ empty_object o ∷ after))) (bare_heap (with_objects t (done ++ full o ∷ after))) (stores_of o) (flat_map stores_of rest) stored
+      ∙ ap (λ (xs : List Object). run_of (bare_heap (with_objects t xs)) (flat_map stores_of rest)) (sym (append_assoc done (full o ∷ []) after))
       ∙ later
-      ∙ ap (λ (xs : List Object). Ok (heap_of (with_objects t xs))) (append_assoc done (full o ∷ []) (map full rest))
+      ∙ ap (λ (xs : List Object). Ok (bare_heap (with_objects t xs))) (append_assoc done (full o ∷ []) (map full rest))
 
 -- ---- roots
 
@@ -402,16 +403,16 @@ root_allowed t name id live few =
     and_false false = refl
 
 root_one : (t : Table) (roots : Roots) (name : List ℕ) (id : ℕ) → is_live (with_roots t roots) id ≡ true → length roots < MOST_ROOTS → All (λ (r : List ℕ × ℕ). name_cmp r.0 name ≡ Less) roots
-    → step (heap_of (with_roots t roots)) (Root name (Some id)) ≡ Ok (heap_of (with_roots t (roots ++ (name, id) ∷ [])))
+    → step (bare_heap (with_roots t roots)) (Root name (Some id)) ≡ Ok (bare_heap (with_roots t (roots ++ (name, id) ∷ [])))
 unfolding step with_root
 root_one t roots name id live few below =
-    ap (λ (o : Option Refusal). heap_unless o (heap_of (with_roots t (insert_entry name_cmp roots name id)))) (root_allowed (with_roots t roots) name id live few)
-    ∙ ap (λ (rs : Roots). Ok (heap_of (with_roots t rs))) (insert_last roots name id below)
+    ap (λ (o : Option Refusal). heap_unless o (bare_heap (with_roots t (insert_entry name_cmp roots name id)))) (root_allowed (with_roots t roots) name id live few)
+    ∙ ap (λ (rs : Roots). Ok (bare_heap (with_roots t rs))) (insert_last roots name id below)
 
 roots_set : (t : Table) (done rest : Roots) → All (λ (r : List ℕ × ℕ). is_live t r.1 ≡ true) rest → length done + length rest ≤ MOST_ROOTS →
     All (λ (r : List ℕ × ℕ). All (λ (n : List ℕ). name_cmp r.0 n ≡ Less) (keys_of rest)) done → IsStrictlySortedBy name_cmp (keys_of rest)
-    → run_of (heap_of (with_roots t done)) (map root_of rest) ≡ Ok (heap_of (with_roots t (done ++ rest)))
-roots_set t done [] live few below sorted = ap (λ (rs : Roots). Ok (heap_of (with_roots t rs))) (sym (append-nil done))
+    → run_of (bare_heap (with_roots t done)) (map root_of rest) ≡ Ok (bare_heap (with_roots t (done ++ rest)))
+roots_set t done [] live few below sorted = ap (λ (rs : Roots). Ok (bare_heap (with_roots t rs))) (sym (append-nil done))
 roots_set t done (r ∷ rest) live few below sorted =
     let now : Roots = done ++ r ∷ [] in
     let lower : All (λ (x : List ℕ × ℕ). name_cmp x.0 r.0 ≡ Less) done =
@@ -425,10 +426,10 @@ roots_set t done (r ∷ rest) live few below sorted =
     (λ (x : List ℕ × ℕ). All (λ (n : List ℕ). name_cmp x.0 n ≡ Less) (keys_of rest))
     (λ x low. All-tail (λ (n : List ℕ). name_cmp x.0 n ≡ Less) r.0 (keys_of rest) low) done below) here in
     let count : length now ≡ length done + 1 = length-append done (r ∷ []) in
-    then_event (heap_of (with_roots t done)) (heap_of (with_roots t now)) (root_of r) (map root_of rest)
+    then_event (bare_heap (with_roots t done)) (bare_heap (with_roots t now)) (root_of r) (map root_of rest)
     (root_one t done r.0 r.1 (All-head (λ (r : List ℕ × ℕ). is_live t r.1 ≡ true) r rest live) (omega (arith, few)) lower)
     ∙ roots_set t now rest (All-tail (λ (r : List ℕ × ℕ). is_live t r.1 ≡ true) r rest live) (omega (arith, few, count)) below_now (sorted_tail name_cmp r.0 (keys_of rest) sorted)
-    ∙ ap (λ (rs : Roots). Ok (heap_of (with_roots t rs))) (append_assoc done (r ∷ []) rest)
+    ∙ ap (λ (rs : Roots). Ok (bare_heap (with_roots t rs))) (append_assoc done (r ∷ []) rest)
 
 -- ---- the whole
 
@@ -457,7 +458,7 @@ remakes_view v formed =
     let rooted = roots_set u [] v.roots live (omega (arith, formed.few_roots)) (All-nil _) formed.names in
     let allocs : List Event = map alloc_of v.objects in
     let stores : List Event = flat_map stores_of v.objects in (
-      heap_of (with_roots u v.roots),
-      then_events empty_heap (heap_of u) (allocs ++ stores) (map root_of v.roots) (then_events empty_heap (heap_of t) allocs stores made.1 ∙ stored) ∙ rooted,
+      bare_heap (with_roots u v.roots),
+      then_events empty_heap (bare_heap u) (allocs ++ stores) (map root_of v.roots) (then_events empty_heap (bare_heap t) allocs stores made.1 ∙ stored) ∙ rooted,
       ap (λ (objects : List ObjectView). record { objects = objects; roots = v.roots }) (views-full v.objects),
     )

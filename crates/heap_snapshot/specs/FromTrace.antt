@@ -10,7 +10,7 @@ use Rattle.graph_meaning.specs.Heap.{Heap, Table, empty_heap}
 use Rattle.graph_meaning.specs.Step.{step}
 use Rattle.graph_meaning.specs.Views.{heap_view}
 use Rattle.snapshot_text.specs.Text.{snapshot_text}
-use Rattle.trace_run.specs.Program.{Effect, goes_on, refuses, Meaning}
+use Rattle.trace_run.specs.Program.{Effect, goes_on, refuses, ProgramMeaning}
 
 -- an operation makes no text due
 abbrev pub effect_of_step : Result Heap Refusal → Effect Heap
@@ -32,12 +32,12 @@ takes h (AssertOwnedBy owner ownee) = refuses UnknownOp
 takes h Collect = refuses UnknownOp
 
 -- the text of the heap is the last text
-abbrev pub snapshot_meaning : Meaning Heap
+abbrev pub snapshot_meaning : ProgramMeaning Heap
 snapshot_meaning = record { takes = takes; ends = λ h. record { text = snapshot_text (heap_view h.table); violated = false } }
 
 -- no region is open and nothing is asserted
-abbrev pub heap_of : Table → Heap
-heap_of t = record empty_heap { table = t }
+abbrev pub bare_heap : Table → Heap
+bare_heap t = record empty_heap { table = t }
 
 -- the answer to a step is what it leads to, unless memory ran out
 abbrev pub Answers : Result Heap Refusal → Result ⊤ Stop → Heap → Type 0

@@ -23,23 +23,23 @@ why_text Unended = codes "Unended"
 why_text (Dangling id) = codes "Dangling " ++ decimal id
 
 -- the line of a refusal
-unfoldable pub fault_text : ℕ → SnapWhy → List ℕ
-fault_text line why = codes "fault line " ++ decimal line ++ codes ": " ++ why_text why ++ codes "\n"
+unfoldable pub snapshot_fault_text : ℕ → SnapWhy → List ℕ
+snapshot_fault_text line why = codes "fault line " ++ decimal line ++ codes ": " ++ why_text why ++ codes "\n"
 
 abbrev pub text_by : Result HeapView Refusal → List ℕ
 text_by (Ok v) = trace_text v
-text_by (Err r) = fault_text r.line r.why
+text_by (Err r) = snapshot_fault_text r.line r.why
 
-abbrev pub status_by : Result HeapView Refusal → Status
-status_by (Ok v) = Clean
-status_by (Err r) = TraceFault
+abbrev pub view_status : Result HeapView Refusal → Status
+view_status (Ok v) = Clean
+view_status (Err r) = TraceFault
 
 -- the trace of the snapshot that the bytes are, or the line of the refusal
 abbrev pub text_of : List ℕ → List ℕ
 text_of bytes = text_by (snapshot_in bytes)
 
-abbrev pub status_of : List ℕ → Status
-status_of bytes = status_by (snapshot_in bytes)
+abbrev pub snapshot_status : List ℕ → Status
+snapshot_status bytes = view_status (snapshot_in bytes)
 
 -- ---- what stands when a run has returned
 
@@ -48,14 +48,14 @@ pub record Converts (old new : Outside) : Type 0 where
   pub bytes : List ℕ
   pub snapshot : IsTrace old bytes
   pub read : Consumes old.source.bytes new.source.bytes bytes
-  pub taken : status_of bytes ≡ Clean
+  pub taken : snapshot_status bytes ≡ Clean
   pub text : Appends old.sink.bytes new.sink.bytes (text_of bytes)
 
 -- The bytes are no snapshot, and the line of the refusal was appended, and nothing else.
-pub record Refuses (old new : Outside) : Type 0 where
+pub record RefusesSnapshot (old new : Outside) : Type 0 where
   pub bytes : List ℕ
   pub snapshot : IsTrace old bytes
-  pub refused : status_of bytes ≡ TraceFault
+  pub refused : snapshot_status bytes ≡ TraceFault
   pub text : Appends old.sink.bytes new.sink.bytes (text_of bytes)
 
 -- A beginning of what there was to write was appended.
@@ -66,14 +66,14 @@ pub record WritesPart (old new : Outside) : Type 0 where
 
 -- What stands after a run, by its status. A failure is answered only where the count of faults of the object that it
 -- speaks of rose in the call; where a read failed, nothing was appended.
-abbrev pub Converted : Outside → Outside → Status → Type 0
-Converted old new Clean = Converts old new
-Converted old new Violated = ⊥
-Converted old new TraceFault = Refuses old new
-Converted old new ReadFault = Rose old.source.faults new.source.faults × Keeps old.sink.bytes new.sink.bytes
-Converted old new WriteFault = Rose old.sink.faults new.sink.faults × WritesPart old new
-Converted old new NoMemory = WritesPart old new
-Converted old new Usage = ⊥
+abbrev pub ConversionEndsAs : Outside → Outside → Status → Type 0
+ConversionEndsAs old new Clean = Converts old new
+ConversionEndsAs old new Violated = ⊥
+ConversionEndsAs old new TraceFault = RefusesSnapshot old new
+ConversionEndsAs old new ReadFault = Rose old.source.faults new.source.faults × Keeps old.sink.bytes new.sink.bytes
+ConversionEndsAs old new WriteFault = Rose old.sink.faults new.sink.faults × WritesPart old new
+ConversionEndsAs old new NoMemory = WritesPart old new
+ConversionEndsAs old new Usage = ⊥
 
 -- ---- reading a source whole
 

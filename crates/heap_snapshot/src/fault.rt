@@ -1,5 +1,5 @@
 ghost use Rattle.std.specs.Prelude.{◌≡◌, ◌++◌, codes, decimal, IfOk, OnOk};
-ghost use Rattle.heap_snapshot.specs.ToTrace.{fault_text, why_text};
+ghost use Rattle.heap_snapshot.specs.ToTrace.{snapshot_fault_text, why_text};
 
 use heap_base::OutOfMemory;
 use report::{put, put_number};
@@ -7,9 +7,13 @@ use snapshot_text::SnapWhy;
 use std::alloc::Global;
 
 /// The line that says why the bytes are no snapshot. Lines are numbered from 1.
-#[tactic(auto, unfolding(crate::specs::ToTrace::fault_text))]
-pub(crate) fn fault_text(alloc: Global, line: u64, why: SnapWhy) -> Result<Vec<u8>, OutOfMemory>
-    ensures { IfOk result (λ text. text.items ≡ fault_text line why) }
+#[tactic(auto, unfolding(crate::specs::ToTrace::snapshot_fault_text))]
+pub(crate) fn snapshot_fault_text(
+    alloc: Global,
+    line: u64,
+    why: SnapWhy,
+) -> Result<Vec<u8>, OutOfMemory>
+    ensures { IfOk result (λ text. text.items ≡ snapshot_fault_text line why) }
 {
     let mut text = Vec::new(alloc);
     put(&mut text, b"fault line ")?;

@@ -1,13 +1,13 @@
 //! A snapshot of the heap that a trace makes.
 ghost use Rattle.std.specs.Prelude.{ℕ, Result};
 ghost use Rattle.heap_base.specs.Streams.{stream_of};
-ghost use Rattle.trace_run.specs.Program.{Takes, report_by};
-ghost use Rattle.trace_run.specs.Outcome.{Ended, seen, trace_report};
+ghost use Rattle.trace_run.specs.Program.{TakesEvent, report_by};
+ghost use Rattle.trace_run.specs.Outcome.{EndsAs, outside_of, trace_report};
 ghost use Rattle.graph_meaning.specs.Heap.{Heap, empty_heap};
 ghost use Rattle.graph_meaning.specs.Step.{step};
 ghost use Rattle.graph_meaning.specs.declared.event.Event.TheVariants.{Alloc, Root, Store};
 ghost use Rattle.graph_meaning.specs.declared.refusal.Refusal.{Refusal};
-ghost use Rattle.heap_snapshot.specs.FromTrace.{Answers, effect_of_step, heap_of, snapshot_meaning};
+ghost use Rattle.heap_snapshot.specs.FromTrace.{Answers, effect_of_step, bare_heap, snapshot_meaning};
 ghost use Rattle.heap_snapshot.specs.declared.from_trace.TheConstants.{LONGEST_TRACE};
 
 use graph_meaning::{Event, Refusal, Stop};
@@ -33,7 +33,7 @@ impl Program for Making {
 
     ghost meaning = { snapshot_meaning };
 
-    ghost state = { λ m. heap_of m.table.table };
+    ghost state = { λ m. bare_heap m.table.table };
 
     ghost events = { λ m. 0 };
 
@@ -48,9 +48,9 @@ impl Program for Making {
 
 /// Writes the snapshot of the heap that a trace makes, at its end.
 pub(crate) fn from_trace<S: Source, K: Sink>(alloc: Global, source: &mut S, sink: &mut K) -> Status
-    ensures { let old = seen (stream_of S.left S.faults source.old) (stream_of K.held K.faults sink.old) in
-        let new = seen (stream_of S.left S.faults source.new) (stream_of K.held K.faults sink.new) in
-        Ended (trace_report LONGEST_TRACE (report_by snapshot_meaning empty_heap)) old new result }
+    ensures { let old = outside_of (stream_of S.left S.faults source.old) (stream_of K.held K.faults sink.old) in
+        let new = outside_of (stream_of S.left S.faults source.new) (stream_of K.held K.faults sink.new) in
+        EndsAs (trace_report LONGEST_TRACE (report_by snapshot_meaning empty_heap)) old new result }
 {
     let Ok(table) = ObjectTable::make(alloc) else {
         return Status::NoMemory;
@@ -66,7 +66,7 @@ pub(crate) fn from_trace<S: Source, K: Sink>(alloc: Global, source: &mut S, sink
 }
 
 fn take_event(making: &mut Making, event: &Event) -> Result<Taken, Stop>
-    ensures { Takes (snapshot_meaning.takes (heap_of making.old.table.table) event.now) result (heap_of making.new.table.table) }
+    ensures { TakesEvent (snapshot_meaning.takes (bare_heap making.old.table.table) event.now) result (bare_heap making.new.table.table) }
 {
     match event {
         Event::Alloc {
@@ -98,7 +98,7 @@ fn take_event(making: &mut Making, event: &Event) -> Result<Taken, Stop>
 
 // An operation makes no text due.
 fn nothing_due(alloc: Global, done: Result<(), Stop>) -> Result<Taken, Stop>
-    ensures { (found : Result Heap Refusal) → (after : Heap) → Answers found done after → Takes (effect_of_step found) result after }
+    ensures { (found : Result Heap Refusal) → (after : Heap) → Answers found done after → TakesEvent (effect_of_step found) result after }
 {
     match done {
         Ok(()) => Ok(Taken::GoesOn(Due::Text(Vec::new(alloc)))),
@@ -107,7 +107,7 @@ fn nothing_due(alloc: Global, done: Result<(), Stop>) -> Result<Taken, Stop>
 }
 
 fn store(table: &mut ObjectTable, at: ObjId, slot: u32, to: Option<ObjId>) -> Result<(), Stop>
-    ensures { Answers (step (heap_of table.old.table) (Store at slot to)) result (heap_of table.new.table) }
+    ensures { Answers (step (bare_heap table.old.table) (Store at slot to)) result (bare_heap table.new.table) }
 {
     match table.store(at, slot, to) {
         Ok(()) => Ok(()),
@@ -116,13 +116,13 @@ fn store(table: &mut ObjectTable, at: ObjId, slot: u32, to: Option<ObjId>) -> Re
 }
 
 fn alloc_object(table: &mut ObjectTable, id: ObjId, kind: &Name, slots: u32) -> Result<(), Stop>
-    ensures { (thread : ℕ) → Answers (step (heap_of table.old.table) (Alloc id kind.now slots thread)) result (heap_of table.new.table) }
+    ensures { (thread : ℕ) → Answers (step (bare_heap table.old.table) (Alloc id kind.now slots thread)) result (bare_heap table.new.table) }
 {
     table.alloc_object(id, kind, slots)
 }
 
 fn set_root(table: &mut ObjectTable, name: &Name, to: Option<ObjId>) -> Result<(), Stop>
-    ensures { Answers (step (heap_of table.old.table) (Root name.now to)) result (heap_of table.new.table) }
+    ensures { Answers (step (bare_heap table.old.table) (Root name.now to)) result (bare_heap table.new.table) }
 {
     table.set_root(name, to)
 }

@@ -2,11 +2,11 @@ ghost use Rattle.std.specs.Prelude.{◌≡◌, Some, None, map};
 ghost use Rattle.std.specs.Io.KnownBytes.{Keeps};
 ghost use Rattle.heap_base.specs.Streams.{stream_of};
 ghost use Rattle.trace_run.specs.Program.{report_by};
-ghost use Rattle.trace_run.specs.Outcome.{Ended, RefusesWords, seen, trace_report};
+ghost use Rattle.trace_run.specs.Outcome.{EndsAs, RefusesWords, outside_of, trace_report};
 ghost use Rattle.graph_meaning.specs.Heap.{empty_heap};
 ghost use Rattle.heap_snapshot.specs.Words.{command_in, command_named, usage_line};
 ghost use Rattle.heap_snapshot.specs.FromTrace.{snapshot_meaning};
-ghost use Rattle.heap_snapshot.specs.ToTrace.{Converted};
+ghost use Rattle.heap_snapshot.specs.ToTrace.{ConversionEndsAs};
 
 use crate::from_trace::{LONGEST_TRACE, from_trace};
 use crate::to_trace::to_trace;
@@ -35,17 +35,17 @@ pub fn snap_run<S: Source, K: Sink>(
     source: &mut S,
     sink: &mut K,
 ) -> Status
-    ensures from_trace { let old = seen (stream_of S.left S.faults source.old) (stream_of K.held K.faults sink.old) in
-        let new = seen (stream_of S.left S.faults source.new) (stream_of K.held K.faults sink.new) in
-        command_in (map (λ w. w.now) words.now) ≡ Some Command.FromTrace → Ended (trace_report LONGEST_TRACE (report_by snapshot_meaning empty_heap)) old new result }
-    ensures to_trace { let old = seen (stream_of S.left S.faults source.old) (stream_of K.held K.faults sink.old) in
-        let new = seen (stream_of S.left S.faults source.new) (stream_of K.held K.faults sink.new) in
-        command_in (map (λ w. w.now) words.now) ≡ Some Command.ToTrace → Converted old new result }
-    ensures refused { let old = seen (stream_of S.left S.faults source.old) (stream_of K.held K.faults sink.old) in
-        let new = seen (stream_of S.left S.faults source.new) (stream_of K.held K.faults sink.new) in
+    ensures from_trace { let old = outside_of (stream_of S.left S.faults source.old) (stream_of K.held K.faults sink.old) in
+        let new = outside_of (stream_of S.left S.faults source.new) (stream_of K.held K.faults sink.new) in
+        command_in (map (λ w. w.now) words.now) ≡ Some Command.FromTrace → EndsAs (trace_report LONGEST_TRACE (report_by snapshot_meaning empty_heap)) old new result }
+    ensures to_trace { let old = outside_of (stream_of S.left S.faults source.old) (stream_of K.held K.faults sink.old) in
+        let new = outside_of (stream_of S.left S.faults source.new) (stream_of K.held K.faults sink.new) in
+        command_in (map (λ w. w.now) words.now) ≡ Some Command.ToTrace → ConversionEndsAs old new result }
+    ensures refused { let old = outside_of (stream_of S.left S.faults source.old) (stream_of K.held K.faults sink.old) in
+        let new = outside_of (stream_of S.left S.faults source.new) (stream_of K.held K.faults sink.new) in
         command_in (map (λ w. w.now) words.now) ≡ None → RefusesWords usage_line old new result }
-    ensures unwritten { let old = seen (stream_of S.left S.faults source.old) (stream_of K.held K.faults sink.old) in
-        let new = seen (stream_of S.left S.faults source.new) (stream_of K.held K.faults sink.new) in
+    ensures unwritten { let old = outside_of (stream_of S.left S.faults source.old) (stream_of K.held K.faults sink.old) in
+        let new = outside_of (stream_of S.left S.faults source.new) (stream_of K.held K.faults sink.new) in
         result ≡ Status.ReadFault → Keeps old.sink.bytes new.sink.bytes }
     ensures unread { command_in (map (λ w. w.now) words.now) ≡ None → source.new ≡ source.old }
 {

@@ -19,11 +19,12 @@ use Rattle.graph_meaning.proofs.Edges.{edge-live}
 use Rattle.graph_meaning.proofs.Distances.{find_All}
 use Rattle.graph_meaning.proofs.HeapLemmas.{has_id-ids}
 use Rattle.graph_meaning.proofs.Membership.{has_id-Contains}
-use Rattle.object_table.specs.Placed.{Placed, id_in, IsPlaced, IsSound, cell_of}
+use Rattle.object_table.specs.Placed.{PlacedTable, id_in, IsPlaced, IsSound, cell_of}
+use Rattle.object_table.proofs.ObjectsByCell.{cell_of-held}
 use Rattle.scan_job.specs.Cells.{target_of, graph_of}
 use Rattle.scan_job.specs.Graphs.{StoppedGraph, is_found_from}
 use Rattle.scan_job.proofs.Fitting.{at-times}
-use Rattle.scan_job.proofs.Placing.{node-from_held, held-from_node, cell-from_held, is-whole}
+use Rattle.scan_job.proofs.Placing.{node-from_held, held-from_node, is-whole}
 use Rattle.heap_trace.specs.TracedCells as Cells
 use Rattle.heap_trace.proofs.OwnersAgree.{OwnersAgree}
 use Rattle.heap_trace.proofs.Renaming.{IsRenamed, map-at, at-map, times-map}
@@ -134,7 +135,7 @@ from-live t x y at = go (object_at t.objects x) at
     go None at = absurd (false≢true at)
     go (Some u) at = refl
 
-module _ (p : Placed) (r : RoleTable) (placed : IsPlaced p) (sound : IsSound p.table) where
+module _ (p : PlacedTable) (r : RoleTable) (placed : IsPlaced p) (sound : IsSound p.table) where
   abbrev pub id_of : ℕ → ℕ
   id_of = id_at p.cells
 
@@ -175,7 +176,7 @@ module _ (p : Placed) (r : RoleTable) (placed : IsPlaced p) (sound : IsSound p.t
   -- the cell of a live object, by its id
   cell-live : (id : ℕ) → is_live p.table id ≡ true → (cell : ℕ) × (cell_of p id ≡ Some cell) × (id_of cell ≡ id)
   cell-live id live =
-      let c = placed.somewhere id live in (c.0, cell-from_held p placed c.0 id c.1, id_of-held c.0 id c.1)
+      let c = placed.somewhere id live in (c.0, cell_of-held p placed c.0 id c.1, id_of-held c.0 id c.1)
 
   -- the ids of what edges lead to, by the cells
   slots-named : (n : ℕ) (slots : List Slot) → All (HoldsLive p.table) slots → map (λ e. e.1) (filter_map numbered_edge (enumerate_from n slots)) ≡ map id_of (filter_map (target_of p) slots)

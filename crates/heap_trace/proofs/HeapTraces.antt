@@ -23,15 +23,15 @@ use Rattle.graph_meaning.proofs.HeapLemmas.{has_id-ids}
 use Rattle.graph_meaning.proofs.Membership.{is_some-find}
 use Rattle.header_rule.specs.declared.mark.Mark.TheVariants.{Found}
 use Rattle.header_rule.specs.Passes.{all_adds, all_marks}
-use Rattle.object_table.specs.Placed.{Placed, id_in, IsPlaced, IsSound}
+use Rattle.object_table.specs.Placed.{PlacedTable, id_in, IsPlaced, IsSound}
 use Rattle.scan_job.specs.Cells.{graph_of}
 use Rattle.scan_job.specs.Graphs.{StoppedGraph, IsWhole}
 use Rattle.scan_job.specs.Scans.{kind_count}
-use Rattle.scan_job.specs.States.{ScanState}
+use Rattle.scan_job.specs.States.{ScanState, passes_of}
 use Rattle.scan_job.proofs.Placing.{is-whole, held-from_node}
 use Rattle.scan_job.proofs.Reaching.{filter-at}
 use Rattle.heap_trace.specs.TracedCells as Cells
-use Rattle.heap_trace.specs.TracedCells.{passes_of, traced_cells, AreTraced}
+use Rattle.heap_trace.specs.TracedCells.{traced_cells, AreTraced}
 use Rattle.heap_trace.specs.TracedHeaps.{owns, HeapIsTraced, CellsTraceHeaps}
 use Rattle.heap_trace.proofs.HeapGraphs.{heap_graph, one_or_none, traced-heap, finds-heap, met-heap, references-heap, from-live, id_of, id_of-held, node-held, held-node, heap-named}
 use Rattle.heap_trace.proofs.OwnersAgree.{OwnersAgree, owners_agree}
@@ -116,7 +116,7 @@ instances-heap h sound kind name e =
 
 -- ---- all that is said of the heap
 
-module _ (p : Placed) (r : RoleTable) (h : Heap) (js : List ScanState) (placed : IsPlaced p) (sound : IsSound p.table)
+module _ (p : PlacedTable) (r : RoleTable) (h : Heap) (js : List ScanState) (placed : IsPlaced p) (sound : IsSound p.table)
     (roles : AreRolesOf p.cells (length p.table.kinds) r) (stand : OwnersAgree p r h) (t : AreTraced (graph_of p r) js) where
   abbrev g : StoppedGraph
   g = graph_of p r

@@ -5,10 +5,10 @@ use Rattle.std.proofs.lemmas.List.Elements.{All-head, All-tail, All-weaker}
 use Rattle.steal_pool.specs.declared.crew.Crew.{Crew}
 use Rattle.steal_pool.specs.FirstLists.{FirstLists}
 use Rattle.steal_pool.specs.Runs.{workers_of, room_of, TurnsLast}
-use Rattle.scan_job.specs.Shared.{Shared, lent}
+use Rattle.scan_job.specs.Shared.{SharedHeap, shared_behind}
 use Rattle.scan_job.specs.declared.shared.ScanShared.{ScanShared}
 use Rattle.scan_job.specs.Jobs.{shared_meaning}
-use Rattle.scan_job.specs.Phases.{CanBegin, CanScan, Phase, IsDone}
+use Rattle.scan_job.specs.Phases.{CanBeginPhase, CanScan, Phase, IsDone}
 use Rattle.scan_job.specs.States.{ScanState, turns_of}
 use Rattle.scan_job.proofs.PhaseRuns.{can-begin}
 use Rattle.scan_job.proofs.Starting.{all-cons}
@@ -33,9 +33,9 @@ turns-enough n m js less turns =
     All-weaker (λ j. m < turns_of j) (λ j. n < turns_of j) (λ j more. omega arith) js turns
 
 -- Jobs that went through a phase can begin the next, whoever ran them, and have so many turns left.
-pub next-begins : (n : ℕ) (s : Shared) (phase : Phase) (js ks : List ScanState) (first then : FirstLists) → 2 ^ 25 ≤ n →
-    CanBegin s js first → IsDone s phase js ks → All (λ j. n + 33554433 < turns_of j) js → length then.lists ≡ length js → then.room ≡ first.room →
-    CanBegin s ks then × All (λ j. n < turns_of j) ks
+pub next-begins : (n : ℕ) (s : SharedHeap) (phase : Phase) (js ks : List ScanState) (first then : FirstLists) → 2 ^ 25 ≤ n →
+    CanBeginPhase s js first → IsDone s phase js ks → All (λ j. n + 33554433 < turns_of j) js → length then.lists ≡ length js → then.room ≡ first.room →
+    CanBeginPhase s ks then × All (λ j. n < turns_of j) ks
 next-begins n s phase js ks first then enough can done turns lists first_room =
     let some = can.some in
     let few = can.few in
@@ -54,11 +54,11 @@ next-begins n s phase js ks first then enough can done turns lists first_room =
 
 -- The same where a crew ran them, which is as large as before.
 pub next-scans : (n : ℕ) (s : ScanShared) (phase : Phase) (js ks : List ScanState) (crew next : Crew ScanState) (first then : FirstLists) →
-    2 ^ 25 ≤ n → CanScan s js crew first → IsDone (lent s) phase js ks → All (λ j. n + 33554433 < turns_of j) js →
+    2 ^ 25 ≤ n → CanScan s js crew first → IsDone (shared_behind s) phase js ks → All (λ j. n + 33554433 < turns_of j) js →
     length then.lists ≡ workers_of crew → then.room ≡ first.room → room_of next ≡ room_of crew → workers_of next ≡ workers_of crew →
     CanScan s ks next then × All (λ j. n < turns_of j) ks
 next-scans n s phase js ks crew next first then enough can done turns lists first_room room workers =
-    let went = next-begins n (lent s) phase js ks first then enough (can-begin s js crew first can) done turns (lists ∙ sym can.jobs) first_room in
+    let went = next-begins n (shared_behind s) phase js ks first then enough (can-begin s js crew first can) done turns (lists ∙ sym can.jobs) first_room in
     let begins = went.0 in
     let jobs = same-many 33554433 js ks done.turns ∙ can.jobs ∙ sym workers in (
       record {

@@ -18,7 +18,7 @@ use Rattle.graph_meaning.specs.Assertions.{is_owner, is_ownee}
 use Rattle.graph_meaning.specs.Heap.{Heap}
 use Rattle.graph_meaning.specs.Reach.{has_id}
 use Rattle.graph_meaning.specs.Roles.{RoleTable, owner_in, has_owner}
-use Rattle.object_table.specs.Placed.{Placed, id_in, IsPlaced}
+use Rattle.object_table.specs.Placed.{PlacedTable, id_in, IsPlaced}
 use Rattle.assert_registry.specs.Assertions.{owner_of}
 use Rattle.assert_registry.specs.Laws.{StandFor, SayOfHeap}
 use Rattle.assert_registry.proofs.ByHeap.{roles_say_of_heap}
@@ -30,7 +30,7 @@ use Rattle.heap_trace.specs.TracedHeaps.{owns}
 -- owners: an object is an owner where its cell is among the owners' cells
 -- ownees: it is an ownee where its cell has an ownee's role
 -- pairs: and the owner is the object in the cell that the role names
-pub record OwnersAgree (p : Placed) (r : RoleTable) (h : Heap) : Type 0 where
+pub record OwnersAgree (p : PlacedTable) (r : RoleTable) (h : Heap) : Type 0 where
   pub table : h.table ≡ p.table
   pub owners : (cell id : ℕ) → id_in p cell ≡ Some id → is_owner h id ≡ has_id r.owners cell
   pub ownees : (cell id : ℕ) → id_in p cell ≡ Some id → is_ownee h id ≡ has_owner (owner_in r cell)
@@ -72,7 +72,7 @@ module _ (id owner : ℕ) where
 
 -- ---- the roles of a heap
 
-module _ (p : Placed) (r : RoleTable) (h : Heap) (placed : IsPlaced p) (stand : StandFor p r h) where
+module _ (p : PlacedTable) (r : RoleTable) (h : Heap) (placed : IsPlaced p) (stand : StandFor p r h) where
   say : SayOfHeap h p r
   say = roles_say_of_heap h p r placed stand
 

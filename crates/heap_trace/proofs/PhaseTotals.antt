@@ -13,10 +13,10 @@ use Rattle.scan_job.specs.Gains.{Gain, all_gains, Grows}
 use Rattle.scan_job.specs.Graphs.{StoppedGraph}
 use Rattle.scan_job.specs.Phases.{TakeUpGains}
 use Rattle.scan_job.specs.Scans.{kind_count}
-use Rattle.scan_job.specs.States.{ScanState}
+use Rattle.scan_job.specs.States.{ScanState, passes_of}
 use Rattle.scan_job.proofs.Gaining.{held-gained}
 use Rattle.steal_pool.specs.Lists.{Each}
-use Rattle.heap_trace.specs.TracedCells.{passes_of, all_tallies, IsNew, ThreePhases, PhasesTrace}
+use Rattle.heap_trace.specs.TracedCells.{all_tallies, IsNew, ThreePhases, PhasesTrace}
 use Rattle.heap_trace.proofs.ThreePhases as Phases
 
 -- ---- after one phase

@@ -11,7 +11,7 @@ use Rattle.header_rule.specs.declared.mark.Mark.{Mark}
 use Rattle.header_rule.specs.declared.mark.Mark.TheVariants.{Found, MetByRoots}
 use Rattle.header_rule.specs.Views.{is_mark, times_marked}
 use Rattle.scan_job.specs.Fit.{no_owners}
-use Rattle.scan_job.specs.Gains.{Gain, is_marked}
+use Rattle.scan_job.specs.Gains.{Gain, lists_mark}
 use Rattle.scan_job.specs.Graphs.{StoppedGraph, IsWhole, is_border, owners, all_targets}
 use Rattle.scan_job.specs.Phases.{OwnerGains, TakeUpGains, RootGains}
 use Rattle.scan_job.proofs.Fitting.{times-at, at-times}
@@ -185,7 +185,7 @@ module _ (g : StoppedGraph) (a b c : Gain) (w : IsWhole g) (own : OwnerGains g a
       let z = total-zero (filter g.is_ownee c.adds) in
       omega arith
 
-  met-marked : (e : ℕ) → g.is_ownee e ≡ true → has_id c.adds e ≡ true → is_marked MetByRoots e marks ≡ true
+  met-marked : (e : ℕ) → g.is_ownee e ≡ true → has_id c.adds e ≡ true → lists_mark MetByRoots e marks ≡ true
   met-marked e ownee at =
       is_positive-from _
       (let s = marks-split MetByRoots e in
@@ -194,7 +194,7 @@ module _ (g : StoppedGraph) (a b c : Gain) (w : IsWhole g) (own : OwnerGains g a
       let z = times-at e (filter g.is_ownee c.adds) (at-filter g.is_ownee c.adds e ownee at) in
       omega arith)
 
-  pub met-by : (e : ℕ) → g.is_ownee e ≡ true → is_met g e ≡ true → is_marked MetByRoots e marks ≡ true
+  pub met-by : (e : ℕ) → g.is_ownee e ≡ true → is_met g e ≡ true → lists_mark MetByRoots e marks ≡ true
   met-by e ownee m =
       met-marked e ownee (at-times e c.adds (⊎_elim by_root by_slot (or_cases _ _ m)))
     where

@@ -19,13 +19,13 @@ use Rattle.header_rule.specs.declared.words.Words.{Words}
 use Rattle.header_rule.specs.ClosedWords.{count_in, has_mark_in}
 use Rattle.header_rule.specs.Passes.{all_adds, all_wins, all_marks}
 use Rattle.assert_registry.specs.Laws.{StandFor}
-use Rattle.object_table.specs.Placed.{Placed, id_in, IsPlaced, IsSound}
+use Rattle.object_table.specs.Placed.{PlacedTable, id_in, IsPlaced, IsSound}
 use Rattle.scan_job.specs.Cells.{graph_of}
-use Rattle.scan_job.specs.States.{ScanState}
+use Rattle.scan_job.specs.States.{ScanState, passes_of}
 use Rattle.scan_job.proofs.Placing.{held-below, held-from_node, is-whole}
 use Rattle.heap_trace.specs.Results.{TraceResult, kept_below, many_of, IsByCounts}
 use Rattle.heap_trace.specs.TracedCells as Cells
-use Rattle.heap_trace.specs.TracedCells.{passes_of, IsNew, ThreePhases, AreWonOnce, AreTraced}
+use Rattle.heap_trace.specs.TracedCells.{IsNew, ThreePhases, AreWonOnce, AreTraced}
 use Rattle.heap_trace.specs.TracedHeaps.{owns, HeapIsTraced}
 use Rattle.heap_trace.specs.Traces.{IsTraceOf}
 use Rattle.heap_trace.proofs.HeapTraces.{heap-traced}
@@ -68,7 +68,7 @@ are-closed cells many w ms ps fits same counts marks wins = record {
   once = λ x. ap (all_wins x) (sym same) ∙ wins x ∙ ap (λ qs. bit (is_positive (all_adds x qs))) same;
 }
 
-module _ (p : Placed) (r : RoleTable) (placed : IsPlaced p) (sound : IsSound p.table) (roles : AreRolesOf p.cells (length p.table.kinds) r)
+module _ (p : PlacedTable) (r : RoleTable) (placed : IsPlaced p) (sound : IsSound p.table) (roles : AreRolesOf p.cells (length p.table.kinds) r)
     (js ms : List ScanState) (new : All IsNew js) (phases : ThreePhases (graph_of p r) js ms) (w : Words) (closed : AreClosed (length p.cells) w ms)
   where
     are-traced : AreTraced (graph_of p r) ms

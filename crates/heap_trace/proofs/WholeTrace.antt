@@ -9,14 +9,14 @@ use Rattle.object_table.specs.Placed.{IsPlaced, IsSound}
 use Rattle.steal_pool.specs.FirstLists.{FirstLists}
 use Rattle.steal_pool.specs.Lists.{Each}
 use Rattle.steal_pool.specs.Runs.{AreReady}
-use Rattle.scan_job.specs.Shared.{Shared}
+use Rattle.scan_job.specs.Shared.{SharedHeap}
 use Rattle.scan_job.specs.Gains.{Gain, Grows}
 use Rattle.scan_job.specs.Graphs.{StoppedGraph}
 use Rattle.scan_job.specs.Jobs.{IsReadyFor, shared_meaning}
-use Rattle.scan_job.specs.Phases.{cells_in, CanBegin}
-use Rattle.scan_job.specs.States.{ScanState}
+use Rattle.scan_job.specs.Phases.{cells_in, CanBeginPhase}
+use Rattle.scan_job.specs.States.{ScanState, passes_of}
 use Rattle.scan_job.proofs.Starting.{all-map}
-use Rattle.heap_trace.specs.TracedCells.{passes_of, IsNew, IsNewFor, ThreePhases}
+use Rattle.heap_trace.specs.TracedCells.{IsNew, IsNewFor, ThreePhases}
 
 -- ---- before
 
@@ -28,7 +28,7 @@ passes-at h (j ∷ js) all (suc k) d within =
     passes-at h js (λ i e less. all (suc i) e (omega arith)) k d (omega arith)
 
 -- What the memory of a trace has, and that it was taken for a table.
-pub record FitsTable (s : Shared) (js : List ScanState) (first : FirstLists) : Type 0 where
+pub record FitsTable (s : SharedHeap) (js : List ScanState) (first : FirstLists) : Type 0 where
   pub passes : ArePassesOf s.headers (passes_of js)
   pub new : All (IsNewFor s.headers.cells (length s.table.table.kinds)) js
   pub cells : s.headers.cells ≡ cells_in s
@@ -37,9 +37,9 @@ pub record FitsTable (s : Shared) (js : List ScanState) (first : FirstLists) : T
   pub lists : length first.lists ≡ length js
   pub list_room : s.headers.cells ≤ first.room
 
-module _ (s : Shared) (js : List ScanState) (first : FirstLists) (fits : FitsTable s js first)
+module _ (s : SharedHeap) (js : List ScanState) (first : FirstLists) (fits : FitsTable s js first)
     (roles : AreRolesOf s.table.cells (length s.table.table.kinds) s.roles) (placed : IsPlaced s.table) (sound : IsSound s.table.table) where
-  pub can-begin : CanBegin s js first
+  pub can-begin : CanBeginPhase s js first
   can-begin = record {
     some = fits.some;
     few = fits.few;
@@ -89,7 +89,7 @@ module _ (g : StoppedGraph) (js ms : List ScanState) (phases : ThreePhases g js 
       ∙ grown-numbers g phases.owned phases.take_up.gains phases.taken_up phases.take_up.each
       ∙ grown-numbers g js phases.owner_phase.gains phases.owned phases.owner_phase.each
 
-  pub passes-after : (s : Shared) → AreReady shared_meaning s ms → ArePassesOf s.headers (passes_of js) → ArePassesOf s.headers (passes_of ms)
+  pub passes-after : (s : SharedHeap) → AreReady shared_meaning s ms → ArePassesOf s.headers (passes_of js) → ArePassesOf s.headers (passes_of ms)
   passes-after s ready are = (
     all-map (λ (j : ScanState). j.pass) (λ j. IsReadyFor j s) (IsPassOf s.headers) (λ j r. r.pass) ms ready,
     numbers-after ∙ are.1,

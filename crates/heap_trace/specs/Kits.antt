@@ -2,8 +2,8 @@
 use Rattle.std.specs.Prelude.{ℕ, length}
 use Rattle.heap_trace.specs.declared.kit.Kit.{Kit}
 
-abbrev pub cells_of : Kit → ℕ
-cells_of k = k.memory.headers.cells
+abbrev pub kit_cells : Kit → ℕ
+kit_cells k = k.memory.headers.cells
 
-abbrev pub kinds_of : Kit → ℕ
-kinds_of k = length k.memory.tally
+abbrev pub kit_kinds : Kit → ℕ
+kit_kinds k = length k.memory.tally

@@ -6,11 +6,11 @@ use Rattle.graph_meaning.specs.Reach.{Graph, has_id, reached_nodes}
 use Rattle.header_rule.specs.declared.mark.Mark.TheVariants.{Found, MetByRoots}
 use Rattle.header_rule.specs.declared.pass.Pass.{Pass}
 use Rattle.header_rule.specs.Passes.{IsFresh, all_adds, all_wins, all_marks}
-use Rattle.scan_job.specs.Gains.{Gained}
+use Rattle.scan_job.specs.Gains.{GainsOf}
 use Rattle.scan_job.specs.Graphs.{StoppedGraph, IsWhole, is_under_owners, is_found_from}
 use Rattle.scan_job.specs.Phases.{all_held, OwnerGains, TakeUpGains, RootGains}
 use Rattle.scan_job.specs.Scans.{kind_count}
-use Rattle.scan_job.specs.States.{ScanState}
+use Rattle.scan_job.specs.States.{ScanState, passes_of}
 
 -- the objects that are under no owner, and their edges
 abbrev pub free_graph : StoppedGraph → Graph
@@ -42,9 +42,6 @@ abbrev pub reference_count : StoppedGraph → ℕ → ℕ
 reference_count g x = times x g.roots + total (slots_to g x) g.nodes
 
 -- ---- what a trace leaves
-
-abbrev pub passes_of : List ScanState → List Pass
-passes_of js = map (λ j. j.pass) js
 
 -- the number of a type in all tallies together
 abbrev pub all_tallies : ℕ → List ScanState → ℕ
@@ -84,9 +81,9 @@ pub record AreTraced (g : StoppedGraph) (js : List ScanState) : Type 0 where
 pub record ThreePhases (g : StoppedGraph) (js ms : List ScanState) : Type 0 where
   pub owned : List ScanState
   pub taken_up : List ScanState
-  pub owner_phase : Gained g (OwnerGains g) js owned
-  pub take_up : Gained g (TakeUpGains g (all_held owned)) owned taken_up
-  pub root_phase : Gained g (RootGains g) taken_up ms
+  pub owner_phase : GainsOf g (OwnerGains g) js owned
+  pub take_up : GainsOf g (TakeUpGains g (all_held owned)) owned taken_up
+  pub root_phase : GainsOf g (RootGains g) taken_up ms
 
 -- New jobs that gained by the three phases have traced the graph, where each cell that was met was won once.
 abbrev pub PhasesTrace : Type 0

@@ -10,10 +10,10 @@ use Rattle.graph_meaning.specs.Reach.{has_id}
 use Rattle.graph_meaning.specs.Roles.{RoleTable, AreRolesOf}
 use Rattle.header_rule.specs.declared.mark.Mark.TheVariants.{Found, MetByRoots}
 use Rattle.header_rule.specs.Passes.{all_adds, all_marks}
-use Rattle.object_table.specs.Placed.{Placed, id_in, IsPlaced, IsSound}
+use Rattle.object_table.specs.Placed.{PlacedTable, id_in, IsPlaced, IsSound}
 use Rattle.scan_job.specs.Cells.{graph_of}
-use Rattle.scan_job.specs.States.{ScanState}
-use Rattle.heap_trace.specs.TracedCells.{passes_of, all_tallies, AreTraced}
+use Rattle.scan_job.specs.States.{ScanState, passes_of}
+use Rattle.heap_trace.specs.TracedCells.{all_tallies, AreTraced}
 
 -- the first object was asserted to be the owner of the second
 abbrev pub owns : Heap → ℕ → ℕ → Bool
@@ -28,7 +28,7 @@ owns h owner ownee = list_any (λ o. o.0 == ownee && o.1 == owner) h.owners
 -- found: whatever is marked found is found by its owner
 -- marked: an ownee that a slot of its owner leads to is marked found
 -- met: an ownee that is met by roots is marked so
-pub record HeapIsTraced (p : Placed) (h : Heap) (js : List ScanState) : Type 0 where
+pub record HeapIsTraced (p : PlacedTable) (h : Heap) (js : List ScanState) : Type 0 where
   pub count : (cell id : ℕ) → id_in p cell ≡ Some id → all_adds cell (passes_of js) ≡ reference_count h id
   pub kept : (cell id : ℕ) → id_in p cell ≡ Some id → is_positive (all_adds cell (passes_of js)) ≡ is_traced h id
   pub empty : (cell : ℕ) → id_in p cell ≡ None → all_adds cell (passes_of js) ≡ 0
@@ -41,5 +41,5 @@ pub record HeapIsTraced (p : Placed) (h : Heap) (js : List ScanState) : Type 0 w
 -- Where the graph of a table and its roles is traced by cells, so is the heap that they stand for.
 abbrev pub CellsTraceHeaps : Type 0
 CellsTraceHeaps =
-    (p : Placed) (r : RoleTable) (h : Heap) (js : List ScanState) → IsPlaced p → IsSound p.table → AreRolesOf p.cells (length p.table.kinds) r →
+    (p : PlacedTable) (r : RoleTable) (h : Heap) (js : List ScanState) → IsPlaced p → IsSound p.table → AreRolesOf p.cells (length p.table.kinds) r →
     StandFor p r h → AreTraced (graph_of p r) js → HeapIsTraced p h js

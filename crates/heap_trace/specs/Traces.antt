@@ -6,7 +6,7 @@ use Rattle.graph_meaning.specs.Heap.{Heap, targets}
 use Rattle.graph_meaning.specs.Reach.{has_id}
 use Rattle.header_rule.specs.ClosedWords.{count_in, has_mark_in}
 use Rattle.header_rule.specs.declared.mark.Mark.TheVariants.{Found, MetByRoots}
-use Rattle.object_table.specs.Placed.{Placed, id_in}
+use Rattle.object_table.specs.Placed.{PlacedTable, id_in}
 use Rattle.heap_trace.specs.Results.{TraceResult}
 use Rattle.heap_trace.specs.TracedHeaps.{owns}
 
@@ -20,7 +20,7 @@ use Rattle.heap_trace.specs.TracedHeaps.{owns}
 -- found: whatever is marked found is found by its owner
 -- marked: an ownee to which a slot of its owner leads is marked found
 -- met: an ownee that is met is marked as met by roots
-pub record IsTraceOf (p : Placed) (h : Heap) (t : TraceResult) : Type 0 where
+pub record IsTraceOf (p : PlacedTable) (h : Heap) (t : TraceResult) : Type 0 where
   pub cells : t.words.cells ≡ length p.cells
   pub each : length t.kept ≡ length p.cells
   pub kinds : length t.instances ≡ length p.table.kinds
@@ -34,5 +34,5 @@ pub record IsTraceOf (p : Placed) (h : Heap) (t : TraceResult) : Type 0 where
   pub met : (cell id : ℕ) → id_in p cell ≡ Some id → IsTrue (is_ownee h id) → IsTrue (is_met h id) → IsTrue (has_mark_in MetByRoots t.words cell)
 
 -- The count of each object's cell is the number of references to it.
-abbrev pub CountsReferences : Placed → Heap → TraceResult → Type 0
+abbrev pub CountsReferences : PlacedTable → Heap → TraceResult → Type 0
 CountsReferences p h t = (cell id : ℕ) → id_in p cell ≡ Some id → count_in t.words cell ≡ reference_count h id

@@ -2,7 +2,8 @@
 ghost use Rattle.std.specs.Prelude.{◌≡◌, ℕ, ◌≤◌, [], length, vec_capacity, slice_index};
 ghost use Rattle.std.specs.List.{All};
 ghost use Rattle.heap_base.specs.declared.limits.TheConstants.{MOST_OBJECTS, MOST_WORKERS};
-ghost use Rattle.heap_trace.specs.TracedCells.{passes_of, all_tallies};
+ghost use Rattle.heap_trace.specs.TracedCells.{all_tallies};
+ghost use Rattle.scan_job.specs.States.{passes_of};
 
 use header_rule::Pass;
 use instance_ledger::Tally;

@@ -3,7 +3,8 @@ ghost use Rattle.std.specs.Prelude.{◌≡◌, ℕ, ◌<◌, ◌≤◌, [], leng
 ghost use Rattle.std.specs.List.{All};
 ghost use Rattle.heap_base.specs.declared.limits.TheConstants.{MOST_OBJECTS, MOST_WORKERS};
 ghost use Rattle.header_rule.specs.Passes.{ArePassesOf};
-ghost use Rattle.heap_trace.specs.TracedCells.{passes_of, IsNewFor};
+ghost use Rattle.heap_trace.specs.TracedCells.{IsNewFor};
+ghost use Rattle.scan_job.specs.States.{passes_of};
 
 use header_rule::{Headers, Pass};
 use instance_ledger::Tally;

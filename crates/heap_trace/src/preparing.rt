@@ -3,8 +3,9 @@ ghost use Rattle.std.specs.Prelude.{◌≡◌, ◌<◌, ◌≤◌, length, IfOk}
 ghost use Rattle.std.specs.List.{All};
 ghost use Rattle.heap_base.specs.declared.limits.TheConstants.{MOST_OBJECTS, MOST_WORKERS};
 ghost use Rattle.header_rule.specs.Passes.{IsFresh};
-ghost use Rattle.heap_trace.specs.Kits.{cells_of, kinds_of};
-ghost use Rattle.heap_trace.specs.TracedCells.{passes_of, IsNewFor};
+ghost use Rattle.heap_trace.specs.Kits.{kit_cells, kit_kinds};
+ghost use Rattle.heap_trace.specs.TracedCells.{IsNewFor};
+ghost use Rattle.scan_job.specs.States.{passes_of};
 
 use crate::kit::Kit;
 use crate::memory::TraceMemory;
@@ -69,8 +70,8 @@ impl Kit {
     pub fn prepare(alloc: Global, cells: u32, kinds: u32, workers: u32) -> Result<Kit, OutOfMemory>
         requires cells { cells ≤ MOST_OBJECTS }
         requires workers { (0 < workers) × (workers ≤ MOST_WORKERS) }
-        ensures cells { IfOk result (λ k. cells_of k ≡ cells) }
-        ensures kinds { IfOk result (λ k. kinds_of k ≡ kinds) }
+        ensures cells { IfOk result (λ k. kit_cells k ≡ cells) }
+        ensures kinds { IfOk result (λ k. kit_kinds k ≡ kinds) }
     {
         let memory = TraceMemory::take(alloc, cells, kinds, workers)?;
         // A worker has at most as many first tasks as there are cells, and puts each cell that it wins once.

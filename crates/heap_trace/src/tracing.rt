@@ -3,7 +3,7 @@ ghost use Rattle.std.specs.Prelude.{◌≡◌, length};
 ghost use Rattle.assert_registry.specs.Laws.{StandFor};
 ghost use Rattle.graph_meaning.specs.Heap.{Heap};
 ghost use Rattle.graph_meaning.specs.Roles.{AreRolesOf};
-ghost use Rattle.heap_trace.specs.Kits.{cells_of, kinds_of};
+ghost use Rattle.heap_trace.specs.Kits.{kit_cells, kit_kinds};
 ghost use Rattle.heap_trace.specs.Results.{IsByCounts};
 ghost use Rattle.heap_trace.specs.Traces.{IsTraceOf, CountsReferences};
 
@@ -28,8 +28,8 @@ pub fn trace<R: Threads + Sync, G: Gate>(
     roles: &Roles,
     gate: &G,
 ) -> Traced
-    requires cells { cells_of kit ≡ length table.now.cells }
-    requires kinds { kinds_of kit ≡ length table.now.table.kinds }
+    requires cells { kit_cells kit ≡ length table.now.cells }
+    requires kinds { kit_kinds kit ≡ length table.now.table.kinds }
     requires roles { AreRolesOf table.now.cells (length table.now.table.kinds) roles.now }
     ensures trace { (h : Heap) → StandFor table.now roles.now h → IsTraceOf table.now h result }
     ensures counts { (h : Heap) → StandFor table.now roles.now h → CountsReferences table.now h result }

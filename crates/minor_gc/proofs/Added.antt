@@ -13,10 +13,10 @@ use Rattle.graph_meaning.specs.Step.{alloc_refusal, with_object}
 use Rattle.graph_meaning.proofs.HeapLemmas.{has_id-ids, is_live-with_object, object_at-with_object}
 use Rattle.graph_meaning.proofs.Membership.{All-has_id, filter_agree_all}
 use Rattle.graph_meaning.proofs.Rising.{ids-with_object}
-use Rattle.object_table.specs.Placed.{Placed, id_in, IsPlaced, TakesCell, NoneEmptyBelow, cells_for_one_more}
+use Rattle.object_table.specs.Placed.{PlacedTable, id_in, IsPlaced, TakesCell, NoneEmptyBelow, cells_for_one_more}
 use Rattle.object_table.proofs.Refusals.{alloc_fits}
-use Rattle.minor_gc.specs.Generations.{Generations, is_young, is_old, holds_young, remembered}
-use Rattle.minor_gc.specs.Nurseries.{Parts, heap_of, young_count, NoneWeak, IsNursery}
+use Rattle.minor_gc.specs.Generations.{Generations, is_young, is_old, holds_young, remembered_set}
+use Rattle.minor_gc.specs.Nurseries.{NurseryParts, generations_of, young_count, NoneWeak, IsNursery}
 use Rattle.minor_gc.proofs.Inside.{IsSoundNursery}
 use Rattle.minor_gc.proofs.Keeping.{all_has}
 use Rattle.minor_gc.proofs.Remembered.{remembers}
@@ -28,7 +28,7 @@ same_filter p q xs same =
     filter_agree_all p q xs (All-weaker (λ x. IsTrue (has_id xs x)) (λ x. p x ≡ q x) same xs (All-has_id xs))
 
 -- one cell more at the most
-pub one_more : (p : Placed) → (length p.cells ≤ cells_for_one_more p) × (cells_for_one_more p ≤ length p.cells + 1)
+pub one_more : (p : PlacedTable) → (length p.cells ≤ cells_for_one_more p) × (cells_for_one_more p ≤ length p.cells + 1)
 one_more p = go (length p.cells == length p.table.objects)
   where
     go : (b : Bool) → (length p.cells ≤ cond b (length p.cells + 1) (length p.cells)) × (cond b (length p.cells + 1) (length p.cells) ≤ length p.cells + 1)
@@ -62,22 +62,22 @@ module _ (o : NewObject) (t : Table) where
   length-with = length_push t.objects (record { id = o.id; kind = o.kind; slots = replicate o.slots empty_slot })
 
 -- it is younger than what is old
-above_old : {n : Parts} (o : NewObject) → IsNursery n → CanAdd o n.placed.table → n.old_up_to < o.id
+above_old : {n : NurseryParts} (o : NewObject) → IsNursery n → CanAdd o n.placed.table → n.old_up_to < o.id
 above_old {n} o is allowed = omega (arith, (alloc_fits n.placed.table o.id o.kind o.slots allowed).above, is.old, is.greatest)
 
-pub young_then : {n : Parts} (o : NewObject) → IsNursery n → CanAdd o n.placed.table → is_young (record { table = table_with o n.placed.table; old_up_to = n.old_up_to }) o.id ≡ true
+pub young_then : {n : NurseryParts} (o : NewObject) → IsNursery n → CanAdd o n.placed.table → is_young (record { table = table_with o n.placed.table; old_up_to = n.old_up_to }) o.id ≡ true
 young_then {n} o is allowed = lt-ltb n.old_up_to o.id (above_old o is allowed)
 
 -- The parts that an object more changes.
 pub record AddedParts : Type 0 where
-  pub placed : Placed
+  pub placed : PlacedTable
   pub marks : List Bool
   pub work : List ℕ
   pub counts : List ℕ
   pub remembered : List ℕ
   pub room : ℕ
 
-abbrev pub parts_with : Parts → NewObject → AddedParts → Parts
+abbrev pub parts_with : NurseryParts → NewObject → AddedParts → NurseryParts
 parts_with n o a = record {
   placed = a.placed;
   old_up_to = n.old_up_to;
@@ -90,7 +90,7 @@ parts_with n o a = record {
 }
 
 -- The object takes a cell with no empty one below it, which isn't marked and whose count is 0; there is room for one more.
-pub record Adds (n : Parts) (o : NewObject) (a : AddedParts) : Type 0 where
+pub record Adds (n : NurseryParts) (o : NewObject) (a : AddedParts) : Type 0 where
   pub before : IsSoundNursery n
   pub allowed : alloc_refusal n.placed.table o.id o.kind o.slots ≡ None
   pub placed : IsPlaced a.placed
@@ -105,18 +105,18 @@ pub record Adds (n : Parts) (o : NewObject) (a : AddedParts) : Type 0 where
   pub remembered : a.remembered ≡ n.remembered
   pub room : length n.placed.table.objects + 1 ≤ a.room
 
-module _ {n : Parts} {o : NewObject} {a : AddedParts} (adds : Adds n o a) where
-  abbrev p : Placed
+module _ {n : NurseryParts} {o : NewObject} {a : AddedParts} (adds : Adds n o a) where
+  abbrev p : PlacedTable
   p = n.placed
 
   abbrev t : Table
   t = n.placed.table
 
   abbrev g : Generations
-  g = heap_of n
+  g = generations_of n
 
   abbrev g' : Generations
-  g' = heap_of (parts_with n o a)
+  g' = generations_of (parts_with n o a)
 
   above : n.old_up_to < o.id
   above = above_old o adds.before.nursery adds.allowed
@@ -233,8 +233,8 @@ module _ {n : Parts} {o : NewObject} {a : AddedParts} (adds : Adds n o a) where
           let same = sym (targets_same x (adds.before.placed.live cell x e)) in
           ap (young_count g) e ∙ ap (λ l. cond (is_young g x) 0 (count_by (is_young g) l)) same ∙ sym (ap (young_count g') e)
 
-  remembered_then : a.remembered ≡ remembered g'
-  unfolding remembered
+  remembered_then : a.remembered ≡ remembered_set g'
+  unfolding remembered_set
   remembered_then =
       adds.remembered
       ∙ adds.before.nursery.remembered

@@ -2,9 +2,9 @@
 use Rattle.std.specs.Vec.{vec_capacity}
 use Rattle.object_table.specs.Placed.{IsPlaced, IsSound}
 use Rattle.minor_gc.specs.declared.nursery.Nursery.TheInside.{Inside}
-use Rattle.minor_gc.specs.Nurseries.{Parts, IsNursery}
+use Rattle.minor_gc.specs.Nurseries.{NurseryParts, IsNursery}
 
-abbrev pub parts_in : Inside → Parts
+abbrev pub parts_in : Inside → NurseryParts
 parts_in n = record {
   placed = n.table;
   old_up_to = n.old_up_to;
@@ -17,7 +17,7 @@ parts_in n = record {
 }
 
 -- a nursery whose table is placed and sound
-pub record IsSoundNursery (n : Parts) : Type 0 where
+pub record IsSoundNursery (n : NurseryParts) : Type 0 where
   pub nursery : IsNursery n
   pub placed : IsPlaced n.placed
   pub sound : IsSound n.placed.table

@@ -11,9 +11,9 @@ use Rattle.graph_meaning.specs.Heap.{targets}
 use Rattle.graph_meaning.specs.Reach.{has_id, IsPath, IsReachable, reached_nodes}
 use Rattle.graph_meaning.proofs.Membership.{has_id-append}
 use Rattle.graph_meaning.proofs.Reaching.{IsReachable-source, IsReachable-step, reached_is_reachable}
-use Rattle.object_table.specs.Placed.{Placed, id_in, IsPlaced}
+use Rattle.object_table.specs.Placed.{PlacedTable, id_in, IsPlaced}
 use Rattle.object_table.proofs.ObjectsByCell.{held-within}
-use Rattle.minor_gc.specs.Marks.{Marks, is_marked, Meets, Quest, IsQuest, IsFollowed, IsSearching}
+use Rattle.minor_gc.specs.Marks.{Marks, is_marked, MarksAll, MarkSearch, IsMarkSearch, IsScanned, IsMarking}
 
 and_not : (b : Bool) → (b && not b) ≡ false
 and_not true = refl
@@ -31,7 +31,7 @@ flat_map_last f xs i x h is =
 
 -- ---- cells that are marked
 
-pub Meets-none : (p : Placed) (m : Marks) → Meets p [] m m
+pub Meets-none : (p : PlacedTable) (m : Marks) → MarksAll p [] m m
 Meets-none p m = record {
   each = refl;
   marked = λ cell id at. sym (or-false (is_marked m cell));
@@ -39,7 +39,7 @@ Meets-none p m = record {
   work = λ cell. none_more (has_id m.work cell) (is_marked m cell);
 }
 
-module _ {p : Placed} {ids : List ℕ} {a b : Marks} (meets : Meets p ids a b) where
+module _ {p : PlacedTable} {ids : List ℕ} {a b : Marks} (meets : MarksAll p ids a b) where
   -- what was marked is so still
   pub Meets-stays : (cell : ℕ) → is_marked a cell ≡ true → is_marked b cell ≡ true
   Meets-stays cell was = go (id_in p cell) refl
@@ -67,7 +67,7 @@ work_both false false true true h k = refl
 work_both false false true false h k = absurd (false≢true (k refl))
 work_both false false false c h k = refl
 
-pub Meets-join : {p : Placed} {xs ys : List ℕ} {a b c : Marks} → Meets p xs a b → Meets p ys b c → Meets p (xs ++ ys) a c
+pub Meets-join : {p : PlacedTable} {xs ys : List ℕ} {a b c : Marks} → MarksAll p xs a b → MarksAll p ys b c → MarksAll p (xs ++ ys) a c
 Meets-join {p} {xs} {ys} {a} {b} {c} first next = record {
   each = next.each ∙ first.each;
   marked = λ cell id at.
@@ -83,13 +83,13 @@ Meets-join {p} {xs} {ys} {a} {b} {c} first next = record {
 }
 
 -- The cell of an object is met: it is marked, and goes on the worklist where it wasn't.
-pub record MeetsCell (p : Placed) (cell id : ℕ) (b c : Marks) : Type 0 where
+pub record MeetsCell (p : PlacedTable) (cell id : ℕ) (b c : Marks) : Type 0 where
   pub held : id_in p cell ≡ Some id
   pub each : length b.marks ≡ length p.cells
   pub marks : c.marks ≡ set b.marks cell true
   pub work : c.work ≡ cond (is_marked b cell) b.work (b.work ++ cell ∷ [])
 
-module _ {p : Placed} {cell id : ℕ} {b c : Marks} (placed : IsPlaced p) (met : MeetsCell p cell id b c) where
+module _ {p : PlacedTable} {cell id : ℕ} {b c : Marks} (placed : IsPlaced p) (met : MeetsCell p cell id b c) where
   at_cell : is_marked c cell ≡ true
   at_cell =
       let within : cell < length b.marks = omega (arith, held-within p cell id met.held, met.each) in
@@ -111,7 +111,7 @@ module _ {p : Placed} {cell id : ℕ} {b c : Marks} (placed : IsPlaced p) (met :
   abbrev is_new : ℕ → Bool
   is_new x = is_marked c x && not (is_marked b x)
 
-  Meets-one : Meets p (id ∷ []) b c
+  Meets-one : MarksAll p (id ∷ []) b c
   Meets-one = record {
     each = ap length met.marks ∙ length-set b.marks cell true;
     marked = λ x y at. marked_or x y at (cases_eq x cell);
@@ -141,7 +141,7 @@ module _ {p : Placed} {cell id : ℕ} {b c : Marks} (placed : IsPlaced p) (met :
               ap (λ e. e || false) (ne_eqb cell x (λ same. apart (sym same))) ∙ sym old
 
 -- one cell more is met
-pub Meets-more : {p : Placed} {ids : List ℕ} {cell id : ℕ} {a b c : Marks} → IsPlaced p → Meets p ids a b → MeetsCell p cell id b c → Meets p (ids ++ id ∷ []) a c
+pub Meets-more : {p : PlacedTable} {ids : List ℕ} {cell id : ℕ} {a b c : Marks} → IsPlaced p → MarksAll p ids a b → MeetsCell p cell id b c → MarksAll p (ids ++ id ∷ []) a c
 Meets-more placed before met = Meets-join before (Meets-one placed met)
 
 -- ---- a worklist
@@ -155,15 +155,15 @@ in_front xs ys x y is has = ap (λ l. has_id l y) is ∙ has_id-append ys (x ∷
 -- ---- the search
 
 -- A cell was taken from the worklist, and what its object holds was met.
-pub record Follows (p : Placed) (cell id : ℕ) (s m : Marks) : Type 0 where
+pub record Follows (p : PlacedTable) (cell id : ℕ) (s m : Marks) : Type 0 where
   pub taken : Marks
   pub held : id_in p cell ≡ Some id
   pub marks : taken.marks ≡ s.marks
   pub work : s.work ≡ taken.work ++ cell ∷ []
-  pub meets : Meets p (targets p.table id) taken m
+  pub meets : MarksAll p (targets p.table id) taken m
 
-module _ (q : Quest) (placed : IsPlaced q.placed) (is : IsQuest q) where
-  abbrev p : Placed
+module _ (q : MarkSearch) (placed : IsPlaced q.placed) (is : IsMarkSearch q) where
+  abbrev p : PlacedTable
   p = q.placed
 
   node : (cell id : ℕ) → id_in p cell ≡ Some id → is_marked q.before cell ≡ false → IsTrue (has_id q.graph.nodes id)
@@ -171,7 +171,7 @@ module _ (q : Quest) (placed : IsPlaced q.placed) (is : IsQuest q) where
 
   -- what the sources name is marked first: of the nodes, those with these ids
   pub searching-begin : (ids : List ℕ) → ((id : ℕ) → IsTrue (has_id q.graph.nodes id) → has_id ids id ≡ has_id q.sources id) →
-      (m : Marks) → q.before.work ≡ [] → Meets p ids q.before m → IsSearching q m
+      (m : Marks) → q.before.work ≡ [] → MarksAll p ids q.before m → IsMarking q m
   searching-begin ids agree m idle meets = record {
     stays = Meets-stays meets;
     unheld = meets.unheld;
@@ -196,7 +196,7 @@ module _ (q : Quest) (placed : IsPlaced q.placed) (is : IsQuest q) where
       held_one cell None at marked fresh = absurd (false≢true (sym fresh ∙ sym (meets.unheld cell at) ∙ marked))
       held_one cell (Some id) at marked fresh = subst IsSome (sym at) refl
 
-  module _ {cell id : ℕ} {s m : Marks} (now : IsSearching q s) (follows : Follows p cell id s m) where
+  module _ {cell id : ℕ} {s m : Marks} (now : IsMarking q s) (follows : Follows p cell id s m) where
     abbrev t : Marks
     t = follows.taken
 
@@ -212,7 +212,7 @@ module _ (q : Quest) (placed : IsPlaced q.placed) (is : IsQuest q) where
     waited : IsTrue (is_marked s cell) × (is_marked q.before cell ≡ false) × IsSome (id_in p cell)
     waited = now.waiting cell (in_work cell ∙ or_right _ _ (or_left _ _ (eq-eqb cell cell refl)))
 
-    followed_now : IsFollowed p m id
+    followed_now : IsScanned p m id
     followed_now other y at has = follows.meets.marked other y at ∙ or_right _ _ has
 
     -- a cell that is marked only now holds what the object holds
@@ -242,10 +242,10 @@ module _ (q : Quest) (placed : IsPlaced q.placed) (is : IsQuest q) where
         IsReachable-step q.graph q.sources id y from (is.passable id) (edge, node x y at fresh)
 
     -- a cell that waited waits still, or is the one that was taken
-    from_work : (x y : ℕ) → id_in p x ≡ Some y → IsTrue (has_id s.work x) → IsTrue (has_id m.work x) ⊎ IsFollowed p m y
+    from_work : (x y : ℕ) → id_in p x ≡ Some y → IsTrue (has_id s.work x) → IsTrue (has_id m.work x) ⊎ IsScanned p m y
     from_work x y at waits = ⊎_elim
         (λ rest. inl (follows.meets.work x ∙ or_left _ _ rest))
-        (λ last. inr (subst (λ z. IsFollowed p m z) (its last) followed_now))
+        (λ last. inr (subst (λ z. IsScanned p m z) (its last) followed_now))
         (or_cases _ _ (sym (in_work x) ∙ waits))
       where
         its : ((cell == x) || false) ≡ true → id ≡ y
@@ -254,7 +254,7 @@ module _ (q : Quest) (placed : IsPlaced q.placed) (is : IsQuest q) where
             (λ e. absurd (false≢true e))
             (or_cases _ _ last)
 
-    follows_on : (x y : ℕ) → id_in p x ≡ Some y → is_marked m x ≡ true → is_marked q.before x ≡ false → (b : Bool) → is_marked s x ≡ b → IsTrue (has_id m.work x) ⊎ IsFollowed p m y
+    follows_on : (x y : ℕ) → id_in p x ≡ Some y → is_marked m x ≡ true → is_marked q.before x ≡ false → (b : Bool) → is_marked s x ≡ b → IsTrue (has_id m.work x) ⊎ IsScanned p m y
     follows_on x y at marked fresh true was = ⊎_elim
         (from_work x y at)
         (λ done. inr (λ other z there has. still other (done other z there has)))
@@ -272,7 +272,7 @@ module _ (q : Quest) (placed : IsPlaced q.placed) (is : IsQuest q) where
         (parts.0, fresh_before x fresh, subst IsSome (sym one.1) refl))
         (or_cases _ _ (sym (follows.meets.work x) ∙ waits))
 
-    searching-next : IsSearching q m
+    searching-next : IsMarking q m
     searching-next = record {
       stays = λ x was. still x (now.stays x was);
       unheld = λ x at. follows.meets.unheld x at ∙ same x ∙ now.unheld x at;
@@ -284,7 +284,7 @@ module _ (q : Quest) (placed : IsPlaced q.placed) (is : IsQuest q) where
 
   -- ---- the end
 
-  module _ (m : Marks) (done : m.work ≡ []) (now : IsSearching q m) where
+  module _ (m : Marks) (done : m.work ≡ []) (now : IsMarking q m) where
     -- a path from a marked object leads to marked ones
     walk : (steps : List ℕ) (x y cell : ℕ) → id_in p cell ≡ Some x → is_marked m cell ≡ true → is_marked q.before cell ≡ false →
         IsPath q.graph x steps y → (other : ℕ) → id_in p other ≡ Some y → is_marked m other ≡ true
@@ -318,6 +318,6 @@ module _ (q : Quest) (placed : IsPlaced q.placed) (is : IsQuest q) where
         go false e = reached e (is_marked m cell) (has_id (reached_nodes q.graph q.sources) id) refl refl
 
 -- a cell is followed, where the table of the quest is given by an equation
-pub searching-step : {q : Quest} {p : Placed} {cell id : ℕ} {s m : Marks} → q.placed ≡ p → IsPlaced p → IsQuest q → IsSearching q s → Follows p cell id s m → IsSearching q m
+pub searching-step : {q : MarkSearch} {p : PlacedTable} {cell id : ℕ} {s m : Marks} → q.placed ≡ p → IsPlaced p → IsMarkSearch q → IsMarking q s → Follows p cell id s m → IsMarking q m
 searching-step {q} {p} {cell} {id} {s} {m} e placed is now follows =
     searching-next q (subst IsPlaced (sym e) placed) is now (subst (λ r. Follows r cell id s m) (sym e) follows)

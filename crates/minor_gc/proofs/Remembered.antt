@@ -9,8 +9,8 @@ use Rattle.graph_meaning.specs.Reach.{has_id}
 use Rattle.graph_meaning.proofs.HeapLemmas.{has_id-ids}
 use Rattle.graph_meaning.proofs.Membership.{has_id-filter, length-filter_le, All-has_id}
 use Rattle.object_table.specs.Placed.{id_in}
-use Rattle.minor_gc.specs.Generations.{Generations, is_young, is_old, holds_young, remembered}
-use Rattle.minor_gc.specs.Nurseries.{Parts, heap_of, young_count}
+use Rattle.minor_gc.specs.Generations.{Generations, is_young, is_old, holds_young, remembered_set}
+use Rattle.minor_gc.specs.Nurseries.{NurseryParts, generations_of, young_count}
 use Rattle.minor_gc.specs.Tallies.{HoldsOneOf}
 use Rattle.minor_gc.proofs.Inside.{IsSoundNursery}
 use Rattle.minor_gc.proofs.Targets.{any_count}
@@ -20,13 +20,13 @@ abbrev pub remembers : Generations → ℕ → Bool
 remembers g x = is_old g x && holds_young g x
 
 -- the remembered list, by its definition
-pub remembered_is : (g : Generations) (xs : List ℕ) → xs ≡ remembered g → xs ≡ filter (remembers g) (ids g.table)
-unfolding remembered
+pub remembered_is : (g : Generations) (xs : List ℕ) → xs ≡ remembered_set g → xs ≡ filter (remembers g) (ids g.table)
+unfolding remembered_set
 remembered_is g xs list = list
 
-module _ {n : Parts} (is : IsSoundNursery n) where
+module _ {n : NurseryParts} (is : IsSoundNursery n) where
   abbrev g : Generations
-  g = heap_of n
+  g = generations_of n
 
   list : n.remembered ≡ filter (remembers g) (ids g.table)
   list = remembered_is g n.remembered is.nursery.remembered

@@ -11,10 +11,10 @@ use Rattle.graph_meaning.proofs.Distances.{same_bools}
 use Rattle.graph_meaning.proofs.HeapLemmas.{has_id-ids}
 use Rattle.graph_meaning.proofs.Membership.{has_id-filter, has_id-append, has_id-from_list_any, list_any-from_has_id, list_any-flat_map}
 use Rattle.graph_meaning.proofs.Reaching.{reached_nodes-closed, reached_nodes-in_nodes}
-use Rattle.object_table.specs.Placed.{Placed, id_in}
+use Rattle.object_table.specs.Placed.{PlacedTable, id_in}
 use Rattle.minor_gc.specs.Generations.{Generations, is_young, is_old, holds_young, young_graph, young_starts, young_kept, kept_by_minor, kept_by_full}
-use Rattle.minor_gc.specs.Marks.{Marks, is_marked, Meets, Quest, IsQuest, IsSearching}
-use Rattle.minor_gc.specs.Nurseries.{Parts, heap_of}
+use Rattle.minor_gc.specs.Marks.{Marks, is_marked, MarksAll, MarkSearch, IsMarkSearch, IsMarking}
+use Rattle.minor_gc.specs.Nurseries.{NurseryParts, generations_of}
 use Rattle.minor_gc.proofs.Inside.{IsSoundNursery}
 use Rattle.minor_gc.proofs.Keeping.{all_has, in_minor, start_stays, edge_stays}
 use Rattle.minor_gc.proofs.Marking.{Meets-join, searching-begin, marked-is}
@@ -23,9 +23,9 @@ use Rattle.minor_gc.proofs.Settled.{IsKept, MarksKept}
 use Rattle.minor_gc.proofs.Targets.{target_live}
 
 -- What a search tells that has come to its end: it went on with whatever it was on, and nothing is left to follow.
-pub record HasRun (p : Placed) (before after : Marks) : Type 0 where
+pub record HasRun (p : PlacedTable) (before after : Marks) : Type 0 where
   pub each : length after.marks ≡ length before.marks
-  pub searching : (q : Quest) → q.placed ≡ p → IsQuest q → IsSearching q before → IsSearching q after
+  pub searching : (q : MarkSearch) → q.placed ≡ p → IsMarkSearch q → IsMarking q before → IsMarking q after
   pub done : after.work ≡ []
 
 and_true : (b : Bool) → (b && true) ≡ b
@@ -36,9 +36,9 @@ not_not : (b : Bool) → not (not b) ≡ b
 not_not true = refl
 not_not false = refl
 
-module _ {n : Parts} (is : IsSoundNursery n) where
+module _ {n : NurseryParts} (is : IsSoundNursery n) where
   abbrev g : Generations
-  g = heap_of n
+  g = generations_of n
 
   abbrev t : Table
   t = n.placed.table
@@ -79,7 +79,7 @@ module _ {n : Parts} (is : IsSoundNursery n) where
   abbrev marks_before : Marks
   marks_before = record { marks = n.marks; work = n.work }
 
-  abbrev minor_quest : Quest
+  abbrev minor_quest : MarkSearch
   minor_quest = record { placed = n.placed; before = marks_before; graph = young_graph g; sources = young_starts g }
 
   mark_of : (cell id : ℕ) → id_in n.placed cell ≡ Some id → is_marked marks_before cell ≡ is_old g id
@@ -88,7 +88,7 @@ module _ {n : Parts} (is : IsSoundNursery n) where
   young_node : (id : ℕ) → IsTrue (has_id (young_graph g).nodes id) → IsTrue (is_young g id) × IsTrue (has_id (ids t) id)
   young_node id node = let both = and_parts _ _ (sym (has_id-filter (is_young g) (ids t) id) ∙ node) in (both.0, both.1)
 
-  minor_is_quest : IsQuest minor_quest
+  minor_is_quest : IsMarkSearch minor_quest
   minor_is_quest = record {
     nodes = λ cell id at.
         has_id-filter (is_young g) (ids t) id
@@ -131,9 +131,9 @@ module _ {n : Parts} (is : IsSoundNursery n) where
 
   -- what a minor collection marks: it begins at the roots, and at what remembered objects hold
   module _ (roots objects m : Marks)
-      (first : Meets n.placed (root_ids t) marks_before roots) (second : Meets n.placed held_by_remembered roots objects)
+      (first : MarksAll n.placed (root_ids t) marks_before roots) (second : MarksAll n.placed held_by_remembered roots objects)
       (run : HasRun n.placed objects m) where
-    minor_begins : IsSearching minor_quest objects
+    minor_begins : IsMarking minor_quest objects
     minor_begins =
         searching-begin minor_quest is.placed minor_is_quest (root_ids t ++ held_by_remembered) same objects is.nursery.idle
         (Meets-join first second)
@@ -144,7 +144,7 @@ module _ {n : Parts} (is : IsSoundNursery n) where
             ∙ ap (λ b. has_id (root_ids t) id || b) (agree id (young_node id node).0)
             ∙ sym (has_id-append (root_ids t) held_by_old id)
 
-    minor_searching : IsSearching minor_quest m
+    minor_searching : IsMarking minor_quest m
     minor_searching = run.searching minor_quest refl minor_is_quest minor_begins
 
     minor_marked : (cell id : ℕ) → id_in n.placed cell ≡ Some id → is_marked m cell ≡ has_id (kept_by_minor g) id
@@ -182,8 +182,8 @@ module _ {n : Parts} (is : IsSoundNursery n) where
   -- what a full collection marks, for which the marks are taken away first: it begins at the roots
   module _ (cleared roots m : Marks)
       (none : cleared.marks ≡ replicate (length n.marks) false) (idle : cleared.work ≡ [])
-      (first : Meets n.placed (root_ids t) cleared roots) (run : HasRun n.placed roots m) where
-    abbrev full_quest : Quest
+      (first : MarksAll n.placed (root_ids t) cleared roots) (run : HasRun n.placed roots m) where
+    abbrev full_quest : MarkSearch
     full_quest = record { placed = n.placed; before = cleared; graph = object_graph t; sources = root_ids t }
 
     unmarked : (cell : ℕ) → is_marked cleared cell ≡ false
@@ -194,7 +194,7 @@ module _ {n : Parts} (is : IsSoundNursery n) where
         past (suc k) zero = refl
         past (suc k) (suc c) = past k c
 
-    full_is_quest : IsQuest full_quest
+    full_is_quest : IsMarkSearch full_quest
     full_is_quest = record {
       nodes = λ cell id at. held_live cell id at ∙ sym (ap not (unmarked cell));
       live = λ id has. sym (has_id-ids t id) ∙ has;
@@ -202,7 +202,7 @@ module _ {n : Parts} (is : IsSoundNursery n) where
       passable = λ id. refl;
     }
 
-    full_searching : IsSearching full_quest m
+    full_searching : IsMarking full_quest m
     full_searching =
         run.searching full_quest refl full_is_quest (searching-begin full_quest is.placed full_is_quest (root_ids t) (λ id node. refl) roots idle first)
 

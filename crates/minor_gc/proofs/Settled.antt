@@ -15,12 +15,12 @@ use Rattle.graph_meaning.proofs.Distances.{same_bools}
 use Rattle.graph_meaning.proofs.HeapLemmas.{has_id-ids}
 use Rattle.graph_meaning.proofs.Membership.{length-filter_le}
 use Rattle.graph_meaning.proofs.Rising.{ids-with_only}
-use Rattle.object_table.specs.Placed.{Placed, id_in, slots_in, IsPlaced, IsSound, kept_ids, LeadsToKept, HoldKept, KeepsCells}
+use Rattle.object_table.specs.Placed.{PlacedTable, id_in, slots_in, IsPlaced, IsSound, kept_ids, LeadsToKept, HoldKept, KeepsCells}
 use Rattle.object_table.proofs.Changes.{kept_has, has_kept}
 use Rattle.object_table.proofs.ObjectsByCell.{edges-cell}
-use Rattle.minor_gc.specs.Generations.{Generations, is_young, is_old, holds_young, remembered, after_collection, collection_with}
+use Rattle.minor_gc.specs.Generations.{Generations, is_young, is_old, holds_young, remembered_set, after_keeping, collection_with}
 use Rattle.minor_gc.specs.Marks.{Marks, is_marked}
-use Rattle.minor_gc.specs.Nurseries.{Parts, heap_of, young_count, NoneWeak, IsNursery}
+use Rattle.minor_gc.specs.Nurseries.{NurseryParts, generations_of, young_count, NoneWeak, IsNursery}
 use Rattle.minor_gc.proofs.Inside.{IsSoundNursery}
 use Rattle.minor_gc.proofs.Keeping.{live_kept, all_has}
 use Rattle.minor_gc.proofs.Lists.{filter-out}
@@ -82,7 +82,7 @@ pub record IsKept (t : Table) (kept : List ℕ) : Type 0 where
   pub edges : (x y : ℕ) → IsTrue (has_id kept x) → IsTrue (has_id (targets t x) y) → IsTrue (has_id kept y)
 
 -- The search in a nursery has ended: the cells of what is kept are marked, and no others.
-pub record MarksKept (n : Parts) (kept : List ℕ) (m : Marks) : Type 0 where
+pub record MarksKept (n : NurseryParts) (kept : List ℕ) (m : Marks) : Type 0 where
   pub before : IsSoundNursery n
   pub closed : IsKept n.placed.table kept
   pub each : length m.marks ≡ length n.placed.cells
@@ -91,7 +91,7 @@ pub record MarksKept (n : Parts) (kept : List ℕ) (m : Marks) : Type 0 where
 
 -- What a collection leaves of a nursery where these cells are marked: in the table what is kept alone, each object in its
 -- cell and old, and of each cell of this table the mark, and the count 0.
-pub record LeavesKept (n : Parts) (m : Marks) (after : Parts) : Type 0 where
+pub record LeavesKept (n : NurseryParts) (m : Marks) (after : NurseryParts) : Type 0 where
   pub placed : IsPlaced after.placed
   pub sound : IsSound after.placed.table
   pub table : after.placed.table ≡ with_only (kept_ids n.placed.cells m.marks) n.placed.table
@@ -106,8 +106,8 @@ pub record LeavesKept (n : Parts) (m : Marks) (after : Parts) : Type 0 where
   pub remembered : after.remembered ≡ []
   pub room : n.room ≤ after.room
 
-module _ {n : Parts} {kept : List ℕ} {m : Marks} (by_marks : MarksKept n kept m) where
-  abbrev p : Placed
+module _ {n : NurseryParts} {kept : List ℕ} {m : Marks} (by_marks : MarksKept n kept m) where
+  abbrev p : PlacedTable
   p = n.placed
 
   abbrev by_cell : List ℕ
@@ -146,9 +146,9 @@ module _ {n : Parts} {kept : List ℕ} {m : Marks} (by_marks : MarksKept n kept 
           let edge : has_id (targets p.table id) y ≡ true = ap (λ es. has_id (map (λ (f : ℕ × ℕ). f.1) es) y) (edges-cell p cell id at) ∙ end in
           ids_same y ∙ by_marks.closed.edges id y (sym (ids_same id) ∙ has) edge
 
-  module _ {after : Parts} (leaves : LeavesKept n m after) where
+  module _ {after : NurseryParts} (leaves : LeavesKept n m after) where
     abbrev g' : Generations
-    g' = heap_of after
+    g' = generations_of after
 
     abbrev t' : Table
     t' = after.placed.table
@@ -221,8 +221,8 @@ module _ {n : Parts} {kept : List ℕ} {m : Marks} (by_marks : MarksKept n kept 
         (cases_lt cell (length after.placed.cells))
         ∙ none_young (id_in after.placed cell)
 
-    remembered_then : [] ≡ remembered g'
-    unfolding remembered
+    remembered_then : [] ≡ remembered_set g'
+    unfolding remembered_set
     remembered_then = go (ids t')
       where
         fails : (x : ℕ) → remembers g' x ≡ false
@@ -253,12 +253,12 @@ module _ {n : Parts} {kept : List ℕ} {m : Marks} (by_marks : MarksKept n kept 
     table_is : t' ≡ with_only kept p.table
     table_is = leaves.table ∙ same_with_only by_cell kept ids_same p.table
 
-    pub heap_is : heap_of after ≡ after_collection kept (heap_of n)
+    pub heap_is : generations_of after ≡ after_keeping kept (generations_of n)
     heap_is = λ i. record { table = table_is i; old_up_to = (leaves.old ∙ by_marks.before.nursery.greatest) i }
 
     -- what the collection says of itself, by how many objects were live, how many are left, and how many were remembered
     pub collection_is : (live left listed : ℕ) → live ≡ length p.table.objects → left ≡ length t'.objects → listed ≡ length n.remembered →
-        record { live = live; freed = live - left; remembered = listed } ≡ collection_with kept (heap_of n)
+        record { live = live; freed = live - left; remembered = listed } ≡ collection_with kept (generations_of n)
     collection_is live left listed were are listed_is =
         let less : live - left ≡ length p.table.objects - length (with_only kept p.table).objects =
         λ i. were i - (are ∙ ap (λ (t : Table). length t.objects) table_is) i in

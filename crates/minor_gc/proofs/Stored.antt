@@ -19,11 +19,11 @@ use Rattle.graph_meaning.proofs.HeapLemmas.{has_id-ids, object_at-with_change}
 use Rattle.graph_meaning.proofs.Keeping.{first_of-None}
 use Rattle.graph_meaning.proofs.Membership.{length-filter_le}
 use Rattle.graph_meaning.proofs.Rising.{ids-with_change}
-use Rattle.object_table.specs.Placed.{Placed, id_in, object_in, slot_in, IsStacked}
+use Rattle.object_table.specs.Placed.{PlacedTable, id_in, object_in, slot_in, IsStacked}
 use Rattle.object_table.proofs.ObjectsByCell.{held-within}
 use Rattle.object_table.proofs.Refusals.{slot_fits}
-use Rattle.minor_gc.specs.Generations.{Generations, is_young, is_old, holds_young, remembered}
-use Rattle.minor_gc.specs.Nurseries.{Parts, heap_of, young_count, NoneWeak, IsNursery}
+use Rattle.minor_gc.specs.Generations.{Generations, is_young, is_old, holds_young, remembered_set}
+use Rattle.minor_gc.specs.Nurseries.{NurseryParts, generations_of, young_count, NoneWeak, IsNursery}
 use Rattle.minor_gc.proofs.Added.{same_filter}
 use Rattle.minor_gc.proofs.Inside.{IsSoundNursery}
 use Rattle.minor_gc.proofs.Lists.{Rises, filter-in, filter-out}
@@ -172,7 +172,7 @@ module _ {t : Table} {w : SlotStore} (has : HasSlot t w) where
 -- ---- before a store in an old object
 
 -- the slot of the object in a cell
-slot_is : (p : Placed) (cell slot : ℕ) (o : Object) → object_in p cell ≡ Some o → slot_in p cell slot ≡ get_or o.slots slot empty_slot
+slot_is : (p : PlacedTable) (cell slot : ℕ) (o : Object) → object_in p cell ≡ Some o → slot_in p cell slot ≡ get_or o.slots slot empty_slot
 slot_is p cell slot o found = ap (λ q. get_or (option_map_or (λ (u : Object). u.slots) q []) slot empty_slot) found
 
 fewer_pass : (q : ℕ → Bool) (xs : List ℕ) (x : ℕ) → IsTrue (has_id xs x) → q x ≡ false → length (filter q xs) < length xs
@@ -187,15 +187,15 @@ fewer_pass q (y ∷ xs) x has fails = ⊎_elim
     go false e less = omega (arith, ap (λ l. length l) (filter-out q y xs e), less)
 
 -- A store that goes to an old object of a nursery, which stands in this cell.
-pub record StoresInOld (n : Parts) (w : SlotStore) (cell : ℕ) : Type 0 where
+pub record StoresInOld (n : NurseryParts) (w : SlotStore) (cell : ℕ) : Type 0 where
   pub before : IsSoundNursery n
   pub held : id_in n.placed cell ≡ Some w.at
   pub low : w.at ≤ n.old_up_to
   pub has : HasSlot n.placed.table w
 
-module _ {n : Parts} {w : SlotStore} {cell : ℕ} (old : StoresInOld n w cell) where
+module _ {n : NurseryParts} {w : SlotStore} {cell : ℕ} (old : StoresInOld n w cell) where
   abbrev h : Generations
-  h = heap_of n
+  h = generations_of n
 
   abbrev held_before : List ℕ
   held_before = targets n.placed.table w.at
@@ -232,7 +232,7 @@ module _ {n : Parts} {w : SlotStore} {cell : ℕ} (old : StoresInOld n w cell) w
   slot_was =
       slot_is n.placed cell w.slot old.has.object (ap (option_and_then (object_at n.placed.table.objects)) old.held ∙ old.has.found)
 
-  pub slot_now : (after : Placed) → after.table ≡ table_then w n.placed.table → id_in after cell ≡ id_in n.placed cell → slot_in after cell w.slot ≡ slot_after old.has
+  pub slot_now : (after : PlacedTable) → after.table ≡ table_then w n.placed.table → id_in after cell ≡ id_in n.placed cell → slot_in after cell w.slot ≡ slot_after old.has
   slot_now after table same =
       let found = ap (λ (u : Table). object_at u.objects w.at) table ∙ found_then old.has in
       slot_is after cell w.slot (object_then old.has) (ap (option_and_then (object_at after.table.objects)) (same ∙ old.held) ∙ found)
@@ -241,34 +241,34 @@ module _ {n : Parts} {w : SlotStore} {cell : ℕ} (old : StoresInOld n w cell) w
 
 -- The parts that a store changes.
 pub record StoredParts : Type 0 where
-  pub placed : Placed
+  pub placed : PlacedTable
   pub counts : List ℕ
   pub remembered : List ℕ
   pub room : ℕ
 
-abbrev pub parts_then : Parts → StoredParts → Parts
+abbrev pub parts_then : NurseryParts → StoredParts → NurseryParts
 parts_then n s = record n { placed = s.placed; counts = s.counts; remembered = s.remembered; room = s.room }
 
 -- The table is the one after the store, each object stands where it stood, and there is no less room.
-pub record Stores (n : Parts) (w : SlotStore) (s : StoredParts) : Type 0 where
+pub record Stores (n : NurseryParts) (w : SlotStore) (s : StoredParts) : Type 0 where
   pub nursery : IsNursery n
   pub table : s.placed.table ≡ table_then w n.placed.table
   pub cells : s.placed.cells ≡ n.placed.cells
   pub room : n.room ≤ s.room
 
 -- The count of the object is this one, and it is in the list where that isn't 0.
-pub record Recounts (n : Parts) (w : SlotStore) (s : StoredParts) (cell count : ℕ) : Type 0 where
-  pub counted : count ≡ count_by (is_young (heap_of n)) (targets s.placed.table w.at)
+pub record Recounts (n : NurseryParts) (w : SlotStore) (s : StoredParts) (cell count : ℕ) : Type 0 where
+  pub counted : count ≡ count_by (is_young (generations_of n)) (targets s.placed.table w.at)
   pub put : s.counts ≡ set n.counts cell count
   pub list : (ids : List ℕ) (was is : ℕ → Bool) → Rises ids → IsTrue (has_id ids w.at) → ((x : ℕ) → (x == w.at) ≡ false → was x ≡ is x) →
       was w.at ≡ nat_lt 0 (get_or n.counts cell 0) → is w.at ≡ nat_lt 0 count → n.remembered ≡ filter was ids → s.remembered ≡ filter is ids
 
-module _ {n : Parts} {w : SlotStore} {s : StoredParts} (stores : Stores n w s) where
+module _ {n : NurseryParts} {w : SlotStore} {s : StoredParts} (stores : Stores n w s) where
   abbrev g : Generations
-  g = heap_of n
+  g = generations_of n
 
   abbrev g' : Generations
-  g' = heap_of (parts_then n s)
+  g' = generations_of (parts_then n s)
 
   same_in : (cell : ℕ) → id_in s.placed cell ≡ id_in n.placed cell
   same_in cell = ap (λ l. get_or l cell None) stores.cells
@@ -298,7 +298,7 @@ module _ {n : Parts} {w : SlotStore} {s : StoredParts} (stores : Stores n w s) w
       ∙ ap (λ l. cond (is_young g x) 0 (count_by (is_young g) l)) (sym (targets_same x (λ same. apart (ap Some same))))
       ∙ sym (ap (young_count g') (same_in cell ∙ held))
 
-  stored : ((cell : ℕ) → get_or s.counts cell 0 ≡ young_count g' (id_in s.placed cell)) → length s.counts ≡ length n.counts → s.remembered ≡ remembered g' → IsNursery (parts_then n s)
+  stored : ((cell : ℕ) → get_or s.counts cell 0 ≡ young_count g' (id_in s.placed cell)) → length s.counts ≡ length n.counts → s.remembered ≡ remembered_set g' → IsNursery (parts_then n s)
   stored counts_then each_count remembered_then =
       let was = stores.nursery in
       record {
@@ -334,8 +334,8 @@ module _ {n : Parts} {w : SlotStore} {s : StoredParts} (stores : Stores n w s) w
         go None held = other_counts cell None held (λ e. let h = e in cc)
         go (Some x) held = pick x held (cases_eq x w.at)
 
-    young_list : s.remembered ≡ remembered g'
-    unfolding remembered
+    young_list : s.remembered ≡ remembered_set g'
+    unfolding remembered_set
     young_list =
         same_list
         ∙ stores.nursery.remembered
@@ -370,8 +370,8 @@ module _ {n : Parts} {w : SlotStore} {s : StoredParts} (stores : Stores n w s) w
     remembered_now =
         ap (λ b. not b && holds_young g' w.at) (is_old_one old) ∙ any_count (is_young g') (targets s.placed.table w.at) ∙ ap (nat_lt 0) (sym recounts.counted)
 
-    old_list : s.remembered ≡ remembered g'
-    unfolding remembered
+    old_list : s.remembered ≡ remembered_set g'
+    unfolding remembered_set
     old_list =
         recounts.list (ids n.placed.table) (remembers g) (remembers g')
         old.before.sound.ids.rising

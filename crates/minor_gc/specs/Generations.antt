@@ -26,8 +26,8 @@ abbrev pub holds_young : Generations → ℕ → Bool
 holds_young g x = list_any (is_young g) (targets g.table x)
 
 -- the old objects that hold a young one in a slot, by id
-unfoldable pub remembered : Generations → List ℕ
-remembered g = filter (λ x. is_old g x && holds_young g x) (ids g.table)
+unfoldable pub remembered_set : Generations → List ℕ
+remembered_set g = filter (λ x. is_old g x && holds_young g x) (ids g.table)
 
 -- ---- what is kept
 
@@ -54,21 +54,21 @@ kept_by_full g = reached_nodes (object_graph g.table) (root_ids g.table)
 -- ---- a collection
 
 -- The heap with these objects alone, all of which are old then. Types, roots and the greatest id stay.
-abbrev pub after_collection : List ℕ → Generations → Generations
-after_collection kept g = record { table = with_only kept g.table; old_up_to = g.table.greatest }
+abbrev pub after_keeping : List ℕ → Generations → Generations
+after_keeping kept g = record { table = with_only kept g.table; old_up_to = g.table.greatest }
 
 abbrev pub after_minor : Generations → Generations
-after_minor g = after_collection (kept_by_minor g) g
+after_minor g = after_keeping (kept_by_minor g) g
 
 abbrev pub after_full : Generations → Generations
-after_full g = after_collection (kept_by_full g) g
+after_full g = after_keeping (kept_by_full g) g
 
 -- What a collection that keeps these objects says of itself.
 abbrev pub collection_with : List ℕ → Generations → Minor
 collection_with kept g = record {
   live = length g.table.objects;
   freed = length g.table.objects - length (with_only kept g.table).objects;
-  remembered = length (remembered g);
+  remembered = length (remembered_set g);
 }
 
 abbrev pub minor_collection : Generations → Minor

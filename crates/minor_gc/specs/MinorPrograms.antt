@@ -2,5 +2,5 @@
 use Rattle.minor_gc.specs.declared.program.MinorProgram.{MinorProgram}
 use Rattle.minor_gc.specs.MinorRuns.{MinorState}
 
-abbrev pub state_in : MinorProgram → MinorState
-state_in p = record { heap = p.nursery.heap; collections = p.collections }
+abbrev pub minor_state : MinorProgram → MinorState
+minor_state p = record { heap = p.nursery.heap; collections = p.collections }

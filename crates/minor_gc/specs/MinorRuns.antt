@@ -6,7 +6,7 @@ use Rattle.graph_meaning.specs.declared.refusal.Refusal.{Refusal}
 use Rattle.graph_meaning.specs.declared.refusal.Refusal.TheVariants.{UnknownOp}
 use Rattle.graph_meaning.specs.Heap.{Table, empty_table}
 use Rattle.graph_meaning.specs.Step.{alloc_refusal, store_refusal, root_refusal, with_object, with_changed_slot, slot_holding, with_root}
-use Rattle.trace_run.specs.Program.{Effect, goes_on, refuses, Meaning}
+use Rattle.trace_run.specs.Program.{Effect, goes_on, refuses, ProgramMeaning}
 use Rattle.minor_gc.specs.declared.minor.Minor.{Minor}
 use Rattle.minor_gc.specs.Generations.{Generations, minor_collection, full_collection, after_minor, after_full}
 
@@ -31,8 +31,8 @@ minor_text number m =
 unfoldable pub full_text : ℕ → Minor → List ℕ
 full_text number m = codes "full " ++ decimal number ++ codes " live " ++ decimal m.live ++ codes " freed " ++ decimal m.freed ++ codes "\n"
 
-unfoldable pub end_text : ℕ → List ℕ
-end_text collections = codes "end gcs " ++ decimal collections ++ codes "\n"
+unfoldable pub minor_end_text : ℕ → List ℕ
+minor_end_text collections = codes "end gcs " ++ decimal collections ++ codes "\n"
 
 -- ---- the program
 
@@ -60,5 +60,5 @@ minor_takes s (Root name to) = with_table (root_refusal s.heap.table name to) s 
 minor_takes s Collect = collects (s.collections + 1) s.heap
 minor_takes s event = refuses UnknownOp
 
-abbrev pub minor_meaning : Meaning MinorState
-minor_meaning = record { takes = minor_takes; ends = λ s. record { text = end_text s.collections; violated = false } }
+abbrev pub minor_meaning : ProgramMeaning MinorState
+minor_meaning = record { takes = minor_takes; ends = λ s. record { text = minor_end_text s.collections; violated = false } }

@@ -6,7 +6,7 @@ ghost use Rattle.graph_meaning.specs.Heap.{targets, is_live};
 ghost use Rattle.graph_meaning.specs.Reach.{has_id};
 ghost use Rattle.graph_meaning.specs.Roles.{id_at};
 ghost use Rattle.object_table.specs.Placed.{id_in, IsPlaced};
-ghost use Rattle.minor_gc.specs.Marks.{Quest, IsQuest, IsSearching, Meets};
+ghost use Rattle.minor_gc.specs.Marks.{MarkSearch, IsMarkSearch, IsMarking, MarksAll};
 ghost use Rattle.minor_gc.specs.Searches.{marks_of};
 
 use crate::search::Search;
@@ -18,7 +18,7 @@ impl Search {
     pub fn take_roots(&mut self, table: &ObjectTable)
         requires placed { IsPlaced table.now }
         requires each { length self.old.marks.items ≡ length table.now.cells }
-        ensures { Meets table.now (root_ids table.now.table) (marks_of self.old) (marks_of self.new) }
+        ensures { MarksAll table.now (root_ids table.now.table) (marks_of self.old) (marks_of self.new) }
     {
         for root in 0..table.roots() {
             self.meet(table.root_cell(root));
@@ -30,7 +30,7 @@ impl Search {
         requires placed { IsPlaced table.now }
         requires each { length self.old.marks.items ≡ length table.now.cells }
         requires live { All (λ id. IsTrue (is_live table.now.table id)) ids.now }
-        ensures { Meets table.now (flat_map (targets table.now.table) ids.now) (marks_of self.old) (marks_of self.new) }
+        ensures { MarksAll table.now (flat_map (targets table.now.table) ids.now) (marks_of self.old) (marks_of self.new) }
     {
         for id in ids {
             if let Some(cell) = table.cell_of(*id) {
@@ -45,7 +45,7 @@ impl Search {
         requires each { length self.old.marks.items ≡ length table.now.cells }
         requires work { (cell : ℕ) → IsTrue (has_id self.old.work.items cell) → IsSome (id_in table.now cell) }
         ensures each { length self.new.marks.items ≡ length self.old.marks.items }
-        ensures searching { (q : Quest) → q.placed ≡ table.now → IsQuest q → IsSearching q (marks_of self.old) → IsSearching q (marks_of self.new) }
+        ensures searching { (q : MarkSearch) → q.placed ≡ table.now → IsMarkSearch q → IsMarking q (marks_of self.old) → IsMarking q (marks_of self.new) }
         ensures done { self.new.work.items ≡ [] }
     {
         while let Some(cell) = self.work.pop() {
@@ -58,7 +58,7 @@ impl Search {
         requires placed { IsPlaced table.now }
         requires each { length self.old.marks.items ≡ length table.now.cells }
         requires cell { IsSome (id_in table.now cell) }
-        ensures meets { Meets table.now (targets table.now.table (id_at table.now.cells cell)) (marks_of self.old) (marks_of self.new) }
+        ensures meets { MarksAll table.now (targets table.now.table (id_at table.now.cells cell)) (marks_of self.old) (marks_of self.new) }
         ensures left { count_by not self.new.marks.items + vec_len self.new.work ≤ count_by not self.old.marks.items + vec_len self.old.work }
     {
         for slot in 0..table.slots_at(cell) {

@@ -4,8 +4,8 @@ ghost use Rattle.graph_meaning.specs.Answers.{RefusesBy};
 ghost use Rattle.graph_meaning.specs.Heap.{ids, is_live};
 ghost use Rattle.graph_meaning.specs.Step.{alloc_refusal, store_refusal, root_refusal, with_object, with_changed_slot, slot_holding, with_root};
 ghost use Rattle.object_table.specs.Placed.{nothing_placed};
-ghost use Rattle.minor_gc.specs.Generations.{is_young, remembered, after_minor, after_full, minor_collection, full_collection};
-ghost use Rattle.minor_gc.specs.Nurseries.{placed_in, nothing_nursed};
+ghost use Rattle.minor_gc.specs.Generations.{is_young, remembered_set, after_minor, after_full, minor_collection, full_collection};
+ghost use Rattle.minor_gc.specs.Nurseries.{nursery_table, nothing_nursed};
 
 use crate::minor::Minor;
 use crate::room::{add_cells, drop_cells, reserve_one};
@@ -34,9 +34,9 @@ pub struct Nursery {
 
 impl Model for Nursery {
     ghost use Rattle.std.specs.Prelude.{vec_capacity};
-    ghost use Rattle.minor_gc.specs.Nurseries.{Nursed, IsNursery};
+    ghost use Rattle.minor_gc.specs.Nurseries.{NurseryState, IsNursery};
 
-    ghost Value = { Nursed };
+    ghost Value = { NurseryState };
 
     ghost view = { λ n. record { heap = record { table = n.table.table; old_up_to = n.old_up_to }; cells = n.table.cells } };
 
@@ -130,7 +130,7 @@ impl Nursery {
 
     /// The old objects that hold a young one in a slot, by id.
     pub fn remembered(&self) -> &[ObjId]
-        ensures list { result.now ≡ remembered self.now.heap }
+        ensures list { result.now ≡ remembered_set self.now.heap }
     {
         &self.remembered
     }
@@ -189,7 +189,7 @@ impl Nursery {
 
     /// The table.
     pub fn table(&self) -> &ObjectTable
-        ensures table { result.now ≡ placed_in self.now }
+        ensures table { result.now ≡ nursery_table self.now }
     {
         &self.table
     }

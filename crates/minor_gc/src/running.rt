@@ -2,9 +2,9 @@
 ghost use Rattle.std.specs.Prelude.{◌≡◌, ◌≢◌, ◌+◌, ◌<◌, ◌≤◌, length, IfOk};
 ghost use Rattle.heap_base.specs.Streams.{stream_of};
 ghost use Rattle.heap_base.specs.declared.limits.TheConstants.{LONGEST_TRACE};
-ghost use Rattle.trace_run.specs.Outcome.{Ended, RefusesWords, seen, trace_report};
-ghost use Rattle.trace_run.specs.Program.{Takes, goes_on, report_by};
-ghost use Rattle.minor_gc.specs.MinorPrograms.{state_in};
+ghost use Rattle.trace_run.specs.Outcome.{EndsAs, RefusesWords, outside_of, trace_report};
+ghost use Rattle.trace_run.specs.Program.{TakesEvent, goes_on, report_by};
+ghost use Rattle.minor_gc.specs.MinorPrograms.{minor_state};
 ghost use Rattle.minor_gc.specs.MinorRuns.{collects, first_minor_state, minor_meaning, minor_usage};
 
 use crate::nursery::Nursery;
@@ -30,11 +30,11 @@ pub fn minor_run<S: Source, K: Sink>(
     sink: &mut K,
 ) -> Status
     ensures unread { length words.now ≢ 1 → source.new ≡ source.old }
-    ensures taken { let old = seen (stream_of S.left S.faults source.old) (stream_of K.held K.faults sink.old) in
-        let new = seen (stream_of S.left S.faults source.new) (stream_of K.held K.faults sink.new) in
-        length words.now ≡ 1 → Ended (trace_report LONGEST_TRACE (report_by minor_meaning first_minor_state)) old new result }
-    ensures refused { let old = seen (stream_of S.left S.faults source.old) (stream_of K.held K.faults sink.old) in
-        let new = seen (stream_of S.left S.faults source.new) (stream_of K.held K.faults sink.new) in
+    ensures taken { let old = outside_of (stream_of S.left S.faults source.old) (stream_of K.held K.faults sink.old) in
+        let new = outside_of (stream_of S.left S.faults source.new) (stream_of K.held K.faults sink.new) in
+        length words.now ≡ 1 → EndsAs (trace_report LONGEST_TRACE (report_by minor_meaning first_minor_state)) old new result }
+    ensures refused { let old = outside_of (stream_of S.left S.faults source.old) (stream_of K.held K.faults sink.old) in
+        let new = outside_of (stream_of S.left S.faults source.new) (stream_of K.held K.faults sink.new) in
         length words.now ≢ 1 → RefusesWords minor_usage old new result }
 {
     if words.len() != 1 {
@@ -61,7 +61,7 @@ pub fn minor_run<S: Source, K: Sink>(
 // Takes an event of a trace.
 fn take_event(program: &mut MinorProgram, event: &Event) -> Result<Taken, Stop>
     requires few { program.old.collections < LONGEST_TRACE }
-    ensures takes { Takes (minor_meaning.takes (state_in program.old) event.now) result (state_in program.new) }
+    ensures takes { TakesEvent (minor_meaning.takes (minor_state program.old) event.now) result (minor_state program.new) }
     ensures few { program.new.collections ≤ program.old.collections + 1 }
 {
     match event {
@@ -83,7 +83,7 @@ fn take_event(program: &mut MinorProgram, event: &Event) -> Result<Taken, Stop>
 #[tactic(auto, unfolding(crate::specs::MinorRuns::collects))]
 fn collect(program: &mut MinorProgram) -> Result<Vec<u8>, OutOfMemory>
     requires few { program.old.collections < LONGEST_TRACE }
-    ensures collects { IfOk result (λ text. collects (program.old.collections + 1) program.old.nursery.heap ≡ goes_on text.items (state_in program.new)) }
+    ensures collects { IfOk result (λ text. collects (program.old.collections + 1) program.old.nursery.heap ≡ goes_on text.items (minor_state program.new)) }
     ensures few { program.new.collections ≤ program.old.collections + 1 }
 {
     let number = program.collections + 1;

@@ -1,6 +1,6 @@
 //! The lines of a run.
 ghost use Rattle.std.specs.Prelude.{◌≡◌, IfOk};
-ghost use Rattle.minor_gc.specs.MinorRuns.{end_text, full_text, minor_text};
+ghost use Rattle.minor_gc.specs.MinorRuns.{minor_end_text, full_text, minor_text};
 
 use crate::minor::Minor;
 use heap_base::OutOfMemory;
@@ -42,9 +42,9 @@ pub fn full_text(alloc: Global, number: u64, full: Minor) -> Result<Vec<u8>, Out
 }
 
 /// The last line of a run whose trace was read to its end.
-#[tactic(auto, unfolding(crate::specs::MinorRuns::end_text))]
+#[tactic(auto, unfolding(crate::specs::MinorRuns::minor_end_text))]
 pub fn end_text(alloc: Global, collections: u64) -> Result<Vec<u8>, OutOfMemory>
-    ensures { IfOk result (λ text. text.items ≡ end_text collections) }
+    ensures { IfOk result (λ text. text.items ≡ minor_end_text collections) }
 {
     let mut text = Vec::new(alloc);
     put(&mut text, b"end gcs ")?;

@@ -9,7 +9,7 @@ use Rattle.graph_meaning.specs.Assertions.{owner_ids, is_owner}
 use Rattle.graph_meaning.specs.Heap.{Table, Heap, ids}
 use Rattle.graph_meaning.specs.Paths.{Way, way_by_edge, owner_way, root_way, root_ways, ways_from, owner_ways, canonical_way, plain_way, holder_way, view_of}
 use Rattle.graph_meaning.specs.Roles.{RoleTable, id_at}
-use Rattle.object_table.specs.Placed.{Placed, id_in, cell_of}
+use Rattle.object_table.specs.Placed.{PlacedTable, id_in, cell_of}
 use Rattle.assert_registry.specs.Laws.{StandFor}
 use Rattle.assert_registry.proofs.Marking.{get_or-replicate_same}
 use Rattle.path_cert.specs.declared.start.Start.TheVariants.{Roots, Owners}
@@ -19,7 +19,7 @@ use Rattle.path_cert.proofs.ShownSteps.{view_of-shown, length-shown_from}
 use Rattle.object_paths.specs.PlainPaths.{none_shut}
 
 -- nothing is shut
-none-by_id : (p : Placed) (id : ℕ) → by_id p (λ cell. get_or (none_shut p) cell false) id ≡ false
+none-by_id : (p : PlacedTable) (id : ℕ) → by_id p (λ cell. get_or (none_shut p) cell false) id ≡ false
 none-by_id p id = go (cell_of p id)
   where
     go : (o : Option ℕ) → option_map_or (λ cell. get_or (none_shut p) cell false) o false ≡ false
@@ -36,7 +36,7 @@ ids-of (c ∷ cells) (x ∷ ids) held same =
     let rest : map held cells ≡ map Some ids = cc in
     (λ i. unwrap_or (first i) 0 ∷ ids-of cells ids held rest i)
 
-module _ (p : Placed) (r : RoleTable) (h : Heap) (stand : StandFor p r h) where
+module _ (p : PlacedTable) (r : RoleTable) (h : Heap) (stand : StandFor p r h) where
   owners-are : map (id_at p.cells) r.owners ≡ owner_ids h
   owners-are = ids-of r.owners (owner_ids h) (id_in p) (stand.owners ∙ ap (λ (t : Table). map Some (filter (λ x. is_owner h x) (ids t))) (sym stand.table))
 

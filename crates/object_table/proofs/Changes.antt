@@ -25,7 +25,7 @@ use Rattle.graph_meaning.specs.Step.{with_kind, with_object, with_slot, with_cha
 use Rattle.object_table.specs.declared.slot.Slot.{Slot as CellSlot}
 use Rattle.object_table.specs.Placed.{TakesCell, NoneEmptyBelow, KeepsCells, kept_ids, cells_for_one_more}
 use Rattle.object_table.specs.Residents.{Resident, no_edge, is_flagged, slot_after, resident_after, held_at, held_after, id_held, is_taken, next_cell, with_resident}
-use Rattle.object_table.specs.Parts.{Parts, slot_of, object_of, nobody, object_at_cell, placed_of, HoldsTaken, slots_at_cell, IsLaidOut}
+use Rattle.object_table.specs.Parts.{TableParts, slot_of, object_of, nobody, object_at_cell, placed_of, HoldsTaken, slots_at_cell, IsLaidOut}
 use Rattle.object_table.proofs.Positions.{any-position}
 use Rattle.object_table.proofs.Chains.{next-taken, next-empty}
 use Rattle.object_table.proofs.Parts.{held_with_id, held_taken, taken_with, id_in-cells, found_held, id_in-held, full_cells, not_full_cells}
@@ -92,8 +92,8 @@ known_more : (kinds : List (List ℕ)) (name : List ℕ) (o : Option Resident) �
 known_more kinds name None known = tt
 known_more kinds name (Some o) known = omega (arith, length-with_kind kinds name)
 
-module _ (p : Parts) (laid : IsLaidOut p) (name : List ℕ) where
-  abbrev pub with_name : Parts
+module _ (p : TableParts) (laid : IsLaidOut p) (name : List ℕ) where
+  abbrev pub with_name : TableParts
   with_name = record p { kinds = with_kind p.kinds name }
 
   pub objects-with_name : (placed_of with_name).table.objects ≡ (placed_of p).table.objects
@@ -186,7 +186,7 @@ still_taken cells later more (Some o) leads = All-weaker (HoldsTaken cells) (Hol
     one None h = tt
     one (Some cell) h = more cell h
 
-module _ (p : Parts) (laid : IsLaidOut p) (name : List ℕ) (id number slots : ℕ) (named : number ≡ unwrap_or (position (bytes_eq name) p.kinds) (length p.kinds)) where
+module _ (p : TableParts) (laid : IsLaidOut p) (name : List ℕ) (id number slots : ℕ) (named : number ≡ unwrap_or (position (bytes_eq name) p.kinds) (length p.kinds)) where
   abbrev new : Resident
   new = record { id = id; kind = number; slots = replicate slots no_edge }
 
@@ -196,7 +196,7 @@ module _ (p : Parts) (laid : IsLaidOut p) (name : List ℕ) (id number slots : �
   abbrev cell : ℕ
   cell = next_cell p.cells
 
-  abbrev pub with_one : Parts
+  abbrev pub with_one : TableParts
   with_one = record { cells = later; ids = p.ids ++ (id, cell) ∷ []; roots = p.roots; kinds = with_kind p.kinds name; greatest = id; slots = p.slots + slots }
 
   stays : (k : ℕ) → IsTrue (is_taken p.cells k) → id_held later k ≡ id_held p.cells k
@@ -318,7 +318,7 @@ changed_objects [] f g change same = refl
 changed_objects (e ∷ ids) f g change same =
     ap (λ o. o ∷ map (λ e. f e.1) ids) (same 0 e (omega arith)) ∙ ap (λ l. change (g e.1) ∷ l) (changed_objects ids f g change (λ k d h. same (suc k) d (omega arith)))
 
-module _ (p : Parts) (laid : IsLaidOut p) (cell slot : ℕ) (o : Resident) (s value : CellSlot) (is : held_at p.cells cell ≡ Some o)
+module _ (p : TableParts) (laid : IsLaidOut p) (cell slot : ℕ) (o : Resident) (s value : CellSlot) (is : held_at p.cells cell ≡ Some o)
     (at : slice_get o.slots slot ≡ Some s) (change : Slot → Slot) (changes : change (slot_of p.cells s) ≡ slot_of p.cells value) where
   abbrev changed : Resident
   changed = record o { slots = set o.slots slot value }
@@ -326,7 +326,7 @@ module _ (p : Parts) (laid : IsLaidOut p) (cell slot : ℕ) (o : Resident) (s va
   abbrev later_cells : List (Option Resident)
   later_cells = set p.cells cell (Some changed)
 
-  abbrev pub with_changed : Parts
+  abbrev pub with_changed : TableParts
   with_changed = record p { cells = later_cells }
 
   changed_at : held_at later_cells cell ≡ Some changed
@@ -459,7 +459,7 @@ has_kept (Some x ∷ cells) (true ∷ flags) id has = ⊎_elim
     (cases_eq x id)
 
 -- the id of an object is among those of the flagged cells exactly where its cell is flagged
-pub kept_cell : (p : Parts) → IsLaidOut p → (kept : List Bool) (cell id : ℕ) → id_held p.cells cell ≡ Some id → has_id (kept_ids (placed_of p).cells kept) id ≡ is_flagged kept cell
+pub kept_cell : (p : TableParts) → IsLaidOut p → (kept : List Bool) (cell id : ℕ) → id_held p.cells cell ≡ Some id → has_id (kept_ids (placed_of p).cells kept) id ≡ is_flagged kept cell
 kept_cell p laid kept cell id is = both (has_id (kept_ids (placed_of p).cells kept) id) (is_flagged kept cell) refl refl
   where
     both : (a b : Bool) → has_id (kept_ids (placed_of p).cells kept) id ≡ a → is_flagged kept cell ≡ b → a ≡ b
@@ -508,7 +508,7 @@ module _ (cells later : List (Option Resident)) (leaves gone : ℕ → Bool) (ag
       ap (λ x. x ∷ map (slot_of later) (map emptied slots)) (slot_emptied s (All-head (HoldsTaken cells) s slots taken))
       ∙ ap (λ l. slot_without gone (slot_of cells s) ∷ l) (slots_emptied slots (All-tail (HoldsTaken cells) s slots taken))
 
-module _ (p : Parts) (laid : IsLaidOut p) (kept : List Bool) (later : List (Option Resident)) (after : (cell : ℕ) → held_at later cell ≡ held_after kept p.cells cell) where
+module _ (p : TableParts) (laid : IsLaidOut p) (kept : List Bool) (later : List (Option Resident)) (after : (cell : ℕ) → held_at later cell ≡ held_after kept p.cells cell) where
   abbrev pub kept_now : List ℕ
   kept_now = kept_ids (placed_of p).cells kept
 
@@ -565,7 +565,7 @@ module _ (p : Parts) (laid : IsLaidOut p) (kept : List Bool) (later : List (Opti
       go true flag has swept rest = rw (has, flag) (ap (λ x. x ∷ front) (swept flag) ∙ ap (λ l. object_without gone old ∷ l) rest)
       go false flag has swept rest = rw (has, flag) rest
 
-  abbrev pub with_kept : ℕ → Parts
+  abbrev pub with_kept : ℕ → TableParts
   with_kept slots = record { cells = later; ids = filter (λ e. is_flagged kept e.1) p.ids; roots = p.roots; kinds = p.kinds; greatest = p.greatest; slots = slots }
 
   pub kept_is : (slots : ℕ) → (placed_of (with_kept slots)).table ≡ with_only kept_now (placed_of p).table
@@ -640,7 +640,7 @@ module _ (p : Parts) (laid : IsLaidOut p) (kept : List Bool) (later : List (Opti
 
 -- ---- the slots together
 
-pub slot_count-is : (p : Parts) → slot_count (placed_of p).table ≡ sum_by (λ e. slots_at_cell p.cells e.1) p.ids
+pub slot_count-is : (p : TableParts) → slot_count (placed_of p).table ≡ sum_by (λ e. slots_at_cell p.cells e.1) p.ids
 slot_count-is p = go p.ids
   where
     go : (ids : List (ℕ × ℕ)) → sum_by (λ o. length o.slots) (map (λ e. object_at_cell p.kinds p.cells e.1) ids) ≡ sum_by (λ e. slots_at_cell p.cells e.1) ids

@@ -16,10 +16,10 @@ use Rattle.graph_meaning.specs.Collecting.{slot_without, object_without, cut_off
 use Rattle.graph_meaning.proofs.Membership.{filter_agree_all}
 use Rattle.object_table.specs.declared.slot.Slot.{Slot as CellSlot}
 use Rattle.object_table.specs.Blocks.{roots_cleared}
-use Rattle.object_table.specs.Located.{is_marked}
+use Rattle.object_table.specs.Located.{is_marked_id}
 use Rattle.object_table.specs.Placed.{marked_ids, IsSound}
 use Rattle.object_table.specs.Residents.{Resident, is_flagged, holds_marked, slot_cleared, resident_cleared, holders_held, held_at, id_held, is_taken}
-use Rattle.object_table.specs.Parts.{Parts, slot_of, object_of, nobody, object_at_cell, placed_of, HoldsTaken, IsLaidOut, IsTable}
+use Rattle.object_table.specs.Parts.{TableParts, slot_of, object_of, nobody, object_at_cell, placed_of, HoldsTaken, IsLaidOut, IsTable}
 use Rattle.object_table.proofs.Lookups.{found}
 use Rattle.object_table.proofs.Parts.{held_with_id, held_taken, stands_found, found_held, id_in-cells, total-cells}
 use Rattle.object_table.proofs.Changes.{of_some, changed_objects, has_kept, kept_cell, slots_emptied}
@@ -43,18 +43,18 @@ sum-total f (x ∷ xs) = sum_by-cons f x xs ∙ ap (λ n. f x + n) (sum-total f 
 
 -- ---- the table
 
-module _ (p : Parts) (laid : IsLaidOut p) (marked : List Bool) where
+module _ (p : TableParts) (laid : IsLaidOut p) (marked : List Bool) where
   abbrev pub gone : ℕ → Bool
   gone = has_id (marked_ids (placed_of p).cells marked)
 
   abbrev later : List (Option Resident)
   later = map (option_map (resident_cleared marked)) p.cells
 
-  abbrev pub with_cleared : Parts
+  abbrev pub with_cleared : TableParts
   with_cleared = record p { cells = later; roots = roots_cleared p.ids marked p.roots }
 
   -- what is asked by ids is asked by cells
-  gone_is : (id : ℕ) → gone id ≡ is_marked p.ids marked id
+  gone_is : (id : ℕ) → gone id ≡ is_marked_id p.ids marked id
   gone_is id = go (found p.ids id) refl
     where
       none : found p.ids id ≡ None → (b : Bool) → gone id ≡ b → b ≡ false
@@ -132,7 +132,7 @@ module _ (p : Parts) (laid : IsLaidOut p) (marked : List Bool) where
       ∙ sym (ap (λ c. object_without gone (object_of p.kinds p.cells (unwrap_or c nobody))) is)
 
   roots_are : roots_cleared p.ids marked p.roots ≡ filter (λ r. not (gone r.1)) p.roots
-  roots_are = filter_agree_all (λ r. not (is_marked p.ids marked r.1)) (λ r. not (gone r.1)) p.roots (λ k d h. ap not (sym (gone_is (get_or p.roots k d).1)))
+  roots_are = filter_agree_all (λ r. not (is_marked_id p.ids marked r.1)) (λ r. not (gone r.1)) p.roots (λ k d h. ap not (sym (gone_is (get_or p.roots k d).1)))
 
   pub cleared_is : (placed_of with_cleared).table ≡ cut_off gone (placed_of p).table
   cleared_is =
@@ -168,10 +168,10 @@ module _ (p : Parts) (laid : IsLaidOut p) (marked : List Bool) where
       let (o, held, same) = held_with_id p.cells e.1 e.0 (laid.stands k d h) in
       holders_are e.1 o held))
 
-  pub roots_counted : count_by (λ r. is_marked p.ids marked r.1) p.roots ≡ count_by (λ r. gone r.1) p.roots
+  pub roots_counted : count_by (λ r. is_marked_id p.ids marked r.1) p.roots ≡ count_by (λ r. gone r.1) p.roots
   roots_counted =
-      sym (length-filter (λ r. is_marked p.ids marked r.1) p.roots)
-      ∙ ap length (filter_agree_all (λ r. is_marked p.ids marked r.1) (λ r. gone r.1) p.roots (λ k d h. sym (gone_is (get_or p.roots k d).1)))
+      sym (length-filter (λ r. is_marked_id p.ids marked r.1) p.roots)
+      ∙ ap length (filter_agree_all (λ r. is_marked_id p.ids marked r.1) (λ r. gone r.1) p.roots (λ k d h. sym (gone_is (get_or p.roots k d).1)))
       ∙ length-filter (λ r. gone r.1) p.roots
 
   -- ---- the parts stay laid out
@@ -208,7 +208,7 @@ module _ (p : Parts) (laid : IsLaidOut p) (marked : List Bool) where
 
 -- ---- the whole table
 
-module _ (p : Parts) (is : IsTable p) (marked : List Bool) where
+module _ (p : TableParts) (is : IsTable p) (marked : List Bool) where
   pub table_cleared : IsTable (with_cleared p is.laid marked)
   table_cleared =
       let same = cleared_is p is.laid marked in
@@ -229,5 +229,5 @@ module _ (p : Parts) (is : IsTable p) (marked : List Bool) where
       )
 
   pub holders_counted : (slots roots : ℕ) → slots ≡ sum_by (holders_held marked) p.cells →
-      roots ≡ count_by (λ r. is_marked p.ids marked r.1) p.roots → slots + roots ≡ holders_of (gone p is.laid marked) (placed_of p).table
+      roots ≡ count_by (λ r. is_marked_id p.ids marked r.1) p.roots → slots + roots ≡ holders_of (gone p is.laid marked) (placed_of p).table
   holders_counted slots roots in_slots in_roots = omega (arith, in_slots, in_roots, slots_counted p is.laid marked, roots_counted p is.laid marked)

@@ -15,7 +15,7 @@ use Rattle.graph_meaning.specs.Reach.{has_id}
 use Rattle.object_table.specs.declared.slot.Slot.{Slot as CellSlot}
 use Rattle.object_table.specs.Placed.{id_in, kept_ids, HoldsOf, HoldKept, IsStacked}
 use Rattle.object_table.specs.Residents.{Resident, is_flagged, slot_after, resident_after, held_at, held_after, id_held, is_taken}
-use Rattle.object_table.specs.Parts.{Parts, slot_of, nobody, placed_of, HoldsTaken, slots_at_cell, IsTable, held_unless, is_freed, StandInOrder}
+use Rattle.object_table.specs.Parts.{TableParts, slot_of, nobody, placed_of, HoldsTaken, slots_at_cell, IsTable, held_unless, is_freed, StandInOrder}
 use Rattle.object_table.proofs.Parts.{held_with_id, held_taken, taken_with, id_in-held, slots_in-held, is_placed}
 use Rattle.object_table.proofs.Changes.{of_some, kept_cell, slot_count-is}
 use Rattle.object_table.proofs.Freed.{filter_all, kept_stays}
@@ -55,7 +55,7 @@ same_slots kept (s ∷ slots) all =
     one None h = refl
     one (Some cell) h = rw h refl
 
-module _ (p : Parts) (is : IsTable p) (kept : List Bool) (number first : ℕ) (before : All (λ e. e.0 ≤ number) (take first p.ids))
+module _ (p : TableParts) (is : IsTable p) (kept : List Bool) (number first : ℕ) (before : All (λ e. e.0 ≤ number) (take first p.ids))
     (after : All (λ e. number < e.0) (drop first p.ids)) (within : first ≤ length p.ids)
     (others : (id : ℕ) → IsTrue (is_live (placed_of p).table id) → id ≤ number → IsTrue (has_id (kept_ids (placed_of p).cells kept) id))
     (stacked : IsStacked (placed_of p) number) (held_kept : HoldKept (placed_of p) (kept_ids (placed_of p).cells kept)) where

@@ -9,38 +9,38 @@ use Rattle.std.proofs.lemmas.List.{take_more, take_all, take-append-drop}
 use Rattle.std.proofs.lemmas.List.Concat.{flat_map-append}
 use Rattle.std.proofs.lemmas.List.Elements.{All-weaker, filter-append, filter_passes}
 use Rattle.std.proofs.lemmas.List.Sorted.{IsNonDecreasingBy-from_all_adjacent}
-use Rattle.object_table.specs.Blocks.{Run, all_roots, IsLaid, IsRunOf, NoneEmpty, roots_cleared, run_cleared}
-use Rattle.object_table.specs.Located.{is_marked}
+use Rattle.object_table.specs.Blocks.{RootBlock, all_roots, IsLaid, IsRunOf, NoneEmpty, roots_cleared, run_cleared}
+use Rattle.object_table.specs.Located.{is_marked_id}
 
 module _ {X : Type 0} where
-  pub all_roots-append : (qs rs : List (Run X)) → all_roots (qs ++ rs) ≡ all_roots qs ++ all_roots rs
+  pub all_roots-append : (qs rs : List (RootBlock X)) → all_roots (qs ++ rs) ≡ all_roots qs ++ all_roots rs
   all_roots-append qs rs = flat_map-append (λ r. r.roots) qs rs
 
   -- ---- where a run starts
 
-  pub start-at : (n : ℕ) (runs : List (Run X)) (k : ℕ) (d : Run X) → IsLaid n runs → k < length runs → (get_or runs k d).start ≡ n + length (all_roots (take k runs))
+  pub start-at : (n : ℕ) (runs : List (RootBlock X)) (k : ℕ) (d : RootBlock X) → IsLaid n runs → k < length runs → (get_or runs k d).start ≡ n + length (all_roots (take k runs))
   start-at n [] k d laid h = absurd (omega arith)
   start-at n (r ∷ runs) zero d laid h = omega (arith, laid.0)
   start-at n (r ∷ runs) (suc k) d laid h = omega (arith, start-at (n + length r.roots) runs k d laid.2 (omega arith), length-append r.roots (all_roots (take k runs)))
 
-  pub start_is : (runs : List (Run X)) (k : ℕ) (d : Run X) → IsLaid 0 runs → k < length runs → (get_or runs k d).start ≡ length (all_roots (take k runs))
+  pub start_is : (runs : List (RootBlock X)) (k : ℕ) (d : RootBlock X) → IsLaid 0 runs → k < length runs → (get_or runs k d).start ≡ length (all_roots (take k runs))
   start_is runs k d laid h = omega (arith, start-at 0 runs k d laid h)
 
   -- the runs up to the end of the k-th
-  pub length-more : (runs : List (Run X)) (k : ℕ) (d : Run X) → k < length runs → length (all_roots (take (k + 1) runs)) ≡ length (all_roots (take k runs)) + length (get_or runs k d).roots
+  pub length-more : (runs : List (RootBlock X)) (k : ℕ) (d : RootBlock X) → k < length runs → length (all_roots (take (k + 1) runs)) ≡ length (all_roots (take k runs)) + length (get_or runs k d).roots
   length-more runs k d h =
       ap (λ l. length (all_roots l)) (take_more runs k d h) ∙ ap length (all_roots-append (take k runs) (get_or runs k d ∷ []))
       ∙ omega (arith, length-append (all_roots (take k runs)) ((get_or runs k d).roots ++ []), length-append (get_or runs k d).roots [])
 
-  pub length-all : (runs : List (Run X)) (k : ℕ) → length runs ≤ k → length (all_roots (take k runs)) ≡ length (all_roots runs)
+  pub length-all : (runs : List (RootBlock X)) (k : ℕ) → length runs ≤ k → length (all_roots (take k runs)) ≡ length (all_roots runs)
   length-all runs k h = ap (λ l. length (all_roots l)) (take_all k runs h)
 
-  pub starts_rise : (runs : List (Run X)) → IsLaid 0 runs → IsNonDecreasingBy (λ r. r.start) runs
+  pub starts_rise : (runs : List (RootBlock X)) → IsLaid 0 runs → IsNonDecreasingBy (λ r. r.start) runs
   starts_rise runs laid =
       IsNonDecreasingBy-from_all_adjacent (λ r. r.start) runs
       (λ k d h. omega (arith, start_is runs k d laid (omega arith), start_is runs (k + 1) d laid (omega arith), length-more runs k d (omega arith)))
 
-  pub length_take : (runs : List (Run X)) (k : ℕ) → length (all_roots (take k runs)) ≤ length (all_roots runs)
+  pub length_take : (runs : List (RootBlock X)) (k : ℕ) → length (all_roots (take k runs)) ≤ length (all_roots runs)
   length_take runs k =
       omega (
         arith,
@@ -51,19 +51,19 @@ module _ {X : Type 0} where
 
   -- ---- the run of a place
 
-  abbrev empty_run : Run X
+  abbrev empty_run : RootBlock X
   empty_run = record { start = 0; roots = [] }
 
-  abbrev StartsWithin : ℕ → List (Run X) → ℕ → Type 0
+  abbrev StartsWithin : ℕ → List (RootBlock X) → ℕ → Type 0
   StartsWithin place runs i = IsPartitionPoint (λ r. leb r.start place ≡ true) (λ r. leb r.start place ≡ false) runs i
 
   -- the first run starts at 0
-  pub starts_before : (runs : List (Run X)) (place i : ℕ) → IsLaid 0 runs → 0 < length runs → StartsWithin place runs i → 0 < i
+  pub starts_before : (runs : List (RootBlock X)) (place i : ℕ) → IsLaid 0 runs → 0 < length runs → StartsWithin place runs i → 0 < i
   starts_before runs place zero laid some parted =
       absurd (omega (arith, start_is runs 0 empty_run laid some, leb-false (get_or runs 0 empty_run).start place (parted.1 0 empty_run (omega arith) some)))
   starts_before runs place (suc i) laid some parted = omega arith
 
-  pub run_found : (runs : List (Run X)) (place i k : ℕ) → IsLaid 0 runs → place ≤ length (all_roots runs) → i ≤ length runs → k + 1 ≡ i → StartsWithin place runs i → IsRunOf runs place k
+  pub run_found : (runs : List (RootBlock X)) (place i k : ℕ) → IsLaid 0 runs → place ≤ length (all_roots runs) → i ≤ length runs → k + 1 ≡ i → StartsWithin place runs i → IsRunOf runs place k
   run_found runs place i k laid within h next parted =
       let begins : length (all_roots (take k runs)) ≤ place =
       omega (arith, start_is runs k empty_run laid (omega arith), leb-true (get_or runs k empty_run).start place (parted.0 k empty_run (omega arith) (omega arith))) in
@@ -75,10 +75,10 @@ module _ {X : Type 0} where
   -- ---- runs are taken away that have no root
 
   -- the runs that have one
-  abbrev pub with_roots : List (Run X) → List (Run X)
+  abbrev pub with_roots : List (RootBlock X) → List (RootBlock X)
   with_roots runs = filter (λ r. nat_lt 0 (length r.roots)) runs
 
-  pub all_roots-some : (runs : List (Run X)) → all_roots (with_roots runs) ≡ all_roots runs
+  pub all_roots-some : (runs : List (RootBlock X)) → all_roots (with_roots runs) ≡ all_roots runs
   all_roots-some [] = refl
   all_roots-some (r ∷ runs) = go r.roots (all_roots-some runs)
     where
@@ -89,12 +89,12 @@ module _ {X : Type 0} where
           let some : nat_lt 0 (length (x ∷ roots)) ≡ true = grind (arith, nat_tests) in
           rw some (ap (λ l. (x ∷ roots) ++ l) rest)
 
-  pub none_empty-some : (runs : List (Run X)) → NoneEmpty (with_roots runs)
+  pub none_empty-some : (runs : List (RootBlock X)) → NoneEmpty (with_roots runs)
   none_empty-some runs =
       All-weaker (λ r. nat_lt 0 (length r.roots) ≡ true) (λ r. 0 < length r.roots) (λ r some. grind (arith, nat_tests)) (with_roots runs) (filter_passes (λ r. nat_lt 0 (length r.roots)) runs)
 
 -- the roots of runs that were cleared
-pub all_roots-cleared : (ids : List (ℕ × ℕ)) (flags : List Bool) (runs : List (Run (List ℕ × ℕ))) → all_roots (map (run_cleared ids flags) runs) ≡ roots_cleared ids flags (all_roots runs)
+pub all_roots-cleared : (ids : List (ℕ × ℕ)) (flags : List Bool) (runs : List (RootBlock (List ℕ × ℕ))) → all_roots (map (run_cleared ids flags) runs) ≡ roots_cleared ids flags (all_roots runs)
 all_roots-cleared ids flags [] = refl
 all_roots-cleared ids flags (r ∷ runs) =
-    ap (λ l. roots_cleared ids flags r.roots ++ l) (all_roots-cleared ids flags runs) ∙ sym (filter-append (λ e. not (is_marked ids flags e.1)) r.roots (all_roots runs))
+    ap (λ l. roots_cleared ids flags r.roots ++ l) (all_roots-cleared ids flags runs) ∙ sym (filter-append (λ e. not (is_marked_id ids flags e.1)) r.roots (all_roots runs))

@@ -19,8 +19,8 @@ use Rattle.heap_base.specs.declared.limits.TheConstants.{MOST_ROOTS}
 use Rattle.graph_meaning.specs.Heap.{name_cmp}
 use Rattle.graph_meaning.proofs.Membership.{length-filter_le}
 use Rattle.object_table.specs.Blocks.{roots_cleared}
-use Rattle.object_table.specs.Located.{is_marked}
-use Rattle.object_table.specs.Ordered.{IsOrdered, RisesByName, IsNamedAt, IsGapFor}
+use Rattle.object_table.specs.Located.{is_marked_id}
+use Rattle.object_table.specs.Ordered.{RootsAreOrdered, RisesByName, IsNamedAt, IsGapFor}
 use Rattle.object_table.proofs.Entries.{insert_at_gap, insert_at_place, remove_at_gap, remove_at_place, lookup-gap, lookup-place, rises-insert}
 
 abbrev pub Roots : Type 0
@@ -49,25 +49,26 @@ searched roots xs name text (Err i) same is rises parted =
 
 -- ---- where the name is
 
-pub set_is : (roots later : Roots) (name : List ℕ) (i id : ℕ) → IsOrdered roots → i < length roots → IsNamedAt name roots i →
+pub set_is : (roots later : Roots) (name : List ℕ) (i id : ℕ) → RootsAreOrdered roots → i < length roots → IsNamedAt name roots i →
     IfSome (slice_get roots i) (λ r. later ≡ set roots i (r.0, id)) → later ≡ insert_entry name_cmp roots name id
 set_is roots later name i id ordered h named held =
     let d : List ℕ × ℕ = ([], 0) in
     let is : later ≡ set roots i ((get_or roots i d).0, id) = rw (slice_get-get_or roots i d h) at held in
     is ∙ sym (insert_at_place total name id roots i d ordered.rising h named)
 
-pub IsOrdered-remove : (roots : Roots) (i : ℕ) → IsOrdered roots → i < length roots → IsOrdered (remove roots i)
+pub IsOrdered-remove : (roots : Roots) (i : ℕ) → RootsAreOrdered roots → i < length roots → RootsAreOrdered (remove roots i)
 IsOrdered-remove roots i ordered h = record {
   rising = all_pairs_remove (λ a b. name_cmp a.0 b.0 ≡ Less) roots i h ordered.rising;
   few = omega (arith, length-remove roots i h, ordered.few);
 }
 
-pub remove_is : (roots : Roots) (name : List ℕ) (i : ℕ) → IsOrdered roots → i < length roots → IsNamedAt name roots i → remove roots i ≡ remove_entry (is_at (name_cmp name)) roots
+pub remove_is : (roots : Roots) (name : List ℕ) (i : ℕ) → RootsAreOrdered roots → i < length roots → IsNamedAt name roots i → remove roots i ≡ remove_entry (is_at (name_cmp name)) roots
 remove_is roots name i ordered h named = sym (remove_at_place total name roots i ordered.rising h named)
 
 -- ---- where the name would go
 
-pub IsOrdered-insert : (roots : Roots) (name : List ℕ) (i id : ℕ) → IsOrdered roots → i ≤ length roots → IsGapFor name roots i → length roots < MOST_ROOTS → IsOrdered (insert roots i (name, id))
+pub IsOrdered-insert : (roots : Roots) (name : List ℕ) (i id : ℕ) → RootsAreOrdered roots → i ≤ length roots → IsGapFor name roots i →
+    length roots < MOST_ROOTS → RootsAreOrdered (insert roots i (name, id))
 IsOrdered-insert roots name i id ordered h gap room = record {
   rising = rises-insert total name id roots i ordered.rising h gap;
   few = omega (arith, length-insert roots i (name, id) h);
@@ -83,24 +84,24 @@ pub lookup_none : (roots : Roots) (name : List ℕ) (i : ℕ) → i ≤ length r
 lookup_none roots name i h gap = lookup-gap total name roots i h gap
 
 -- the search finds the name exactly where a look-up does
-pub found_is : (roots : Roots) (name : List ℕ) (r : Result ℕ ℕ) → IsOrdered roots → IsSearchInRange r (length roots) →
+pub found_is : (roots : Roots) (name : List ℕ) (r : Result ℕ ℕ) → RootsAreOrdered roots → IsSearchInRange r (length roots) →
     IfOk r (IsNamedAt name roots) → IfErr r (IsGapFor name roots) → is_ok r ≡ is_some (lookup (is_at (name_cmp name)) roots)
 found_is roots name (Ok i) ordered h named gap = sym (lookup-place total name roots i ordered.rising h named)
 found_is roots name (Err i) ordered h named gap = ap is_some (sym (lookup-gap total name roots i h gap))
 
 -- ---- roots are taken away by what they hold
 
-pub IsOrdered-cleared : (ids : List (ℕ × ℕ)) (flags : List Bool) (roots : Roots) → IsOrdered roots → IsOrdered (roots_cleared ids flags roots)
+pub IsOrdered-cleared : (ids : List (ℕ × ℕ)) (flags : List Bool) (roots : Roots) → RootsAreOrdered roots → RootsAreOrdered (roots_cleared ids flags roots)
 IsOrdered-cleared ids flags roots ordered = record {
-  rising = AllPairs-filter (λ a b. name_cmp a.0 b.0 ≡ Less) (λ r. not (is_marked ids flags r.1)) roots ordered.rising;
-  few = omega (arith, length-filter_le (λ r. not (is_marked ids flags r.1)) roots, ordered.few);
+  rising = AllPairs-filter (λ a b. name_cmp a.0 b.0 ≡ Less) (λ r. not (is_marked_id ids flags r.1)) roots ordered.rising;
+  few = omega (arith, length-filter_le (λ r. not (is_marked_id ids flags r.1)) roots, ordered.few);
 }
 
 -- what is left and what is taken away
-pub cleared_count : (ids : List (ℕ × ℕ)) (flags : List Bool) (roots : Roots) → length (roots_cleared ids flags roots) + count_by (λ r. is_marked ids flags r.1) roots ≡ length roots
+pub cleared_count : (ids : List (ℕ × ℕ)) (flags : List Bool) (roots : Roots) → length (roots_cleared ids flags roots) + count_by (λ r. is_marked_id ids flags r.1) roots ≡ length roots
 cleared_count ids flags roots =
-    let all = length-filter_both (λ r. is_marked ids flags r.1) (λ r. not (is_marked ids flags r.1)) (λ r. refl) roots in
-    let taken = length-filter (λ r. is_marked ids flags r.1) roots in
+    let all = length-filter_both (λ r. is_marked_id ids flags r.1) (λ r. not (is_marked_id ids flags r.1)) (λ r. refl) roots in
+    let taken = length-filter (λ r. is_marked_id ids flags r.1) roots in
     omega arith
 
 -- what holds anyway holds where a call fails

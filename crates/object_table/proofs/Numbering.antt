@@ -3,23 +3,23 @@ use Rattle.std.proofs.Common.{◌≡◌, ℕ, suc, ◌+◌, ◌<◌, ◌≤◌, 
 use Rattle.std.proofs.Math.Seq.{set-append_seam, get_or-append_seam}
 use Rattle.std.proofs.lemmas.List.{append-nil, take_more, take_all, drop_all, drop_more, length-take-le}
 use Rattle.std.proofs.lemmas.List.Elements.{All-head, All-tail}
-use Rattle.object_table.specs.Blocks.{Run, all_roots, IsLaid, NoneEmpty, laid_from}
+use Rattle.object_table.specs.Blocks.{RootBlock, all_roots, IsLaid, NoneEmpty, laid_from}
 use Rattle.object_table.proofs.Laid.{length-more, length_take}
 
 module _ {X : Type 0} where
-  pub all_roots-laid : (n : ℕ) (runs : List (Run X)) → all_roots (laid_from n runs) ≡ all_roots runs
+  pub all_roots-laid : (n : ℕ) (runs : List (RootBlock X)) → all_roots (laid_from n runs) ≡ all_roots runs
   all_roots-laid n [] = refl
   all_roots-laid n (r ∷ runs) = ap (λ l. r.roots ++ l) (all_roots-laid (n + length r.roots) runs)
 
-  pub is_laid : (n : ℕ) (runs : List (Run X)) → NoneEmpty runs → IsLaid n (laid_from n runs)
+  pub is_laid : (n : ℕ) (runs : List (RootBlock X)) → NoneEmpty runs → IsLaid n (laid_from n runs)
   is_laid n [] some = tt
   is_laid n (r ∷ runs) some = (refl, All-head (λ q. 0 < length q.roots) r runs some, is_laid (n + length r.roots) runs (All-tail (λ q. 0 < length q.roots) r runs some))
 
-  length-laid : (n : ℕ) (runs : List (Run X)) → length (laid_from n runs) ≡ length runs
+  length-laid : (n : ℕ) (runs : List (RootBlock X)) → length (laid_from n runs) ≡ length runs
   length-laid n [] = refl
   length-laid n (r ∷ runs) = ap suc (length-laid (n + length r.roots) runs)
 
-  laid_push : (n : ℕ) (runs : List (Run X)) (r : Run X) → laid_from n (runs ++ r ∷ []) ≡ laid_from n runs ++ record { start = n + length (all_roots runs); roots = r.roots } ∷ []
+  laid_push : (n : ℕ) (runs : List (RootBlock X)) (r : RootBlock X) → laid_from n (runs ++ r ∷ []) ≡ laid_from n runs ++ record { start = n + length (all_roots runs); roots = r.roots } ∷ []
   laid_push n [] r = ap (λ m. record { start = m; roots = r.roots } ∷ []) (plus_none n)
     where
       plus_none : (n : ℕ) → n ≡ n + 0
@@ -29,12 +29,12 @@ module _ {X : Type 0} where
       ap (λ l. record { start = n; roots = q.roots } ∷ l) (laid_push (n + length q.roots) runs r ∙ ap (λ m. laid_from (n + length q.roots) runs ++ record { start = m; roots = r.roots } ∷ []) further)
 
   -- The runs before place i are numbered, and the next one is to start here.
-  pub record IsNumbered (old now : List (Run X)) (i start : ℕ) : Type 0 where
+  pub record IsNumbered (old now : List (RootBlock X)) (i start : ℕ) : Type 0 where
     pub within : i ≤ length old
     pub runs : now ≡ laid_from 0 (take i old) ++ drop i old
     pub start_is : start ≡ length (all_roots (take i old))
 
-  module _ (old now : List (Run X)) (i start : ℕ) (x : Run X) (is : IsNumbered old now i start) (h : i < length old) (at : x ≡ get_or now i x) where
+  module _ (old now : List (RootBlock X)) (i start : ℕ) (x : RootBlock X) (is : IsNumbered old now i start) (h : i < length old) (at : x ≡ get_or now i x) where
     long : length (laid_from 0 (take i old)) ≡ i
     long = length-laid 0 (take i old) ∙ length-take-le i old is.within
 
@@ -53,7 +53,7 @@ module _ {X : Type 0} where
     numbered_fits = omega (arith, next_start, length_take old (i + 1))
 
     -- the run, numbered
-    abbrev y : Run X
+    abbrev y : RootBlock X
     y = record { start = start; roots = x.roots }
 
     none_plus : (n : ℕ) → n ≡ 0 + n
@@ -75,5 +75,5 @@ module _ {X : Type 0} where
       start_is = next_start;
     }
 
-  pub numbered_all : (old now : List (Run X)) (i start : ℕ) → IsNumbered old now i start → length old ≤ i → now ≡ laid_from 0 old
+  pub numbered_all : (old now : List (RootBlock X)) (i start : ℕ) → IsNumbered old now i start → length old ≤ i → now ≡ laid_from 0 old
   numbered_all old now i start is h = is.runs ∙ ap (λ l. laid_from 0 l ++ drop i old) (take_all i old h) ∙ ap (λ l. laid_from 0 old ++ l) (drop_all i old h) ∙ append-nil (laid_from 0 old)

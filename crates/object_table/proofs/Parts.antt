@@ -13,7 +13,7 @@ use Rattle.graph_meaning.specs.Heap.{Object, empty_slot, object_at, is_live}
 use Rattle.object_table.specs.declared.slot.Slot.{Slot as CellSlot}
 use Rattle.object_table.specs.Placed.{id_in, object_in, slots_in, slot_in, IsPlaced}
 use Rattle.object_table.specs.Residents.{Resident, held_at, id_held, is_taken, next_cell}
-use Rattle.object_table.specs.Parts.{Parts, slot_of, object_of, nobody, object_at_cell, placed_of, IsLaidOut}
+use Rattle.object_table.specs.Parts.{TableParts, slot_of, object_of, nobody, object_at_cell, placed_of, IsLaidOut}
 use Rattle.object_table.proofs.Lookups.{found, found-here, found-somewhere}
 use Rattle.object_table.proofs.Chains.{next-taken, next-empty}
 
@@ -57,7 +57,7 @@ times_somewhere x (e ∷ xs) h =
     (suc rest.0, omega (arith, rest.1), rest.2))
     (cases_eq e.1 x)
 
-module _ (p : Parts) (laid : IsLaidOut p) where
+module _ (p : TableParts) (laid : IsLaidOut p) where
   -- an id leads to the cell that holds its object
   pub stands_found : (id cell : ℕ) → found p.ids id ≡ Some cell → id_held p.cells cell ≡ Some id
   stands_found id cell is =
@@ -211,7 +211,7 @@ module _ where
       let rest = length-not_full (n + 1) cells (omega (arith, next-taken o cells)) in omega arith
   length-not_full n (None ∷ cells) h = let rest = length-taken (n + 1) cells in omega arith
 
-module _ (p : Parts) (laid : IsLaidOut p) where
+module _ (p : TableParts) (laid : IsLaidOut p) where
   zero-add : (c : ℕ) → 0 + c ≡ c
   zero-add c = omega arith
 

@@ -5,14 +5,14 @@ use Rattle.std.specs.Ordering.{ordering_index, is_gt}
 use Rattle.std.proofs.lemmas.Bool.{ltb-true, ltb-false}
 use Rattle.std.proofs.lemmas.List.{get_or_default}
 use Rattle.graph_meaning.specs.Heap.{name_cmp}
-use Rattle.object_table.specs.Blocks.{Run, all_roots, IsLaid, begins_above}
+use Rattle.object_table.specs.Blocks.{RootBlock, all_roots, IsLaid, begins_above}
 use Rattle.object_table.specs.Ordered.{RisesByName, IsNamedAt, IsGapFor}
 use Rattle.object_table.proofs.Laid.{starts_rise, start_is, length-all}
 use Rattle.object_table.proofs.Named.{Roots, flipped, names_rise}
 use Rattle.object_table.proofs.Parted.{IsParted, parted, length_is, to_end, entry_in}
 
 abbrev pub Runs : Type 0
-Runs = List (Run (List ℕ × ℕ))
+Runs = List (RootBlock (List ℕ × ℕ))
 
 by_cases : {P : Type 0} (a b : ℕ) (t : Bool) → ltb a b ≡ t → (a < b → P) → (b ≤ a → P) → P
 by_cases a b true is below above = below (ltb-true a b is)
@@ -53,7 +53,8 @@ begins_is : (name : List ℕ) (roots : Roots) (d : List ℕ × ℕ) → 0 < leng
 begins_is name [] d h = absurd (omega arith)
 begins_is name (r ∷ roots) d h = refl
 
-first_in : (runs : Runs) (name : List ℕ) (k : ℕ) (r : Run (List ℕ × ℕ)) (d : List ℕ × ℕ) → IsParted runs k r → begins_above name r.roots ≡ is_gt (name_cmp (get_or (all_roots runs) r.start d).0 name)
+first_in : (runs : Runs) (name : List ℕ) (k : ℕ) (r : RootBlock (List ℕ × ℕ)) (d : List ℕ × ℕ) → IsParted runs k r →
+    begins_above name r.roots ≡ is_gt (name_cmp (get_or (all_roots runs) r.start d).0 name)
 first_in runs name k r d p =
     let here : get_or (all_roots runs) (r.start + 0) d ≡ get_or r.roots 0 d = entry_in runs k 0 r d p p.some in
     let there : r.start + 0 ≡ r.start = omega arith in
@@ -65,7 +66,7 @@ greater Equal h = cc
 greater Greater h = refl
 
 -- a run that begins above the name begins with a higher one
-first_above : (runs : Runs) (name : List ℕ) (k : ℕ) (r : Run (List ℕ × ℕ)) (d : List ℕ × ℕ) → IsParted runs k r →
+first_above : (runs : Runs) (name : List ℕ) (k : ℕ) (r : RootBlock (List ℕ × ℕ)) (d : List ℕ × ℕ) → IsParted runs k r →
     begins_above name r.roots ≡ true → name_cmp (get_or (all_roots runs) r.start d).0 name ≡ Greater
 first_above runs name k r d p above = greater (name_cmp (get_or (all_roots runs) r.start d).0 name) (sym (first_in runs name k r d p) ∙ above)
 
@@ -79,11 +80,11 @@ no_greater Greater Greater h passes = passes
 true_is_false : true ≡ false → ⊥
 true_is_false h = cc
 
-some_run : {X : Type 0} (runs : List (Run X)) → 0 < length (all_roots runs) → 0 < length runs
+some_run : {X : Type 0} (runs : List (RootBlock X)) → 0 < length (all_roots runs) → 0 < length runs
 some_run [] h = absurd (omega arith)
 some_run (r ∷ runs) h = omega arith
 
-parted_at : {X : Type 0} (runs : List (Run X)) (k : ℕ) (q : Run X) → IsLaid 0 runs → k < length runs → IsParted runs k (get_or runs k q)
+parted_at : {X : Type 0} (runs : List (RootBlock X)) (k : ℕ) (q : RootBlock X) → IsLaid 0 runs → k < length runs → IsParted runs k (get_or runs k q)
 parted_at runs k q laid h = parted runs k (get_or runs k q) laid h (get_or_default runs k q (get_or runs k q) h)
 
 -- no run that begins above the name stands before one that does not
@@ -111,11 +112,11 @@ from_not true h = refl
 from_not false h = cc
 
 -- the first name of a later run is above the name
-later_above : (runs : Runs) (name : List ℕ) (i k : ℕ) (q : Run (List ℕ × ℕ)) (d : List ℕ × ℕ) → IsLaid 0 runs → PartsRuns runs name i → i ≤ k →
+later_above : (runs : Runs) (name : List ℕ) (i k : ℕ) (q : RootBlock (List ℕ × ℕ)) (d : List ℕ × ℕ) → IsLaid 0 runs → PartsRuns runs name i → i ≤ k →
     k < length runs → name_cmp (get_or (all_roots runs) (get_or runs k q).start d).0 name ≡ Greater
 later_above runs name i k q d laid parts l h = first_above runs name k (get_or runs k q) d (parted_at runs k q laid h) (from_not (begins_above name (get_or runs k q).roots) (parts.1 k q l h))
 
-abbrev no_run : Run (List ℕ × ℕ)
+abbrev no_run : RootBlock (List ℕ × ℕ)
 no_run = record { start = 0; roots = [] }
 
 -- Where each run begins above the name, it goes first.
@@ -126,25 +127,25 @@ gap_first runs name m laid rises parts none = gap_between (all_roots runs) name 
     ap (λ n. name_cmp (get_or (all_roots runs) n d).0 name) (sym start) ∙ later_above runs name m 0 no_run d laid parts (omega arith) some)
 
 -- the last run that doesn't begin above the name
-pub last_parted : (runs : Runs) (m : ℕ) (r : Run (List ℕ × ℕ)) → IsLaid 0 runs → m ≤ length runs → (m ≡ 0 → ⊥) → r ≡ get_or runs (m - 1) r → IsParted runs (m - 1) r
+pub last_parted : (runs : Runs) (m : ℕ) (r : RootBlock (List ℕ × ℕ)) → IsLaid 0 runs → m ≤ length runs → (m ≡ 0 → ⊥) → r ≡ get_or runs (m - 1) r → IsParted runs (m - 1) r
 last_parted runs m r laid h some is = parted runs (m - 1) r laid (omega arith) is
 
 -- a part of roots that rise
-pub rises_in : (runs : Runs) (k : ℕ) (r : Run (List ℕ × ℕ)) → IsParted runs k r → RisesByName (all_roots runs) → RisesByName r.roots
+pub rises_in : (runs : Runs) (k : ℕ) (r : RootBlock (List ℕ × ℕ)) → IsParted runs k r → RisesByName (all_roots runs) → RisesByName r.roots
 rises_in runs k r p rises i j d l h =
     rw (← entry_in runs k i r d p (omega arith), ← entry_in runs k j r d p h) (rises (r.start + i) (r.start + j) d (omega arith) (omega (arith, p.start, length_is runs k r p)))
 
-pub in_list : (runs : Runs) (k i : ℕ) (r : Run (List ℕ × ℕ)) → IsParted runs k r → i ≤ length r.roots → r.start + i ≤ length (all_roots runs)
+pub in_list : (runs : Runs) (k i : ℕ) (r : RootBlock (List ℕ × ℕ)) → IsParted runs k r → i ≤ length r.roots → r.start + i ≤ length (all_roots runs)
 in_list runs k i r p h = omega (arith, p.start, length_is runs k r p)
 
-pub in_list_below : (runs : Runs) (k i : ℕ) (r : Run (List ℕ × ℕ)) → IsParted runs k r → i < length r.roots → r.start + i < length (all_roots runs)
+pub in_list_below : (runs : Runs) (k i : ℕ) (r : RootBlock (List ℕ × ℕ)) → IsParted runs k r → i < length r.roots → r.start + i < length (all_roots runs)
 in_list_below runs k i r p h = omega (arith, p.start, length_is runs k r p)
 
-pub named_in : (runs : Runs) (name : List ℕ) (k i : ℕ) (r : Run (List ℕ × ℕ)) → IsParted runs k r → i < length r.roots → IsNamedAt name r.roots i → IsNamedAt name (all_roots runs) (r.start + i)
+pub named_in : (runs : Runs) (name : List ℕ) (k i : ℕ) (r : RootBlock (List ℕ × ℕ)) → IsParted runs k r → i < length r.roots → IsNamedAt name r.roots i → IsNamedAt name (all_roots runs) (r.start + i)
 named_in runs name k i r p h named d = rw (entry_in runs k i r d p h) (named d)
 
 -- the name goes after the first of its run
-after_first : (runs : Runs) (name : List ℕ) (k i : ℕ) (r : Run (List ℕ × ℕ)) → IsParted runs k r → not (begins_above name r.roots) ≡ true → IsGapFor name r.roots i → 0 < i
+after_first : (runs : Runs) (name : List ℕ) (k i : ℕ) (r : RootBlock (List ℕ × ℕ)) → IsParted runs k r → not (begins_above name r.roots) ≡ true → IsGapFor name r.roots i → 0 < i
 after_first runs name k zero r p passes gap =
     let d : List ℕ × ℕ = ([], 0) in
     let first : name_cmp (get_or r.roots 0 d).0 name ≡ Greater = flipped name (get_or r.roots 0 d).0 Less Greater (gap.1 0 d (omega arith) p.some) refl in
@@ -153,7 +154,7 @@ after_first runs name k zero r p passes gap =
 after_first runs name k (suc i) r p passes gap = omega arith
 
 -- The gap in the last run that doesn't begin above the name is the gap in the list.
-pub gap_in : (runs : Runs) (name : List ℕ) (m k i : ℕ) (r : Run (List ℕ × ℕ)) → IsLaid 0 runs → RisesByName (all_roots runs) →
+pub gap_in : (runs : Runs) (name : List ℕ) (m k i : ℕ) (r : RootBlock (List ℕ × ℕ)) → IsLaid 0 runs → RisesByName (all_roots runs) →
     IsParted runs k r → PartsRuns runs name m → k + 1 ≡ m → i ≤ length r.roots → IsGapFor name r.roots i →
     IsGapFor name (all_roots runs) (r.start + i)
 gap_in runs name m k i r laid rises p parts last h gap =

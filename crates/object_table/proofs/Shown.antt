@@ -8,7 +8,7 @@ use Rattle.graph_meaning.specs.declared.views.HeapView.{HeapView}
 use Rattle.graph_meaning.specs.Heap.{edge_of}
 use Rattle.graph_meaning.specs.Views.{object_view, heap_view}
 use Rattle.object_table.specs.Residents.{Resident, held_at}
-use Rattle.object_table.specs.Parts.{Parts, slot_of, object_of, nobody, object_at_cell, placed_of}
+use Rattle.object_table.specs.Parts.{TableParts, slot_of, object_of, nobody, object_at_cell, placed_of}
 use Rattle.object_table.proofs.Tables.{place_cell}
 
 -- one more item of a list is shown
@@ -47,7 +47,7 @@ placed_shown kinds cells ids place cell o d h is held =
     ap (λ (q : Option Resident). object_view (object_of kinds cells (unwrap_or q nobody))) (sym held)
     ∙ ap (λ c. object_view (object_at_cell kinds cells c)) (place_cell cells ids place cell h is d)
 
-pub table_shown : (p : Parts) (objects : List ObjectView) (roots : List (List ℕ × ℕ)) →
+pub table_shown : (p : TableParts) (objects : List ObjectView) (roots : List (List ℕ × ℕ)) →
     objects ≡ map (λ e. object_view (object_at_cell p.kinds p.cells e.1)) p.ids → roots ≡ p.roots →
     ◌≡◌ {A = HeapView} (record { objects = objects; roots = roots }) (heap_view (placed_of p).table)
 table_shown p objects roots shown named =

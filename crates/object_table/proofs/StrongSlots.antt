@@ -12,7 +12,7 @@ use Rattle.graph_meaning.specs.Heap.{Slot, Object, edge_of, numbered_edge, objec
 use Rattle.graph_meaning.specs.Reach.{has_id}
 use Rattle.graph_meaning.proofs.EdgesOfSlots.{LeadsInto, edges_lead}
 use Rattle.object_table.specs.Chains.{cells_after, resident_in}
-use Rattle.object_table.specs.Parts.{Parts, HoldsTaken, IsLaidOut, object_of, placed_of, slot_of}
+use Rattle.object_table.specs.Parts.{TableParts, HoldsTaken, IsLaidOut, object_of, placed_of, slot_of}
 use Rattle.object_table.specs.Placed.{LeadsToKept, kept_ids}
 use Rattle.object_table.specs.Residents.{Resident, StrongHoldKept, StrongLeadToKept, held_at, id_held, is_flagged, is_taken, slot_after, slot_cleared}
 use Rattle.object_table.specs.declared.cell.Cell.{Cell}
@@ -47,7 +47,7 @@ strong-cleared marked slots strong =
 
 -- ---- all objects
 
-module _ (p : Parts) (laid : IsLaidOut p) (kept : List Bool) (leads : LeadsToKept (placed_of p).table (kept_ids (placed_of p).cells kept))
+module _ (p : TableParts) (laid : IsLaidOut p) (kept : List Bool) (leads : LeadsToKept (placed_of p).table (kept_ids (placed_of p).cells kept))
     (cell : ℕ) (o : Resident) (held : held_at p.cells cell ≡ Some o) (flagged : is_flagged kept cell ≡ true) where
   its_id : id_held p.cells cell ≡ Some o.id
   its_id = ap (option_map (λ (q : Resident). q.id)) held
@@ -79,7 +79,7 @@ module _ (p : Parts) (laid : IsLaidOut p) (kept : List Bool) (leads : LeadsToKep
       rw (full, target_kept k d here c u.id at edge) refl
 
 -- where no edge of a kept object leads to one that is not kept
-pub strong_lead_to_kept : (p : Parts) → IsLaidOut p → (kept : List Bool) → LeadsToKept (placed_of p).table (kept_ids (placed_of p).cells kept) → StrongLeadToKept kept p.cells
+pub strong_lead_to_kept : (p : TableParts) → IsLaidOut p → (kept : List Bool) → LeadsToKept (placed_of p).table (kept_ids (placed_of p).cells kept) → StrongLeadToKept kept p.cells
 strong_lead_to_kept p laid kept leads cell flagged = go (held_at p.cells cell) refl (laid.leads cell)
   where
     go : (o : Option Resident) → held_at p.cells cell ≡ o → IfSome o (λ r. All (HoldsTaken p.cells) r.slots) → IfSome o (StrongHoldKept kept)

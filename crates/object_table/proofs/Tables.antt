@@ -19,7 +19,7 @@ use Rattle.object_table.specs.declared.slot.Slot.{Slot as CellSlot}
 use Rattle.object_table.specs.declared.table.ObjectTable.TheInside.{Inside}
 use Rattle.object_table.specs.Placed.{id_in, slot_in, IsSound, kept_ids, LeadsToKept}
 use Rattle.object_table.specs.Residents.{Resident, is_flagged, held_at, held_after, id_held, is_taken, next_cell}
-use Rattle.object_table.specs.Parts.{Parts, slot_of, object_of, nobody, object_at_cell, placed_of, HoldsTaken, slots_at_cell, IsTable}
+use Rattle.object_table.specs.Parts.{TableParts, slot_of, object_of, nobody, object_at_cell, placed_of, HoldsTaken, slots_at_cell, IsTable}
 use Rattle.object_table.proofs.Lookups.{found}
 use Rattle.object_table.proofs.Refusals.{alloc_fits, slot_fits, root_taken}
 use Rattle.object_table.proofs.Sound.{sound_nothing, sound_with_object, sound_with_store, sound_with_weak, sound_with_root, sound_with_kind, sound_with_only}
@@ -29,7 +29,7 @@ use Rattle.object_table.proofs.Changes.{changed_is, changed_cells, changed_laid,
 use Rattle.object_table.proofs.Changes.{slot_count-changed, next_within}
 
 -- the parts of a table, as it has them
-abbrev pub parts_in : Inside → Parts
+abbrev pub parts_in : Inside → TableParts
 parts_in t = record { cells = t.cells.cells; ids = t.ids; roots = t.roots; kinds = t.kinds; greatest = t.greatest; slots = t.slots }
 
 pub table_nothing : IsTable (record { cells = []; ids = []; roots = []; kinds = []; greatest = 0; slots = 0 })
@@ -48,7 +48,7 @@ table_nothing = record {
 
 -- ---- questions
 
-module _ (p : Parts) (is : IsTable p) where
+module _ (p : TableParts) (is : IsTable p) where
   pub not_live-found : (id : ℕ) (o : Option ℕ) → o ≡ found p.ids id → not_live (placed_of p).table id ≡ cond (is_some o) None (Some (NotLive id))
   not_live-found id o at =
       let live : is_live (placed_of p).table id ≡ is_some o = live_found p is.laid id ∙ ap is_some (sym at) in
@@ -154,7 +154,7 @@ module _ (p : Parts) (is : IsTable p) where
 
 -- ---- a table after a call
 
-module _ (p : Parts) (is : IsTable p) where
+module _ (p : TableParts) (is : IsTable p) where
   pub table_with_name : (name : List ℕ) → kind_refusal (placed_of p).table name ≡ None →
       IsTable (with_name p is.laid name) × ((placed_of (with_name p is.laid name)).table ≡ record (placed_of p).table { kinds = with_kind p.kinds name })
   table_with_name name allowed =

@@ -12,5 +12,5 @@ abbrev pub RisesById : List (ℕ × ℕ) → Type 0
 RisesById ids = AllPairs (λ a b. a.0 < b.0) ids
 
 -- whether the object with this id stands in a marked cell
-abbrev pub is_marked : List (ℕ × ℕ) → List Bool → ℕ → Bool
-is_marked ids marked id = option_map_or (is_flagged marked) (lookup (is_at (nat_cmp id)) ids) false
+abbrev pub is_marked_id : List (ℕ × ℕ) → List Bool → ℕ → Bool
+is_marked_id ids marked id = option_map_or (is_flagged marked) (lookup (is_at (nat_cmp id)) ids) false

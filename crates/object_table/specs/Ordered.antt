@@ -11,7 +11,7 @@ abbrev pub RisesByName : List (List ℕ × ℕ) → Type 0
 RisesByName roots = AllPairs (λ a b. name_cmp a.0 b.0 ≡ Less) roots
 
 -- Each name is below those after it, and there are no more than there may be.
-pub record IsOrdered (roots : List (List ℕ × ℕ)) : Type 0 where
+pub record RootsAreOrdered (roots : List (List ℕ × ℕ)) : Type 0 where
   pub rising : AllPairs (λ a b. name_cmp a.0 b.0 ≡ Less) roots
   pub few : length roots ≤ MOST_ROOTS
 

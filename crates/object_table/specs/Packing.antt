@@ -15,12 +15,12 @@ half_of None = 0
 half_of (Some cell) = cell + 1
 
 -- the slot of a number: its half is one more than the cell that it holds, and 0 where it is empty; it is odd where it is weak
-abbrev pub unpacked : ℕ → Slot
-unpacked word = record { held = held_by_half (word / 2); weak = word % 2 == 1 }
+abbrev pub slot_of_word : ℕ → Slot
+slot_of_word word = record { held = held_by_half (word / 2); weak = word % 2 == 1 }
 
 -- the number of a slot
-abbrev pub packed : Slot → ℕ
-packed slot = half_of slot.held * 2 + bit slot.weak
+abbrev pub word_of_slot : Slot → ℕ
+word_of_slot slot = half_of slot.held * 2 + bit slot.weak
 
 -- The number of the slot is less than 2^32.
 abbrev pub CanBePacked : Slot → Type 0
@@ -37,7 +37,7 @@ bit-odd zero small = refl
 bit-odd (suc zero) small = refl
 bit-odd (suc (suc n)) small = omega (arith, small)
 
-pub packed-unpacked : (word : ℕ) → packed (unpacked word) ≡ word
+pub packed-unpacked : (word : ℕ) → word_of_slot (slot_of_word word) ≡ word
 packed-unpacked word =
     let half = half_of-held (word / 2) in
     let low = bit-odd (word % 2) (omega arith) in

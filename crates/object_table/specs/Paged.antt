@@ -12,8 +12,8 @@ abbrev pub all_of : {X : Type 0} → List (List X) → List X
 all_of pages = flat_map (λ p. p) pages
 
 -- the first `count` elements of the pages; the others are room
-abbrev pub paged : {X : Type 0} → List (List X) → ℕ → Roomy X
-paged pages count = record { cells = take count (all_of pages); room = length (all_of pages) - count }
+abbrev pub in_pages : {X : Type 0} → List (List X) → ℕ → Roomy X
+in_pages pages count = record { cells = take count (all_of pages); room = length (all_of pages) - count }
 
 -- Each page has 1,024 elements, of which the first `count` are used.
 pub record IsPaged {X : Type 0} (pages : List (List X)) (count : ℕ) : Type 0 where

@@ -8,12 +8,12 @@ use Rattle.heap_base.specs.Counting.{bit, times}
 use Rattle.graph_meaning.specs.Heap.{Slot, Object, slot_count}
 use Rattle.object_table.specs.declared.slot.Slot.{Slot as CellSlot}
 use Rattle.object_table.specs.Located.{RisesById}
-use Rattle.object_table.specs.Placed.{Placed, IsSound}
+use Rattle.object_table.specs.Placed.{PlacedTable, IsSound}
 use Rattle.object_table.specs.Residents.{Resident, held_at, id_held, is_flagged, is_taken}
 
 -- The parts: what each cell holds; the ids of the objects, rising, each with its cell; the roots; the type names; the
 -- greatest id that was allocated; and how many slots all objects have.
-pub record Parts : Type 0 where
+pub record TableParts : Type 0 where
   pub cells : List (Option Resident)
   pub ids : List (ℕ × ℕ)
   pub roots : List (List ℕ × ℕ)
@@ -42,7 +42,7 @@ abbrev pub slots_at_cell : List (Option Resident) → ℕ → ℕ
 slots_at_cell cells cell = length (unwrap_or (held_at cells cell) nobody).slots
 
 -- the table that the parts stand for, and which object each cell holds
-abbrev pub placed_of : Parts → Placed
+abbrev pub placed_of : TableParts → PlacedTable
 placed_of p = record {
   table = record { objects = map (λ e. object_at_cell p.kinds p.cells e.1) p.ids; roots = p.roots; greatest = p.greatest; kinds = p.kinds };
   cells = map (option_map (λ o. o.id)) p.cells;
@@ -54,7 +54,7 @@ HoldsTaken cells s = IfSome s.held (λ cell. IsTrue (is_taken cells cell))
 
 -- The ids rise, each stands for the object in its cell, and each object has one. Types are numbers of type names, and slots
 -- hold taken cells.
-pub record IsLaidOut (p : Parts) : Type 0 where
+pub record IsLaidOut (p : TableParts) : Type 0 where
   pub rising : RisesById p.ids
   pub stands : All (λ e. id_held p.cells e.1 ≡ Some e.0) p.ids
   pub once : (cell : ℕ) → times cell (map (λ e. e.1) p.ids) ≡ bit (is_taken p.cells cell)
@@ -63,7 +63,7 @@ pub record IsLaidOut (p : Parts) : Type 0 where
   pub few : length p.cells ≤ MOST_OBJECTS
 
 -- The parts are laid out, the slots are counted, and the table is sound.
-pub record IsTable (p : Parts) : Type 0 where
+pub record IsTable (p : TableParts) : Type 0 where
   pub laid : IsLaidOut p
   pub counted : p.slots ≡ slot_count (placed_of p).table
   pub sound : IsSound (placed_of p).table

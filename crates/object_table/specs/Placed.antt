@@ -13,15 +13,15 @@ use Rattle.graph_meaning.specs.Assertions.{root_ids}
 use Rattle.graph_meaning.specs.Laws.{AllLive, HoldsLive, IdsRise, IsWithinLimits}
 
 -- The table, and for each cell the id of the object that it holds, if it holds one.
-pub record Placed : Type 0 where
+pub record PlacedTable : Type 0 where
   pub table : Table
   pub cells : List (Option ℕ)
 
-abbrev pub nothing_placed : Placed
+abbrev pub nothing_placed : PlacedTable
 nothing_placed = record { table = empty_table; cells = [] }
 
 -- the id of the object that a cell holds
-abbrev pub id_in : Placed → ℕ → Option ℕ
+abbrev pub id_in : PlacedTable → ℕ → Option ℕ
 id_in p cell = slice_index_or p.cells cell None
 
 -- whether a cell holds the object with this id
@@ -29,23 +29,23 @@ abbrev pub holds_id : ℕ → Option ℕ → Bool
 holds_id id cell = option_map_or (λ x. x == id) cell false
 
 -- the cell of the object with this id
-abbrev pub cell_of : Placed → ℕ → Option ℕ
+abbrev pub cell_of : PlacedTable → ℕ → Option ℕ
 cell_of p id = position (holds_id id) p.cells
 
 -- the object that a cell holds
-abbrev pub object_in : Placed → ℕ → Option Object
+abbrev pub object_in : PlacedTable → ℕ → Option Object
 object_in p cell = option_and_then (object_at p.table.objects) (id_in p cell)
 
 -- the slots of the object that a cell holds
-abbrev pub slots_in : Placed → ℕ → List Slot
+abbrev pub slots_in : PlacedTable → ℕ → List Slot
 slots_in p cell = option_map_or (λ o. o.slots) (object_in p cell) []
 
 -- a slot of the object that a cell holds
-abbrev pub slot_in : Placed → ℕ → ℕ → Slot
+abbrev pub slot_in : PlacedTable → ℕ → ℕ → Slot
 slot_in p cell slot = slice_index_or (slots_in p cell) slot empty_slot
 
 -- Each object stands in one cell, and in no other.
-pub record IsPlaced (p : Placed) : Type 0 where
+pub record IsPlaced (p : PlacedTable) : Type 0 where
   pub few : length p.cells ≤ MOST_OBJECTS
   pub live : (cell id : ℕ) → id_in p cell ≡ Some id → IsTrue (is_live p.table id)
   pub somewhere : (id : ℕ) → IsTrue (is_live p.table id) → (cell : ℕ) × (id_in p cell ≡ Some id)
@@ -63,11 +63,11 @@ pub record IsSound (t : Table) : Type 0 where
   pub limits : IsWithinLimits t
 
 -- how many cells there are with one object more: no more than before where one is empty
-abbrev pub cells_for_one_more : Placed → ℕ
+abbrev pub cells_for_one_more : PlacedTable → ℕ
 cells_for_one_more p = if length p.cells == length p.table.objects then length p.cells + 1 else length p.cells
 
 -- A new object takes a cell that was empty, or a new one where none was, and each other object keeps its cell.
-pub record TakesCell (before after : Placed) (id : ℕ) : Type 0 where
+pub record TakesCell (before after : PlacedTable) (id : ℕ) : Type 0 where
   pub taken : (cell : ℕ) × (id_in before cell ≡ None) × (id_in after cell ≡ Some id)
   pub others : (cell other : ℕ) → id_in before cell ≡ Some other → id_in after cell ≡ Some other
   pub count : length after.cells ≡ cells_for_one_more before
@@ -89,7 +89,7 @@ pub record LeadsToKept (t : Table) (kept : List ℕ) : Type 0 where
   pub by_edges : (x y : ℕ) → IsTrue (has_id kept x) → IsTrue (has_id (targets t x) y) → IsTrue (has_id kept y)
 
 -- Each kept object keeps its cell, and there are no more cells than before.
-pub record KeepsCells (before after : Placed) (kept : List ℕ) : Type 0 where
+pub record KeepsCells (before after : PlacedTable) (kept : List ℕ) : Type 0 where
   pub others : (cell id : ℕ) → id_in before cell ≡ Some id → IsTrue (has_id kept id) → id_in after cell ≡ Some id
   pub count : length after.cells ≤ length before.cells
 
@@ -98,14 +98,14 @@ abbrev pub HoldsOf : List ℕ → Slot → Type 0
 HoldsOf kept slot = IfSome slot.held (λ id. IsTrue (has_id kept id))
 
 -- Each kept object holds kept ones alone, weakly or not.
-abbrev pub HoldKept : Placed → List ℕ → Type 0
+abbrev pub HoldKept : PlacedTable → List ℕ → Type 0
 HoldKept p kept = (cell id : ℕ) → id_in p cell ≡ Some id → IsTrue (has_id kept id) → All (HoldsOf kept) (slots_in p cell)
 
 -- No cell below that of the object is empty.
-abbrev pub NoneEmptyBelow : Placed → ℕ → Type 0
+abbrev pub NoneEmptyBelow : PlacedTable → ℕ → Type 0
 NoneEmptyBelow p id = (cell lower : ℕ) → id_in p cell ≡ Some id → lower < cell → IsSome (id_in p lower)
 
 -- The objects with ids above this number stand in the order of their ids, and no cell below any of them is empty.
-pub record IsStacked (p : Placed) (number : ℕ) : Type 0 where
+pub record IsStacked (p : PlacedTable) (number : ℕ) : Type 0 where
   pub full : (id : ℕ) → number < id → NoneEmptyBelow p id
   pub rising : (cell other id later : ℕ) → id_in p cell ≡ Some id → id_in p other ≡ Some later → number < id → id < later → cell < other

@@ -2,7 +2,7 @@ ghost use Rattle.std.specs.Prelude.{◌≡◌, ◌+◌, ◌<◌, ◌≤◌, ◌�
 ghost use Rattle.std.specs.List.{insert, remove};
 ghost use Rattle.std.specs.List.Sorted.{IsSearchInRange};
 ghost use Rattle.heap_base.specs.declared.limits.TheConstants.{MOST_ROOTS};
-ghost use Rattle.object_table.specs.Blocks.{Run, begins_above, run_cleared};
+ghost use Rattle.object_table.specs.Blocks.{RootBlock, begins_above, run_cleared};
 ghost use Rattle.object_table.specs.Located.{RisesById};
 ghost use Rattle.object_table.specs.Ordered.{IsNamedAt, IsGapFor, RisesByName};
 
@@ -21,9 +21,9 @@ pub struct Block {
 
 impl Model for Block {
     ghost use Rattle.std.specs.Prelude.{List, ℕ};
-    ghost use Rattle.object_table.specs.Blocks.{Run};
+    ghost use Rattle.object_table.specs.Blocks.{RootBlock};
 
-    ghost Value = { Run (List ℕ × ℕ) };
+    ghost Value = { RootBlock (List ℕ × ℕ) };
 
     ghost view = { λ b. record { start = b.start; roots = b.roots.items } };
 }
@@ -138,7 +138,8 @@ impl Block {
         requires { RisesById ids.now }
         ensures { self.new ≡ run_cleared ids.now marked.now self.old }
     {
-        self.roots.retain(|root| !ids.is_marked(root.id(), marked));
+        self.roots
+            .retain(|root| !ids.is_marked_id(root.id(), marked));
     }
 
     /// Takes the roots from this place on into a block of their own.

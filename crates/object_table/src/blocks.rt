@@ -4,7 +4,7 @@ ghost use Rattle.std.specs.List.Sorted.{IsSearchInRange};
 ghost use Rattle.heap_base.specs.declared.limits.TheConstants.{MOST_ROOTS};
 ghost use Rattle.object_table.specs.Blocks.{all_roots, IsLaid, IsRunOf, NoneEmpty, laid_from, roots_cleared};
 ghost use Rattle.object_table.specs.Located.{RisesById};
-ghost use Rattle.object_table.specs.Ordered.{IsOrdered, IsNamedAt, IsGapFor};
+ghost use Rattle.object_table.specs.Ordered.{RootsAreOrdered, IsNamedAt, IsGapFor};
 
 use crate::block::Block;
 use crate::ids::Ids;
@@ -82,7 +82,7 @@ impl Blocks {
 
     /// Where the name is, or where it would go.
     pub fn search(&self, name: &Name) -> Result<usize, usize>
-        requires { IsOrdered self.now }
+        requires { RootsAreOrdered self.now }
         ensures in_range { IsSearchInRange result (length self.now) }
         ensures found { IfOk result (IsNamedAt name.now self.now) }
         ensures gap { IfErr result (IsGapFor name.now self.now) }

@@ -3,7 +3,7 @@ ghost use Rattle.std.specs.Map.{lookup};
 ghost use Rattle.std.specs.Ordering.{nat_cmp};
 ghost use Rattle.std.specs.BTreeMap.{is_at};
 ghost use Rattle.object_table.specs.Residents.{is_flagged};
-ghost use Rattle.object_table.specs.Located.{RisesById, is_marked};
+ghost use Rattle.object_table.specs.Located.{RisesById, is_marked_id};
 
 use crate::directory::Directory;
 use crate::slot::is_flagged;
@@ -67,9 +67,9 @@ impl Ids {
     }
 
     /// Whether the object with this id stands in a marked cell.
-    pub fn is_marked(&self, id: ObjId, marked: &[bool]) -> bool
+    pub fn is_marked_id(&self, id: ObjId, marked: &[bool]) -> bool
         requires { RisesById self.now }
-        ensures { result ≡ is_marked self.now marked.now id }
+        ensures { result ≡ is_marked_id self.now marked.now id }
     {
         match self.find(id) {
             Some(cell) => is_flagged(marked, cell),

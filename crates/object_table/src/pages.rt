@@ -22,11 +22,11 @@ pub struct Pages {
 
 impl Model for Pages {
     ghost use Rattle.object_table.specs.declared.cell.Cell.{Cell};
-    ghost use Rattle.object_table.specs.Paged.{Roomy, paged, IsPaged};
+    ghost use Rattle.object_table.specs.Paged.{Roomy, in_pages, IsPaged};
 
     ghost Value = { Roomy Cell };
 
-    ghost view = { λ p. paged p.pages.items p.count };
+    ghost view = { λ p. in_pages p.pages.items p.count };
 
     ghost invariant = { λ p. IsPaged p.pages.items p.count };
 }

@@ -6,8 +6,8 @@ ghost use Rattle.std.specs.BTreeMap.{insert_entry, is_at};
 ghost use Rattle.heap_base.specs.declared.limits.TheConstants.{MOST_ROOTS};
 ghost use Rattle.graph_meaning.specs.Heap.{name_cmp};
 ghost use Rattle.object_table.specs.Blocks.{roots_cleared};
-ghost use Rattle.object_table.specs.Located.{RisesById, is_marked};
-ghost use Rattle.object_table.specs.Ordered.{IsOrdered, IsNamedAt, IsGapFor};
+ghost use Rattle.object_table.specs.Located.{RisesById, is_marked_id};
+ghost use Rattle.object_table.specs.Ordered.{RootsAreOrdered, IsNamedAt, IsGapFor};
 
 use crate::blocks::Blocks;
 use crate::ids::Ids;
@@ -25,13 +25,13 @@ pub struct Roots {
 
 impl Model for Roots {
     ghost use Rattle.std.specs.Prelude.{List, ℕ};
-    ghost use Rattle.object_table.specs.Ordered.{IsOrdered};
+    ghost use Rattle.object_table.specs.Ordered.{RootsAreOrdered};
 
     ghost Value = { List (List ℕ × ℕ) };
 
     ghost view = { λ r. r.blocks };
 
-    ghost invariant = { λ r. IsOrdered r.blocks };
+    ghost invariant = { λ r. RootsAreOrdered r.blocks };
 }
 
 impl Roots {
@@ -117,7 +117,7 @@ impl Roots {
     pub fn clear_to(&mut self, ids: &Ids, marked: &[bool]) -> u32
         requires { RisesById ids.now }
         ensures cleared { self.new ≡ roots_cleared ids.now marked.now self.old }
-        ensures count { result ≡ count_by (λ r. is_marked ids.now marked.now r.1) self.old }
+        ensures count { result ≡ count_by (λ r. is_marked_id ids.now marked.now r.1) self.old }
         ensures few { result ≤ MOST_ROOTS }
     {
         let before = self.len();
@@ -130,7 +130,7 @@ impl Roots {
         ensures in_range { IsSearchInRange result (length self.now) }
         ensures found { IfOk result (IsNamedAt name.now self.now) }
         ensures gap { IfErr result (IsGapFor name.now self.now) }
-        ensures ordered { IsOrdered self.now }
+        ensures ordered { RootsAreOrdered self.now }
     {
         self.blocks.search(name)
     }

@@ -23,14 +23,14 @@ pub struct PackedSlot {
 impl Model for PackedSlot {
     ghost use Rattle.std.specs.Prelude.{◌≡◌};
     ghost use Rattle.std.proofs.Common.{ap};
-    ghost use Rattle.object_table.specs.Packing.{packed, unpacked, packed-unpacked};
+    ghost use Rattle.object_table.specs.Packing.{word_of_slot, slot_of_word, packed-unpacked};
     ghost use Rattle.object_table.specs.declared.slot.Slot.{Slot};
 
     ghost Value = { Slot };
 
-    ghost view = { λ p. unpacked p.word };
+    ghost view = { λ p. slot_of_word p.word };
 
-    ghost inverse = { λ s. record { word = packed s } };
+    ghost inverse = { λ s. record { word = word_of_slot s } };
 
     ghost inverse_ok = { λ p h. ap (λ n. record { word = n }) (packed-unpacked p.word) };
 }

@@ -40,10 +40,10 @@ pub struct ObjectTable {
 }
 
 impl Model for ObjectTable {
-    ghost use Rattle.object_table.specs.Placed.{Placed};
+    ghost use Rattle.object_table.specs.Placed.{PlacedTable};
     ghost use Rattle.object_table.specs.Parts.{placed_of, IsTable};
 
-    ghost Value = { Placed };
+    ghost Value = { PlacedTable };
 
     ghost view = { λ t. placed_of (record { cells = t.cells.cells; ids = t.ids; roots = t.roots; kinds = t.kinds; greatest = t.greatest; slots = t.slots }) };
 

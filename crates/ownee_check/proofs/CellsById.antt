@@ -10,13 +10,14 @@ use Rattle.graph_meaning.specs.Heap.{Object, ids, is_live}
 use Rattle.graph_meaning.specs.Reach.{has_id}
 use Rattle.graph_meaning.proofs.HeapLemmas.{has_id-ids}
 use Rattle.graph_meaning.proofs.Membership.{has_id-head}
-use Rattle.object_table.specs.Placed.{Placed, IsPlaced, id_in, cell_of}
+use Rattle.object_table.specs.Placed.{PlacedTable, IsPlaced, id_in, cell_of}
 use Rattle.path_cert.specs.Cells.{by_id}
 use Rattle.path_cert.proofs.HeldObjects.{held-within}
-use Rattle.path_cert.proofs.ByIds.{cell_of-held, by_id-held}
+use Rattle.object_table.proofs.ObjectsByCell.{cell_of-held}
+use Rattle.path_cert.proofs.ByIds.{by_id-held}
 use Rattle.ownee_check.specs.Cells.{cells_by_id}
 
-module _ (p : Placed) (placed : IsPlaced p) where
+module _ (p : PlacedTable) (placed : IsPlaced p) where
   abbrev at_id : ℕ → ℕ
   at_id id = unwrap_or (cell_of p id) 0
 

@@ -16,10 +16,10 @@ use Rattle.graph_meaning.proofs.Distances.{is_some-distance}
 use Rattle.graph_meaning.proofs.HeapLemmas.{has_id-ids}
 use Rattle.graph_meaning.proofs.Tracing.{met_has_level, traced_is_reached}
 use Rattle.graph_meaning.proofs.Ways.{ends-root_ways, ends-owner_ways}
-use Rattle.object_table.specs.Placed.{Placed, IsPlaced, id_in, cell_of}
+use Rattle.object_table.specs.Placed.{PlacedTable, IsPlaced, id_in, cell_of}
 use Rattle.path_cert.specs.Cells.{by_id}
 use Rattle.path_cert.specs.Finds.{is_border_cell, finds_in}
-use Rattle.path_cert.specs.Levels.{LevelTable, AreLevelsOf, search_of, level_in, graph_of, ends_of}
+use Rattle.path_cert.specs.Levels.{LevelTable, AreLevelsOf, search_of, level_in, open_graph_of, ends_of}
 use Rattle.path_cert.specs.declared.start.Start.TheVariants.{Roots, Owners}
 use Rattle.path_cert.proofs.ByIds.{by_id-held}
 use Rattle.path_cert.proofs.HeldObjects.{id-held, held-within}
@@ -43,7 +43,7 @@ is_some-map f None = refl
 is_some-map f (Some x) = refl
 
 -- a test that no cell passes
-by_id-none : (p : Placed) (test : ℕ → Bool) (x : ℕ) → ((cell : ℕ) → test cell ≡ false) → by_id p test x ≡ false
+by_id-none : (p : PlacedTable) (test : ℕ → Bool) (x : ℕ) → ((cell : ℕ) → test cell ≡ false) → by_id p test x ≡ false
 by_id-none p test x none = go (cell_of p x)
   where
     go : (o : Option ℕ) → option_map_or test o false ≡ false
@@ -52,7 +52,7 @@ by_id-none p test x none = go (cell_of p x)
 
 -- The heap with this table, whose objects stand in these cells.
 module _ (h : Heap) (cells : List (Option ℕ)) (r : RoleTable) (placed : IsPlaced (record { table = h.table; cells = cells })) (stand : StandFor (record { table = h.table; cells = cells }) r h) where
-  abbrev p : Placed
+  abbrev p : PlacedTable
   p = record { table = h.table; cells = cells }
 
   abbrev t : Table
@@ -79,8 +79,8 @@ module _ (h : Heap) (cells : List (Option ℕ)) (r : RoleTable) (placed : IsPlac
     has_level-under cell id held =
         let s = search_of p r Owners nothing in
         ap is_some (levels.levels cell id held)
-        ∙ is_some-map suc (distance (graph_of p s) (ends_of s) id)
-        ∙ is_some-distance (graph_of p s) (ends_of s) id
+        ∙ is_some-map suc (distance (open_graph_of p s) (ends_of s) id)
+        ∙ is_some-distance (open_graph_of p s) (ends_of s) id
         ∙ ap (λ ys. has_id ys id) (reached-same t s.is_shut (λ x. false) (λ x at. by_id-none p (λ cell. flag_of nothing cell) x none) (ends_of s))
         ∙ ap (λ os. has_id (reached_nodes (object_graph t) (way_ends (ways_from t os))) id) owner_cells
         ∙ ap (λ ys. has_id (reached_nodes (object_graph t) ys) id) (ends-owner_ways h)
@@ -106,8 +106,8 @@ module _ (h : Heap) (cells : List (Option ℕ)) (r : RoleTable) (placed : IsPlac
       let s = search_of p r Roots nothing in
       let by_roots : is_some (level_in rooted cell) ≡ has_id (reached_nodes (object_graph t) (root_ids t)) id =
       ap is_some (are.levels cell id held)
-      ∙ is_some-map suc (distance (graph_of p s) (ends_of s) id)
-      ∙ is_some-distance (graph_of p s) (ends_of s) id
+      ∙ is_some-map suc (distance (open_graph_of p s) (ends_of s) id)
+      ∙ is_some-distance (open_graph_of p s) (ends_of s) id
       ∙ ap (λ ys. has_id ys id) (reached-same t s.is_shut (λ x. false) (λ x at. by_id-none p (λ cell. flag_of nothing cell) x none) (ends_of s))
       ∙ ap (λ ys. has_id (reached_nodes (object_graph t) ys) id) (ends-root_ways t) in
       ap (λ b. b || is_some (level_in rooted cell)) (has_level-under nothing none under levels cell id held)
@@ -121,8 +121,8 @@ module _ (h : Heap) (cells : List (Option ℕ)) (r : RoleTable) (placed : IsPlac
   has_level-met l levels cell id held =
       let s = unowned_search h in
       ap is_some (levels.levels cell id held)
-      ∙ is_some-map suc (distance (graph_of p s) (ends_of s) id)
-      ∙ ap (λ ys. is_some (distance (graph_of p s) ys id)) (ends-root_ways t)
+      ∙ is_some-map suc (distance (open_graph_of p s) (ends_of s) id)
+      ∙ ap (λ ys. is_some (distance (open_graph_of p s) ys id)) (ends-root_ways t)
       ∙ sym (met_has_level h id (placed.live cell id held))
 
   -- ---- found
@@ -148,7 +148,7 @@ module _ (h : Heap) (cells : List (Option ℕ)) (r : RoleTable) (placed : IsPlac
       ∙ ap (λ ys. has_id ys y) (reached-same t (by_id p (is_border_cell r)) (is_border h) (by_cell (is_border_cell r) (is_border h) border-cell) (targets t x))
 
 -- What is said by cells is what the heap says by ids.
-pub record AgreeByIds (p : Placed) (r : RoleTable) (h : Heap) : Type 0 where
+pub record AgreeByIds (p : PlacedTable) (r : RoleTable) (h : Heap) : Type 0 where
   pub unowned : (nothing : List Bool) → ((cell : ℕ) → flag_of nothing cell ≡ false) → (under : LevelTable) →
       AreLevelsOf p (search_of p r Owners nothing) under → (owned : List Bool) →
       ((cell : ℕ) → cell < length p.cells → flag_of owned cell ≡ is_owned_cell r under cell) → (l : LevelTable) →
@@ -163,7 +163,7 @@ agree_with : Heap → RoleTable → List (Option ℕ) → Table → Type 0
 agree_with h r cells t =
     IsPlaced (record { table = t; cells = cells }) → StandFor (record { table = t; cells = cells }) r h → AgreeByIds (record { table = t; cells = cells }) r h
 
-pub agree-by-ids : (p : Placed) (r : RoleTable) (h : Heap) → IsPlaced p → StandFor p r h → AgreeByIds p r h
+pub agree-by-ids : (p : PlacedTable) (r : RoleTable) (h : Heap) → IsPlaced p → StandFor p r h → AgreeByIds p r h
 unfolding agree_with
 agree-by-ids p r h placed stand =
     subst (agree_with h r p.cells) stand.table (λ placed_here stand_here. record {

@@ -16,7 +16,7 @@ use Rattle.graph_meaning.specs.declared.roles.OwnerRole.TheVariants.{NotOwned, O
 use Rattle.graph_meaning.specs.Heap.{Heap}
 use Rattle.graph_meaning.specs.Reach.{has_id}
 use Rattle.graph_meaning.specs.Roles.{RoleTable, owner_in, has_owner}
-use Rattle.object_table.specs.Placed.{Placed, id_in}
+use Rattle.object_table.specs.Placed.{PlacedTable, id_in}
 use Rattle.graph_meaning.proofs.Membership.{has_id-filter, filter_agree_all, map-filter, list_any_agree}
 use Rattle.assert_registry.specs.Assertions.{owner_of}
 use Rattle.assert_registry.specs.ByCell.{IsRoleBy}
@@ -26,7 +26,7 @@ use Rattle.assert_registry.proofs.Rising.{Rise, Rise-head, Rise-tail, same_risin
 use Rattle.assert_registry.proofs.RolesOfTable.{and_parts}
 
 -- the role of an object says whether it has an owner
-role-says : (p : Placed) (o : Option ℕ) (role : OwnerRole) → IsRoleBy p o role → has_owner role ≡ is_some o
+role-says : (p : PlacedTable) (o : Option ℕ) (role : OwnerRole) → IsRoleBy p o role → has_owner role ≡ is_some o
 role-says p None NotOwned says = refl
 role-says p None (OwnerCell c) says = absurd (false≢true says.0)
 role-says p None (OwnerGone gone) says = let e : None ≡ Some gone = says.0 in cc
@@ -35,7 +35,7 @@ role-says p (Some owner) (OwnerCell c) says = refl
 role-says p (Some owner) (OwnerGone gone) says = refl
 
 -- the object in a cell is an ownee by its role exactly where the heap says so
-pub owned-by_role : (p : Placed) (r : RoleTable) (h : Heap) → StandFor p r h → (cell id : ℕ) → id_in p cell ≡ Some id → has_owner (owner_in r cell) ≡ is_some (owner_of h.owners id)
+pub owned-by_role : (p : PlacedTable) (r : RoleTable) (h : Heap) → StandFor p r h → (cell id : ℕ) → id_in p cell ≡ Some id → has_owner (owner_in r cell) ≡ is_some (owner_of h.owners id)
 owned-by_role p r h stand cell id held =
     role-says p (owner_of h.owners id) (owner_in r cell) (subst (λ o. IsRoleBy p o (owner_in r cell)) (ap (option_and_then (owner_of h.owners)) held) (stand.ownees cell))
 

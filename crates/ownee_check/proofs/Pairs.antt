@@ -12,11 +12,11 @@ use Rattle.graph_meaning.specs.declared.roles.OwnerRole.TheVariants.{NotOwned, O
 use Rattle.graph_meaning.specs.Reach.{has_id}
 use Rattle.graph_meaning.specs.Roles.{RoleTable, owner_in}
 use Rattle.graph_meaning.proofs.Membership.{has_id-append}
-use Rattle.object_table.specs.Placed.{Placed, id_in}
+use Rattle.object_table.specs.Placed.{PlacedTable, id_in}
 use Rattle.path_cert.specs.Finds.{finds_in}
 use Rattle.ownee_check.specs.declared.settling.Ownership.{Ownership}
 use Rattle.ownee_check.specs.Cells.{is_found_by, is_kept}
-use Rattle.ownee_check.specs.Settling.{IsOfObjects, is_found_in, flag_of, Flags, Asked, HasAsked}
+use Rattle.ownee_check.specs.Settling.{IsOfObjects, is_found_in, flag_of, Flags, OwneeNotes, HasAsked}
 
 -- one more of them
 pub has_id-more : (xs : List ℕ) (i x : ℕ) → i < length xs → has_id (take (i + 1) xs) x ≡ (has_id (take i xs) x || (get_or xs i 0 == x || false))
@@ -80,7 +80,7 @@ module _ (test : ℕ → Bool) (answers : List Bool) (ownees : List ℕ) (i : �
 
 -- ---- pairs
 
-module _ (p : Placed) (r : RoleTable) where
+module _ (p : PlacedTable) (r : RoleTable) where
   -- one pair more
   pub found-more : (pairs : List Ownership) (o : Ownership) (x : ℕ) → is_found_in p r (pairs ++ o ∷ []) x ≡ (is_found_in p r pairs x || ((o.ownee == x && finds_in p r o.owner x) || false))
   found-more pairs o x = list_any-append (λ (q : Ownership). q.ownee == x && finds_in p r q.owner x) pairs (o ∷ [])
@@ -149,16 +149,16 @@ module _ (p : Placed) (r : RoleTable) where
       ∙ sym (found-more pairs o x)
 
 -- one pair more, of objects
-pub objects-more : (p : Placed) (pairs : List Ownership) (o : Ownership) → All (IsOfObjects p) pairs → IsOfObjects p o → All (IsOfObjects p) (pairs ++ o ∷ [])
+pub objects-more : (p : PlacedTable) (pairs : List Ownership) (o : Ownership) → All (IsOfObjects p) pairs → IsOfObjects p o → All (IsOfObjects p) (pairs ++ o ∷ [])
 objects-more p pairs o all held =
     All-append (IsOfObjects p) pairs (o ∷ []) all (All-cons (IsOfObjects p) o [] held (λ k d within. absurd (omega arith)))
 
 -- one cell more that holds an object
-pub held-more : (p : Placed) (cells : List ℕ) (cell : ℕ) → All (λ c. IsSome (id_in p c)) cells → IsSome (id_in p cell) → All (λ c. IsSome (id_in p c)) (cells ++ cell ∷ [])
+pub held-more : (p : PlacedTable) (cells : List ℕ) (cell : ℕ) → All (λ c. IsSome (id_in p c)) cells → IsSome (id_in p cell) → All (λ c. IsSome (id_in p c)) (cells ++ cell ∷ [])
 held-more p cells cell all held =
     All-append (λ c. IsSome (id_in p c)) cells (cell ∷ []) all (All-cons (λ c. IsSome (id_in p c)) cell [] held (λ k d within. absurd (omega arith)))
 
-module _ (p : Placed) (r : RoleTable) (pairs : List Ownership) (a : Asked) (asked : HasAsked p r pairs a) where
+module _ (p : PlacedTable) (r : RoleTable) (pairs : List Ownership) (a : OwneeNotes) (asked : HasAsked p r pairs a) where
   -- the owner was asked
   pub asked-owner : (flags : List Bool) → length flags ≡ length a.found →
       Flags (λ x. has_id a.ownees x && finds_in p r a.owner x) a.found flags →

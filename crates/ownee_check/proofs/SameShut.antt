@@ -10,7 +10,7 @@ use Rattle.graph_meaning.specs.Reach.{Graph, has_id, within, level, distance, pr
 use Rattle.graph_meaning.specs.Assertions.{open_graph}
 use Rattle.graph_meaning.proofs.Membership.{has_id-head, has_id-filter, find_agree}
 use Rattle.assert_registry.proofs.RolesOfTable.{and_parts}
-use Rattle.object_table.specs.Placed.{Placed}
+use Rattle.object_table.specs.Placed.{PlacedTable}
 use Rattle.path_cert.specs.declared.arrival.Arrival.{Arrival}
 use Rattle.path_cert.specs.Levels.{Search, LevelTable, AreLevelsOf, ArrivesFirst, ArrivesNext, AtLevel, ends_of, arrival_in}
 
@@ -86,7 +86,7 @@ abbrev shutting : Search → (ℕ → Bool) → Search
 shutting s other = record { start = s.start; sources = s.sources; is_shut = other }
 
 -- The levels of a search are those of one that shuts the same live objects.
-pub levels-same : (p : Placed) (s : Search) (other : ℕ → Bool) (l : LevelTable) →
+pub levels-same : (p : PlacedTable) (s : Search) (other : ℕ → Bool) (l : LevelTable) →
     ((x : ℕ) → IsTrue (has_id (ids p.table) x) → s.is_shut x ≡ other x) → AreLevelsOf p s l → AreLevelsOf p (shutting s other) l
 levels-same p s other l agree are = record {
   start = are.start;

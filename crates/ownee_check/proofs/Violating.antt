@@ -16,7 +16,7 @@ use Rattle.graph_meaning.specs.Roles.{RoleTable, owner_in, id_at}
 use Rattle.graph_meaning.proofs.ByPaths.{finds_by_path}
 use Rattle.graph_meaning.proofs.HeapLemmas.{has_id-ids}
 use Rattle.graph_meaning.proofs.Membership.{All-has_id, filter_agree_all}
-use Rattle.object_table.specs.Placed.{Placed, IsPlaced, id_in}
+use Rattle.object_table.specs.Placed.{PlacedTable, IsPlaced, id_in}
 use Rattle.assert_registry.specs.Assertions.{owner_of}
 use Rattle.assert_registry.specs.ByCell.{IsRoleBy}
 use Rattle.assert_registry.specs.Laws.{StandFor}
@@ -71,11 +71,11 @@ some_after [] = refl
 some_after (x ∷ xs) = ap (λ ys. Some x.0 ∷ ys) (some_after xs)
 
 -- the doubtful ones are objects
-pub doubts-held : (p : Placed) → IsPlaced p → (test : ℕ → Bool) (doubts : List ℕ) → doubts ≡ filter test (cells_by_id p) → All (λ cell. IsSome (id_in p cell)) doubts
+pub doubts-held : (p : PlacedTable) → IsPlaced p → (test : ℕ → Bool) (doubts : List ℕ) → doubts ≡ filter test (cells_by_id p) → All (λ cell. IsSome (id_in p cell)) doubts
 doubts-held p placed test doubts are =
     subst (All (λ cell. IsSome (id_in p cell))) (sym are) (All-filter test (λ cell. IsSome (id_in p cell)) (cells_by_id p) (cells-held p placed))
 
-module _ (p : Placed) (r : RoleTable) (h : Heap) (placed : IsPlaced p) (stand : StandFor p r h) (doubts : List ℕ) (are : AreDoubts p h doubts) where
+module _ (p : PlacedTable) (r : RoleTable) (h : Heap) (placed : IsPlaced p) (stand : StandFor p r h) (doubts : List ℕ) (are : AreDoubts p h doubts) where
   abbrev by : AgreeByIds p r h
   by = agree-by-ids p r h placed stand
 
@@ -172,12 +172,12 @@ listed-held f (c ∷ cells) (x ∷ xs) same cell at =
     (or_cases _ _ at)
 
 -- levels of one search are levels
-pub levels-in : (p : Placed) (h : Heap) (levels : Option LevelTable) → IfSome levels (AreLevelsOf p (unowned_search h)) → IfSome levels (AreLevelsIn p)
+pub levels-in : (p : PlacedTable) (h : Heap) (levels : Option LevelTable) → IfSome levels (AreLevelsOf p (unowned_search h)) → IfSome levels (AreLevelsIn p)
 levels-in p h None are = tt
 levels-in p h (Some l) are = (unowned_search h, are)
 
 -- where an ownee violates, levels were made
-pub levels-made : (p : Placed) (h : Heap) (c : OwnershipTable) → AreViolating p h c → (ownee : ℕ) → IsTrue (has_id c.ownees ownee) → IsSomeAnd c.levels (AreLevelsOf p (unowned_search h))
+pub levels-made : (p : PlacedTable) (h : Heap) (c : OwnershipTable) → AreViolating p h c → (ownee : ℕ) → IsTrue (has_id c.ownees ownee) → IsSomeAnd c.levels (AreLevelsOf p (unowned_search h))
 levels-made p h c are ownee listed =
     go c.levels are.levels (are.made (λ none. false≢true (sym (ap (λ xs. has_id xs ownee) none) ∙ listed)))
   where

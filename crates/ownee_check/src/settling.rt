@@ -1,7 +1,7 @@
 //! Which ownees their owners find. Each owner is asked once for all of its ownees that are in doubt.
 ghost use Rattle.graph_meaning.specs.Reach.{has_id};
 ghost use Rattle.graph_meaning.specs.Roles.{RoleTable, AreRolesOf};
-ghost use Rattle.object_table.specs.Placed.{Placed, id_in};
+ghost use Rattle.object_table.specs.Placed.{PlacedTable, id_in};
 ghost use Rattle.ownee_check.specs.Cells.{is_kept};
 ghost use Rattle.ownee_check.specs.Settling.{IsOfObjects, is_found_in, flag_of, Flags, HasAsked};
 ghost use Rattle.ownee_check.specs.declared.settling.Ownership.{Ownership};
@@ -108,7 +108,7 @@ impl Asking {
     ghost use Rattle.ownee_check.specs.Askings.{asked_in};
 
     fn begin(alloc: Global, cells: u32) -> Result<Asking, OutOfMemory>
-        ensures asked { IfOk result (λ a. (p : Placed) (r : RoleTable) → length p.cells ≡ cells → HasAsked p r [] (asked_in a)) }
+        ensures asked { IfOk result (λ a. (p : PlacedTable) (r : RoleTable) → length p.cells ≡ cells → HasAsked p r [] (asked_in a)) }
     {
         Ok(Asking {
             search: OwnerSearch::make(alloc, cells)?,

@@ -3,15 +3,15 @@ use Rattle.std.proofs.Common.{◌≡◌, ℕ, ◌*◌, ◌≤◌, List, length, 
 use Rattle.std.specs.List.{All}
 use Rattle.heap_base.specs.declared.task.Task.{Task}
 use Rattle.graph_meaning.specs.Roles.{RoleTable}
-use Rattle.scan_job.specs.Phases.{all_held, dealt, owner_firsts, held_firsts}
+use Rattle.scan_job.specs.Phases.{all_held, task_lists, owner_firsts, held_firsts}
 use Rattle.scan_job.specs.Scans.{task_at}
 use Rattle.scan_job.specs.States.{ScanState}
 
-pub dealt-owners : (r : RoleTable) {fs : List (List Task)} {n m : ℕ} {owners : List ℕ} → fs ≡ dealt n (map (λ o. task_at o o) owners) → n ≡ m → owners ≡ r.owners → fs ≡ dealt m (owner_firsts r)
-dealt-owners r lists workers same = lists ∙ (λ i. dealt (workers i) (map (λ o. task_at o o) (same i)))
+pub dealt-owners : (r : RoleTable) {fs : List (List Task)} {n m : ℕ} {owners : List ℕ} → fs ≡ task_lists n (map (λ o. task_at o o) owners) → n ≡ m → owners ≡ r.owners → fs ≡ task_lists m (owner_firsts r)
+dealt-owners r lists workers same = lists ∙ (λ i. task_lists (workers i) (map (λ o. task_at o o) (same i)))
 
-pub dealt-held : {fs : List (List Task)} {n m : ℕ} {js is : List ScanState} → fs ≡ dealt n (held_firsts is) → n ≡ m → is ≡ js → fs ≡ dealt m (held_firsts js)
-dealt-held lists workers same = lists ∙ (λ i. dealt (workers i) (held_firsts (same i)))
+pub dealt-held : {fs : List (List Task)} {n m : ℕ} {js is : List ScanState} → fs ≡ task_lists n (held_firsts is) → n ≡ m → is ≡ js → fs ≡ task_lists m (held_firsts js)
+dealt-held lists workers same = lists ∙ (λ i. task_lists (workers i) (held_firsts (same i)))
 
 pub few-held : {js is : List ScanState} {most : ℕ} → ((cells : ℕ) → All (λ j. j.cells ≤ cells) is → length (all_held is) ≤ length is * cells) →
     is ≡ js → All (λ j. j.cells ≤ most) js → length (all_held js) ≤ length js * most

@@ -6,7 +6,7 @@ use Rattle.std.proofs.Math.Seq.{take-length}
 use Rattle.std.proofs.lemmas.Grind.{flat_map-append}
 use Rattle.std.proofs.lemmas.List.{length-map, map-append, take_more}
 use Rattle.heap_base.specs.declared.task.Task.{Task}
-use Rattle.scan_job.specs.Phases.{all_held, put_last, dealt}
+use Rattle.scan_job.specs.Phases.{all_held, put_last, task_lists}
 use Rattle.scan_job.specs.Scans.{task_at}
 use Rattle.scan_job.specs.States.{ScanState}
 use Rattle.scan_job.proofs.Dealing.{dealt-room, dealt-snoc}
@@ -68,7 +68,7 @@ module _ (js : List ScanState) (i : ℕ) (j : ScanState) (cells : List ℕ) (p :
     length-more number count =
         let a = ap length so_far-more in let b = length-append (held_so_far js i cells k) (get_or cells k 0 ∷ []) in omega arith
 
-    module _ (n number : ℕ) (fs : List (List Task)) (some : 0 < n) (count : number ≡ length (held_so_far js i cells k)) (lists : fs ≡ dealt n (map (task_at 0) (held_so_far js i cells k))) where
+    module _ (n number : ℕ) (fs : List (List Task)) (some : 0 < n) (count : number ≡ length (held_so_far js i cells k)) (lists : fs ≡ task_lists n (map (task_at 0) (held_so_far js i cells k))) where
       counted : number ≡ length (map (task_at 0) (held_so_far js i cells k))
       counted = let a = length-map (held_so_far js i cells k) (task_at 0) in omega arith
 
@@ -78,7 +78,7 @@ module _ (js : List ScanState) (i : ℕ) (j : ScanState) (cells : List ℕ) (p :
           let e = ap (λ m. m * room) jobs in
           dealt-room n room number fs (map (task_at 0) (held_so_far js i cells k)) some counted lists (omega arith)
 
-      pub dealt-more : (gs : List (List Task)) → gs ≡ put_last fs (number % n) (task_at 0 (get_or cells k 0)) → gs ≡ dealt n (map (task_at 0) (held_so_far js i cells (k + 1)))
+      pub dealt-more : (gs : List (List Task)) → gs ≡ put_last fs (number % n) (task_at 0 (get_or cells k 0)) → gs ≡ task_lists n (map (task_at 0) (held_so_far js i cells (k + 1)))
       dealt-more gs is =
           dealt-snoc n number fs gs (map (task_at 0) (held_so_far js i cells k)) (task_at 0 (get_or cells k 0)) counted lists is
-          ∙ ap (dealt n) (sym (ap (map (task_at 0)) so_far-more ∙ map-append (task_at 0) (held_so_far js i cells k) (get_or cells k 0 ∷ [])))
+          ∙ ap (task_lists n) (sym (ap (map (task_at 0)) so_far-more ∙ map-append (task_at 0) (held_so_far js i cells k) (get_or cells k 0 ∷ [])))

@@ -3,8 +3,8 @@ ghost use Rattle.std.specs.List.{All};
 ghost use Rattle.std.specs.Prelude.{◌≡◌, ℕ, ◌*◌, ◌<◌, ◌≤◌, [], length, replicate};
 ghost use Rattle.heap_base.specs.declared.limits.TheConstants.{MOST_OBJECTS, MOST_WORKERS};
 ghost use Rattle.scan_job.specs.Jobs.{shared_graph};
-ghost use Rattle.scan_job.specs.Phases.{CanBegin, CanScan, HasBegun, IsDone, from_held, all_held, AreUnderOwners, dealt, held_firsts};
-ghost use Rattle.scan_job.specs.Shared.{lent};
+ghost use Rattle.scan_job.specs.Phases.{CanBeginPhase, CanScan, HasBegun, IsDone, from_held, all_held, AreUnderOwners, task_lists, held_firsts};
+ghost use Rattle.scan_job.specs.Shared.{shared_behind};
 ghost use Rattle.steal_pool.specs.Runs.{workers_of, room_of};
 
 use heap_base::{Gate, Task};
@@ -20,7 +20,7 @@ fn add_held(jobs: &[ScanJob], first: &mut FirstTasks, workers: u32)
     requires lists { first.old.lists ≡ replicate workers [] }
     requires room { All (λ j. j.cells ≤ first.old.room) jobs.now }
     requires cells { All (λ j. j.cells ≤ MOST_OBJECTS) jobs.now }
-    ensures lists { first.new.lists ≡ dealt workers (held_firsts jobs.now) }
+    ensures lists { first.new.lists ≡ task_lists workers (held_firsts jobs.now) }
     ensures room { first.new.room ≡ first.old.room }
     ensures few { (cells : ℕ) → All (λ j. j.cells ≤ cells) jobs.now → length (all_held jobs.now) ≤ length jobs.now * cells }
 {
@@ -42,10 +42,10 @@ fn add_held(jobs: &[ScanJob], first: &mut FirstTasks, workers: u32)
 /// Begins take-up, whoever runs the jobs: held cell number k, from 0, by job and then in the order of `held()`, goes
 /// first to worker k modulo the number of workers. It takes no memory.
 pub fn begin_take_up(shared: &ScanShared<'_>, jobs: &mut Vec<ScanJob>, first: &mut FirstTasks)
-    requires begin { CanBegin (lent shared.now) jobs.old.items first.old }
+    requires begin { CanBeginPhase (shared_behind shared.now) jobs.old.items first.old }
     requires held { AreUnderOwners (shared_graph shared.now) (all_held jobs.old.items) }
-    ensures begun { HasBegun (lent shared.now) (from_held (all_held jobs.old.items)) jobs.old.items (record { jobs = jobs.new.items; first = first.new.lists }) }
-    ensures first { first.new.lists ≡ dealt (length jobs.old.items) (held_firsts jobs.old.items) }
+    ensures begun { HasBegun (shared_behind shared.now) (from_held (all_held jobs.old.items)) jobs.old.items (record { jobs = jobs.new.items; first = first.new.lists }) }
+    ensures first { first.new.lists ≡ task_lists (length jobs.old.items) (held_firsts jobs.old.items) }
     ensures first_room { first.new.room ≡ first.old.room }
 {
     first.clear();
@@ -67,9 +67,9 @@ pub fn take_up<R: Threads + Sync, G: Gate>(
 )
     requires scan { CanScan shared.now jobs.old.items crew.old first.old }
     requires held { AreUnderOwners (shared_graph shared.now) (all_held jobs.old.items) }
-    ensures done { IsDone (lent shared.now) (from_held (all_held jobs.old.items)) jobs.old.items jobs.new.items }
+    ensures done { IsDone (shared_behind shared.now) (from_held (all_held jobs.old.items)) jobs.old.items jobs.new.items }
     ensures none_held { all_held jobs.new.items ≡ [] }
-    ensures first { first.new.lists ≡ dealt (workers_of crew.old) (held_firsts jobs.old.items) }
+    ensures first { first.new.lists ≡ task_lists (workers_of crew.old) (held_firsts jobs.old.items) }
     ensures first_room { first.new.room ≡ first.old.room }
     ensures room { room_of crew.new ≡ room_of crew.old }
     ensures workers { workers_of crew.new ≡ workers_of crew.old }

@@ -1,9 +1,9 @@
 //! The scans from the owners.
 ghost use Rattle.std.specs.Prelude.{◌≡◌, ◌<◌, ◌≤◌, [], length, map, replicate};
 ghost use Rattle.heap_base.specs.declared.limits.TheConstants.{MOST_OBJECTS};
-ghost use Rattle.scan_job.specs.Phases.{CanBegin, CanScan, HasBegun, IsDone, from_owners, dealt, owner_firsts};
+ghost use Rattle.scan_job.specs.Phases.{CanBeginPhase, CanScan, HasBegun, IsDone, from_owners, task_lists, owner_firsts};
 ghost use Rattle.scan_job.specs.Scans.{task_at};
-ghost use Rattle.scan_job.specs.Shared.{lent};
+ghost use Rattle.scan_job.specs.Shared.{shared_behind};
 ghost use Rattle.steal_pool.specs.Runs.{workers_of, room_of};
 
 use heap_base::{Gate, Task};
@@ -17,7 +17,7 @@ fn add_owners(owners: &[u32], first: &mut FirstTasks, workers: u32)
     requires lists { first.old.lists ≡ replicate workers [] }
     requires room { length owners.now ≤ first.old.room }
     requires few { length owners.now ≤ MOST_OBJECTS }
-    ensures lists { first.new.lists ≡ dealt workers (map (λ o. task_at o o) owners.now) }
+    ensures lists { first.new.lists ≡ task_lists workers (map (λ o. task_at o o) owners.now) }
     ensures room { first.new.room ≡ first.old.room }
 {
     for (number, owner) in owners.iter().enumerate() {
@@ -34,9 +34,9 @@ fn add_owners(owners: &[u32], first: &mut FirstTasks, workers: u32)
 /// Begins the owner phase, whoever runs the jobs: owner number k, from 0, goes first to worker k modulo the number of
 /// workers, in the order of the roles. What the jobs held before is taken away. It takes no memory.
 pub fn begin_owner_phase(shared: &ScanShared<'_>, jobs: &mut Vec<ScanJob>, first: &mut FirstTasks)
-    requires { CanBegin (lent shared.now) jobs.old.items first.old }
-    ensures begun { HasBegun (lent shared.now) from_owners jobs.old.items (record { jobs = jobs.new.items; first = first.new.lists }) }
-    ensures first { first.new.lists ≡ dealt (length jobs.old.items) (owner_firsts shared.now.roles.now) }
+    requires { CanBeginPhase (shared_behind shared.now) jobs.old.items first.old }
+    ensures begun { HasBegun (shared_behind shared.now) from_owners jobs.old.items (record { jobs = jobs.new.items; first = first.new.lists }) }
+    ensures first { first.new.lists ≡ task_lists (length jobs.old.items) (owner_firsts shared.now.roles.now) }
     ensures first_room { first.new.room ≡ first.old.room }
 {
     first.clear();
@@ -57,8 +57,8 @@ pub fn owner_phase<R: Threads + Sync, G: Gate>(
     gate: &G,
 )
     requires { CanScan shared.now jobs.old.items crew.old first.old }
-    ensures done { IsDone (lent shared.now) from_owners jobs.old.items jobs.new.items }
-    ensures first { first.new.lists ≡ dealt (workers_of crew.old) (owner_firsts shared.now.roles.now) }
+    ensures done { IsDone (shared_behind shared.now) from_owners jobs.old.items jobs.new.items }
+    ensures first { first.new.lists ≡ task_lists (workers_of crew.old) (owner_firsts shared.now.roles.now) }
     ensures first_room { first.new.room ≡ first.old.room }
     ensures room { room_of crew.new ≡ room_of crew.old }
     ensures workers { workers_of crew.new ≡ workers_of crew.old }

@@ -8,7 +8,7 @@ use Rattle.graph_meaning.specs.Heap.{Heap}
 use Rattle.graph_meaning.specs.Roles.{RoleTable, owner_in, has_owner}
 use Rattle.header_rule.specs.ClosedWords.{has_mark_in}
 use Rattle.header_rule.specs.declared.mark.Mark.TheVariants.{Found, MetByRoots}
-use Rattle.object_table.specs.Placed.{Placed, id_in}
+use Rattle.object_table.specs.Placed.{PlacedTable, id_in}
 use Rattle.assert_registry.specs.Assertions.{owner_of}
 use Rattle.assert_registry.specs.Laws.{StandFor}
 use Rattle.assert_registry.proofs.Rising.{Rise, Rise-sorted}
@@ -20,7 +20,7 @@ use Rattle.ownee_check.specs.Ownership.{AreDoubts}
 use Rattle.ownee_check.proofs.OwnersOf.{ownee-found, owner-of_pair, owned-by_role}
 use Rattle.ownership_check.specs.Cells.{is_in_doubt}
 
-module _ (p : Placed) (r : RoleTable) (h : Heap) (result : TraceResult) (stand : StandFor p r h) (trace : IsTraceOf p h result) where
+module _ (p : PlacedTable) (r : RoleTable) (h : Heap) (result : TraceResult) (stand : StandFor p r h) (trace : IsTraceOf p h result) where
   rise : Rise (keys_of h.owners)
   rise = Rise-sorted (keys_of h.owners) stand.ordered.owners
 

@@ -1,5 +1,5 @@
 ghost use Rattle.std.specs.Prelude.{◌≡◌, ◌<◌, ◌≤◌, [], length, IfSome};
-ghost use Rattle.trace_reader.specs.Cutter.{Tells};
+ghost use Rattle.trace_reader.specs.Cutter.{TellsItem};
 ghost use Rattle.trace_reader.specs.Meaning.{item_of_line};
 ghost use Rattle.parallel_reader.specs.Ahead.{HoldsLinesOf};
 
@@ -57,7 +57,7 @@ impl LinesAhead {
     /// What the next of its lines is, where it is this line. Else it keeps the line.
     pub fn take(&mut self, text: &[u8], line: &[u8]) -> Option<Result<Option<Event>, Stop>>
         requires { HoldsLinesOf text.now self.old }
-        ensures taken { IfSome result (λ told. Tells told (item_of_line line.now)) }
+        ensures taken { IfSome result (λ told. TellsItem told (item_of_line line.now)) }
         ensures rest { HoldsLinesOf text.now self.new }
     {
         let next = self.lines.last()?;

@@ -1,5 +1,5 @@
 ghost use Rattle.std.specs.Prelude.{IfSome};
-ghost use Rattle.trace_reader.specs.Cutter.{Tells};
+ghost use Rattle.trace_reader.specs.Cutter.{TellsItem};
 ghost use Rattle.trace_reader.specs.Meaning.{item_of_line};
 
 use crate::lines::LinesAhead;
@@ -59,7 +59,7 @@ impl Piece {
 
     /// What this line is, which begins at this place in the piece, where it was read.
     pub fn take(&mut self, place: usize, line: &[u8]) -> Option<Result<Option<Event>, Stop>>
-        ensures { IfSome result (λ told. Tells told (item_of_line line.now)) }
+        ensures { IfSome result (λ told. TellsItem told (item_of_line line.now)) }
     {
         self.lines.skip(&self.text, place);
         self.lines.take(&self.text, line)

@@ -1,5 +1,5 @@
 ghost use Rattle.std.specs.Prelude.{IfSome};
-ghost use Rattle.trace_reader.specs.Cutter.{Tells};
+ghost use Rattle.trace_reader.specs.Cutter.{TellsItem};
 ghost use Rattle.trace_reader.specs.Meaning.{item_of_line};
 
 use crate::piece::Piece;
@@ -95,7 +95,7 @@ impl Pieces {
 
     /// What the next line is, which is this one, where it was read.
     pub fn take(&mut self, line: &[u8]) -> Option<Result<Option<Event>, Stop>>
-        ensures { IfSome result (λ told. Tells told (item_of_line line.now)) }
+        ensures { IfSome result (λ told. TellsItem told (item_of_line line.now)) }
     {
         let place = self.place;
         let cut = self.cuts.get_mut(self.next)?;

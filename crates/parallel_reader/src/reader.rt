@@ -1,5 +1,5 @@
 ghost use Rattle.std.specs.Prelude.{◌≤◌, ⊤, length, IfSome};
-ghost use Rattle.trace_reader.specs.Cutter.{Tells};
+ghost use Rattle.trace_reader.specs.Cutter.{TellsItem};
 ghost use Rattle.trace_reader.specs.Meaning.{item_of_line};
 
 use crate::crew::Crew;
@@ -72,7 +72,7 @@ impl<'a, R: Threads> ParallelReader<'a, R> {
 
     // What the next line is, which is this one, where it was read before its turn.
     fn take(&mut self, line: &[u8]) -> Option<Result<Option<Event>, Stop>>
-        ensures { IfSome result (λ told. Tells told (item_of_line line.now)) }
+        ensures { IfSome result (λ told. TellsItem told (item_of_line line.now)) }
     {
         if self.pieces.is_over() {
             return None;

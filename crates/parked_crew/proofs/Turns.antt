@@ -10,7 +10,7 @@ use Rattle.parked_crew.specs.Errands.{Errand}
 use Rattle.parked_crew.specs.declared.rule.View.{View}
 use Rattle.parked_crew.specs.declared.rule.Role.{Role}
 use Rattle.parked_crew.specs.declared.rule.Role.TheVariants.{Nobody, Unsent, Sent, Served, Fresh, AtWork, Ended}
-use Rattle.parked_crew.specs.Rounds.{Stage, shut, opened, laid, seated, begun, finished, fetched, opening_word, phase, MayBe, Sides, IsAt, Knows, hired}
+use Rattle.parked_crew.specs.Rounds.{Stage, shut, opened, laid, seated, begun, finished, fetched, opening_word, phase, MayBe, Sides, IsAt, Knows, hired_at}
 use Rattle.parked_crew.specs.Rounds.{caller_role, worker_role, seen, IsHome, Slot, At, Turned, Sat, Opens, Sends, Takes, Finishes, Looks}
 use Rattle.parked_crew.specs.Rounds.{without_right, the_worker}
 
@@ -126,7 +126,8 @@ module _ {C : Type 0} (n : C) where
   -- the seat id has the view u now, and the round is at the stage st'
   moved_at : (st st' : Stage) (d d' : Sides) (s : St) → At n st d s → (id : ℕ) (u : View C) (homes' : Homes) → length homes' ≡ 1 → Slot n homes' st' → Knows st' d' id u.role → u.start ≡ n
       → ((j : ℕ) (role : Role) → j ≢ id → Knows st d j role → Knows st' d' j role)
-      → (opening_word st' ≡ 1 → get_elem? (set s.views id u) d'.caller ≡ some (seen (caller_role st') n)) → (hired st' ≡ 1 → get_elem? (set s.views id u) d'.worker ≡ some (seen (worker_role st') n))
+      → (opening_word st' ≡ 1 → get_elem? (set s.views id u) d'.caller ≡ some (seen (caller_role st') n)) →
+      (hired_at st' ≡ 1 → get_elem? (set s.views id u) d'.worker ≡ some (seen (worker_role st') n))
       → At n st' d' record { words = opening_word st' ∷ phase st' ∷ []; homes = homes'; views = set s.views id u }
   moved_at st st' d d' s k id u homes' deep slot mine noted others ct wt = record {
     words = refl;
@@ -158,7 +159,8 @@ module _ {C : Type 0} (n : C) where
 
   moved : (st st' : Stage) (d d' : Sides) (s : St) → At n st d s → (id : ℕ) (u : View C) (homes' : Homes) → length homes' ≡ 1 → Slot n homes' st' → Knows st' d' id u.role → u.start ≡ n
       → ((j : ℕ) (role : Role) → j ≢ id → Knows st d j role → Knows st' d' j role)
-      → (opening_word st' ≡ 1 → get_elem? (set s.views id u) d'.caller ≡ some (seen (caller_role st') n)) → (hired st' ≡ 1 → get_elem? (set s.views id u) d'.worker ≡ some (seen (worker_role st') n))
+      → (opening_word st' ≡ 1 → get_elem? (set s.views id u) d'.caller ≡ some (seen (caller_role st') n)) →
+      (hired_at st' ≡ 1 → get_elem? (set s.views id u) d'.worker ≡ some (seen (worker_role st') n))
       → Turned n record { words = opening_word st' ∷ phase st' ∷ []; homes = homes'; views = set s.views id u }
   moved st st' d d' s k id u homes' deep slot mine noted others ct wt =
       record { stage = st'; sides = d'; at = moved_at st st' d d' s k id u homes' deep slot mine noted others ct wt }

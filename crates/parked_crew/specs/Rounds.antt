@@ -44,8 +44,8 @@ opening_word st = (appearance_at st).opening_word
 abbrev pub phase : Stage → ℕ
 phase st = (appearance_at st).phase
 
-abbrev pub hired : Stage → ℕ
-hired st = (appearance_at st).hired
+abbrev pub hired_at : Stage → ℕ
+hired_at st = (appearance_at st).hired
 
 abbrev pub caller_role : Stage → Role
 caller_role st = (appearance_at st).caller
@@ -86,8 +86,8 @@ Knows st sides j role = MayBe role st × IsAt role sides j
 abbrev pub Sat : Type 0 → Type 0
 Sat C = Me (Option (Errand C)) (View C)
 
-abbrev pub Asked : Type 0 → Type 0
-Asked C = Step (Option (Errand C))
+abbrev pub ErrandStep : Type 0 → Type 0
+ErrandStep C = Step (Option (Errand C))
 
 module _ {C : Type 0} where
   abbrev pub seen : Role → C → View C
@@ -114,7 +114,7 @@ module _ {C : Type 0} where
     pub each_seat : (j : ℕ) (v : View C) → get_elem? s.views j ≡ some v → Knows st sides j v.role
     pub noted : (j : ℕ) (v : View C) → get_elem? s.views j ≡ some v → v.start ≡ n
     pub caller_there : opening_word st ≡ 1 → get_elem? s.views sides.caller ≡ some (seen (caller_role st) n)
-    pub worker_there : hired st ≡ 1 → get_elem? s.views sides.worker ≡ some (seen (worker_role st) n)
+    pub worker_there : hired_at st ≡ 1 → get_elem? s.views sides.worker ≡ some (seen (worker_role st) n)
 
   -- the rule of a round about the share n
   pub record Turned (n : C) (s : State (Option (Errand C)) (View C)) : Type 0 where
@@ -123,23 +123,23 @@ module _ {C : Type 0} where
     pub at : At n stage sides s
 
   -- the first seat to open it is the caller's, and takes the empty slot
-  abbrev pub Opens : Asked C → Sat C → ℕ → Sat C → Type 0
+  abbrev pub Opens : ErrandStep C → Sat C → ℕ → Sat C → Type 0
   Opens st m found m' = m' ≡ cond (found == 0) (seen Unsent m.0.start, (0, None) ∷ m.1) m
 
-  abbrev pub Sends : Asked C → Sat C → ℕ → Sat C → Type 0
+  abbrev pub Sends : ErrandStep C → Sat C → ℕ → Sat C → Type 0
   Sends st m found m' = m' ≡ (seen (Sent true) m.0.start, rest m.1)
 
   -- the seat has this role now, and out with it an errand about its share that is done, or not
   abbrev pub Has : Role → Bool → Sat C → Sat C → Type 0
   Has role is_done m m' = (e : Errand C) × (m' ≡ (seen role m.0.start, (0, Some e) ∷ m.1)) × (e.is_done ≡ is_done) × (e.start ≡ m.0.start)
 
-  abbrev pub Takes : Asked C → Sat C → ℕ → Sat C → Type 0
+  abbrev pub Takes : ErrandStep C → Sat C → ℕ → Sat C → Type 0
   Takes st m found m' = Has AtWork false m m'
 
-  abbrev pub Finishes : Asked C → Sat C → ℕ → Sat C → Type 0
+  abbrev pub Finishes : ErrandStep C → Sat C → ℕ → Sat C → Type 0
   Finishes st m found m' = m' ≡ (seen Ended m.0.start, rest m.1)
 
-  abbrev pub Looks : Asked C → Sat C → ℕ → Sat C → Type 0
+  abbrev pub Looks : ErrandStep C → Sat C → ℕ → Sat C → Type 0
   Looks st m found m' = (found ≡ 3 → Has Served true m m') × (found ≢ 3 → m' ≡ m)
 
   -- a split: the worker's right goes to a seat of its own

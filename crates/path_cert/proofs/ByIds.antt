@@ -8,33 +8,17 @@ use Rattle.std.proofs.lemmas.List.Quantifiers.{position-Some}
 use Rattle.std.proofs.lemmas.List.Sums.{position_or_len_is}
 use Rattle.graph_meaning.specs.Roles.{RoleTable, AreRolesOf}
 use Rattle.graph_meaning.proofs.Membership.{All-has_id}
-use Rattle.object_table.specs.Placed.{Placed, id_in, IsPlaced, cell_of, holds_id}
+use Rattle.object_table.specs.Placed.{PlacedTable, id_in, IsPlaced, cell_of, holds_id}
+use Rattle.object_table.proofs.ObjectsByCell.{holds_id-true, cell_of-held}
 use Rattle.path_cert.specs.Cells.{by_id}
 use Rattle.path_cert.proofs.HeldObjects.{held-within}
 
-holds_id-true : (id : ℕ) (o : Option ℕ) → holds_id id o ≡ true → o ≡ Some id
-holds_id-true id None e = absurd (false≢true e)
-holds_id-true id (Some x) e = ap Some (eqb-true x id e)
-
--- the cell that holds an object is the one that is given for it
-pub cell_of-held : (p : Placed) → IsPlaced p → (cell id : ℕ) → id_in p cell ≡ Some id → cell_of p id ≡ Some cell
-cell_of-held p placed cell id held =
-    let within = held-within p cell id held in
-    let before : (k : ℕ) → k < cell → holds_id id (get_or p.cells k None) ≡ false = λ k less.
-    ⊎_elim
-    (λ same. absurd (let e = placed.once k cell id (holds_id-true id (id_in p k) same) held in omega arith))
-    (λ other. other)
-    (cases_Bool (holds_id id (get_or p.cells k None))) in
-    let here : holds_id id (get_or p.cells cell None) ≡ true = ap (holds_id id) held ∙ eq-eqb id id refl in
-    let is : position_or_len (holds_id id) p.cells ≡ cell = position_or_len_is (holds_id id) p.cells cell None (omega arith) before (λ _. here) in
-    ap (λ n. cond (ltb n (length p.cells)) (Some n) None) is ∙ ap (λ b. cond b (Some cell) None) (lt-ltb cell (length p.cells) within)
-
 -- a test by cell, at the object that a cell holds
-pub by_id-held : (p : Placed) → IsPlaced p → (test : ℕ → Bool) (cell id : ℕ) → id_in p cell ≡ Some id → by_id p test id ≡ test cell
+pub by_id-held : (p : PlacedTable) → IsPlaced p → (test : ℕ → Bool) (cell id : ℕ) → id_in p cell ≡ Some id → by_id p test id ≡ test cell
 by_id-held p placed test cell id held = ap (λ o. option_map_or test o false) (cell_of-held p placed cell id held)
 
 -- a cell with the object passes, where the test passes it
-pub by_id-true : (p : Placed) (test : ℕ → Bool) (id : ℕ) → by_id p test id ≡ true → (cell : ℕ) × (id_in p cell ≡ Some id) × (test cell ≡ true)
+pub by_id-true : (p : PlacedTable) (test : ℕ → Bool) (id : ℕ) → by_id p test id ≡ true → (cell : ℕ) × (id_in p cell ≡ Some id) × (test cell ≡ true)
 by_id-true p test id is = go (cell_of p id) refl is
   where
     go : (o : Option ℕ) → cell_of p id ≡ o → option_map_or test o false ≡ true → (cell : ℕ) × (id_in p cell ≡ Some id) × (test cell ≡ true)

@@ -12,12 +12,12 @@ use Rattle.std.proofs.lemmas.Option.{slice_get-get_or}
 use Rattle.graph_meaning.specs.Heap.{Table, edges}
 use Rattle.graph_meaning.specs.Paths.{Way, way_by_edge, root_way, owner_way, ways_from, IsWay}
 use Rattle.graph_meaning.specs.Roles.{id_at}
-use Rattle.object_table.specs.Placed.{Placed, id_in, IsPlaced}
+use Rattle.object_table.specs.Placed.{PlacedTable, id_in, IsPlaced}
 use Rattle.path_cert.specs.declared.start.Start.{Start}
 use Rattle.path_cert.specs.declared.arrival.Arrival.{Arrival}
 use Rattle.path_cert.specs.declared.arrival.TheConstants.{NOWHERE}
 use Rattle.path_cert.specs.Levels.{arrival_in, is_new, source_way}
-use Rattle.path_cert.specs.Frontiers.{Front, Grows, ComesFirst, HasTaken}
+use Rattle.path_cert.specs.Frontiers.{Front, FrontGrows, ComesFirst, HasTaken}
 use Rattle.path_cert.proofs.Growing.{with_arrival, at-each, Grows-arrival}
 use Rattle.path_cert.proofs.HeldObjects.{held-within}
 
@@ -37,7 +37,7 @@ find-here ways w =
     find-append (λ v. v.to == w.to) ways (w ∷ []) ∙ ap (λ b. option_or (find (λ v. v.to == w.to) ways) (cond b (Some w) None)) (eq-eqb w.to w.to refl)
 
 -- one source reference more, to another object
-comes-other : (p : Placed) (start : Start) (ways : List Way) (w : Way) (a : Arrival) (id : ℕ) → w.to ≢ id →
+comes-other : (p : PlacedTable) (start : Start) (ways : List Way) (w : Way) (a : Arrival) (id : ℕ) → w.to ≢ id →
     ComesFirst p (record { start = start; ways = ways }) a id → ComesFirst p (record { start = start; ways = ways ++ w ∷ [] }) a id
 comes-other p start ways w a id other comes = record {
   level = comes.level;
@@ -51,8 +51,8 @@ nowhere-each (suc n) zero = refl
 nowhere-each (suc n) (suc c) = nowhere-each n c
 
 -- an arrival by a source reference is kept unless there was one
-pub grows-first : (p : Placed) (f : Front) (cell : ℕ) (a : Arrival) → cell < length f.arrivals → IsSome (id_in p cell) → a.level ≡ 1 →
-    Grows p f (with_arrival f cell (cond (is_new (arrival_in f.arrivals cell)) a (arrival_in f.arrivals cell)))
+pub grows-first : (p : PlacedTable) (f : Front) (cell : ℕ) (a : Arrival) → cell < length f.arrivals → IsSome (id_in p cell) → a.level ≡ 1 →
+    FrontGrows p f (with_arrival f cell (cond (is_new (arrival_in f.arrivals cell)) a (arrival_in f.arrivals cell)))
 grows-first p f cell a within held first =
     Grows-arrival p f cell (cond (is_new (arrival_in f.arrivals cell)) a (arrival_in f.arrivals cell)) within held (go (is_new (arrival_in f.arrivals cell)) refl)
   where
@@ -64,7 +64,7 @@ grows-first p f cell a within held first =
 pub nothing-arrived : (cells : ℕ) (f : Front) → f.arrivals ≡ replicate cells NOWHERE → (cell : ℕ) → arrival_in f.arrivals cell ≡ NOWHERE
 nothing-arrived cells f are cell = ap (λ xs. arrival_in xs cell) are ∙ nowhere-each cells cell
 
-pub taken-nothing : (p : Placed) (start : Start) (cells : ℕ) (f : Front) → cells ≡ length p.cells → f.arrivals ≡ replicate cells NOWHERE → HasTaken p start [] f
+pub taken-nothing : (p : PlacedTable) (start : Start) (cells : ℕ) (f : Front) → cells ≡ length p.cells → f.arrivals ≡ replicate cells NOWHERE → HasTaken p start [] f
 taken-nothing p start cells f many are = record {
   each = ap length are ∙ length-replicate cells NOWHERE ∙ many;
   arrivals = λ cell id held.
@@ -78,7 +78,7 @@ one_from_low zero low new = absurd (false≢true (sym new))
 one_from_low (suc zero) low new = refl
 one_from_low (suc (suc k)) low new = absurd (omega arith)
 
-module _ (p : Placed) (placed : IsPlaced p) (start : Start) (ways : List Way) (f : Front) (taken : HasTaken p start ways f) (cell : ℕ) (w : Way)
+module _ (p : PlacedTable) (placed : IsPlaced p) (start : Start) (ways : List Way) (f : Front) (taken : HasTaken p start ways f) (cell : ℕ) (w : Way)
     (a : Arrival) (held : id_in p cell ≡ Some w.to) (first : a.level ≡ 1) (by : source_way p start a w.to ≡ Some w) (leads : IsWay p.table w) where
   abbrev known : Arrival
   known = arrival_in f.arrivals cell
@@ -127,7 +127,7 @@ module _ (p : Placed) (placed : IsPlaced p) (start : Start) (ways : List Way) (f
 
 -- ---- a root
 
-module _ (p : Placed) (root cell : ℕ) (within : root < length p.table.roots) (names : IfSome (slice_get p.table.roots root) (λ r. id_in p cell ≡ Some r.1)) where
+module _ (p : PlacedTable) (root cell : ℕ) (within : root < length p.table.roots) (names : IfSome (slice_get p.table.roots root) (λ r. id_in p cell ≡ Some r.1)) where
   abbrev pub the_root : List ℕ × ℕ
   the_root = get_or p.table.roots root ([], 0)
 

@@ -7,11 +7,11 @@ use Rattle.std.proofs.lemmas.Bool.{cases_eq, false≢true, or_cases, false_from_
 use Rattle.std.proofs.lemmas.List.{length-set, get_or-set_same, get_or-set_other}
 use Rattle.graph_meaning.specs.Reach.{has_id}
 use Rattle.graph_meaning.proofs.Membership.{has_id-append}
-use Rattle.object_table.specs.Placed.{Placed, id_in}
+use Rattle.object_table.specs.Placed.{PlacedTable, id_in}
 use Rattle.path_cert.specs.declared.arrival.Arrival.{Arrival}
 use Rattle.path_cert.specs.declared.arrival.TheConstants.{NOWHERE}
 use Rattle.path_cert.specs.Levels.{arrival_in, is_new}
-use Rattle.path_cert.specs.Frontiers.{Front, Grows}
+use Rattle.path_cert.specs.Frontiers.{Front, FrontGrows}
 
 -- the arrival at a cell is put, and the cell into the order where it is new
 abbrev pub with_arrival : Front → ℕ → Arrival → Front
@@ -39,7 +39,7 @@ and_not : (b : Bool) → false ≡ (b && not b)
 and_not true = refl
 and_not false = refl
 
-pub Grows-refl : (p : Placed) (f : Front) → Grows p f f
+pub Grows-refl : (p : PlacedTable) (f : Front) → FrontGrows p f f
 Grows-refl p f = record {
   each = refl;
   fresh = [];
@@ -56,7 +56,7 @@ both_new true false false to from = refl
 both_new false true c to from = absurd (false≢true (from refl))
 both_new false false c to from = refl
 
-pub Grows-trans : (p : Placed) (f g h : Front) → Grows p f g → Grows p g h → Grows p f h
+pub Grows-trans : (p : PlacedTable) (f g h : Front) → FrontGrows p f g → FrontGrows p g h → FrontGrows p f h
 Grows-trans p f g h first next = record {
   each = next.each ∙ first.each;
   fresh = first.fresh ++ next.fresh;
@@ -95,7 +95,7 @@ and_true true = refl
 and_true false = refl
 
 -- an arrival at a cell that holds an object
-pub Grows-arrival : (p : Placed) (f : Front) (cell : ℕ) (a : Arrival) → cell < length f.arrivals → IsSome (id_in p cell) → is_new a ≡ false → Grows p f (with_arrival f cell a)
+pub Grows-arrival : (p : PlacedTable) (f : Front) (cell : ℕ) (a : Arrival) → cell < length f.arrivals → IsSome (id_in p cell) → is_new a ≡ false → FrontGrows p f (with_arrival f cell a)
 Grows-arrival p f cell a within held some =
     let new = is_new (arrival_in f.arrivals cell) in
     record {
@@ -110,7 +110,7 @@ Grows-arrival p f cell a within held some =
     }
 
 -- the order has the cells that it had, and those that got a level
-pub order-grown : (p : Placed) (f g : Front) → Grows p f g → (P : ℕ → Type 0) → ((cell : ℕ) → IsTrue (has_id f.order cell) → P cell) →
+pub order-grown : (p : PlacedTable) (f g : Front) → FrontGrows p f g → (P : ℕ → Type 0) → ((cell : ℕ) → IsTrue (has_id f.order cell) → P cell) →
     ((cell : ℕ) → IsSome (id_in p cell) → P cell) → (cell : ℕ) → IsTrue (has_id g.order cell) → P cell
 order-grown p f g grows P old new cell at =
     ⊎_elim (old cell) (λ is. new cell (grows.held cell is)) (or_cases _ _ (sym (ap (λ xs. has_id xs cell) grows.order ∙ has_id-append f.order grows.fresh cell) ∙ at))

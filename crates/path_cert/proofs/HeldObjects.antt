@@ -10,7 +10,7 @@ use Rattle.std.proofs.lemmas.Option.{get_or_from_slice_get}
 use Rattle.std.proofs.lemmas.Slice.Eq.{bytes_eq-Decides}
 use Rattle.graph_meaning.specs.Heap.{Object, object_at, kind_at}
 use Rattle.graph_meaning.specs.Roles.{id_at}
-use Rattle.object_table.specs.Placed.{Placed, id_in, object_in, slots_in, IsPlaced}
+use Rattle.object_table.specs.Placed.{PlacedTable, id_in, object_in, slots_in, IsPlaced}
 pub use Rattle.object_table.proofs.ObjectsByCell.{held-id, id-held, held-within}
 
 -- the number of a type is below the number of types, and its name is the type's
@@ -20,7 +20,7 @@ kind_named kinds kind name n at is =
     sym (get_or_from_slice_get kinds n name [] is) ∙ sym ((bytes_eq-Decides kind (get_or kinds n [])).0 same)
 
 -- the object in a cell that holds one
-module _ (p : Placed) (placed : IsPlaced p) (cell n : ℕ) (held : IsSome (id_in p cell)) (kind : IfSome (object_in p cell) (λ o. position (bytes_eq o.kind) p.table.kinds ≡ Some n)) where
+module _ (p : PlacedTable) (placed : IsPlaced p) (cell n : ℕ) (held : IsSome (id_in p cell)) (kind : IfSome (object_in p cell) (λ o. position (bytes_eq o.kind) p.table.kinds ≡ Some n)) where
   abbrev id : ℕ
   id = id_at p.cells cell
 
@@ -42,7 +42,7 @@ module _ (p : Placed) (placed : IsPlaced p) (cell n : ℕ) (held : IsSome (id_in
       kind_named p.table.kinds there.0.kind name n numbered is ∙ sym (ap (λ o. option_map_or (λ (x : Object). x.kind) o []) there.1)
 
 -- a cell with a slot holds an object
-pub held-from_edge : (p : Placed) (cell slot : ℕ) → slot < length (slots_in p cell) → IsSome (id_in p cell)
+pub held-from_edge : (p : PlacedTable) (cell slot : ℕ) → slot < length (slots_in p cell) → IsSome (id_in p cell)
 held-from_edge p cell slot within = go (id_in p cell) within
   where
     go : (o : Option ℕ) → slot < length (option_map_or (λ (x : Object). x.slots) (option_and_then (object_at p.table.objects) o) []) → IsSome o

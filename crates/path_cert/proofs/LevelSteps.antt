@@ -13,10 +13,10 @@ use Rattle.graph_meaning.specs.Roles.{id_at}
 use Rattle.graph_meaning.proofs.Distances.{within-along}
 use Rattle.graph_meaning.proofs.HeapLemmas.{has_id-ids}
 use Rattle.graph_meaning.proofs.Membership.{has_id-append, has_id-filter, list_any-map, is_some-find}
-use Rattle.object_table.specs.Placed.{Placed, id_in, IsPlaced}
+use Rattle.object_table.specs.Placed.{PlacedTable, id_in, IsPlaced}
 use Rattle.path_cert.specs.declared.arrival.Arrival.{Arrival}
-use Rattle.path_cert.specs.Levels.{Search, graph_of, ends_of, arrival_in, is_new, some_level, AtLevel, ArrivesFirst, ArrivesNext, AreLevelsOf}
-use Rattle.path_cert.specs.Frontiers.{Front, level_at, Grows, HasTaken, Round, by_objects, AreByObjects, GoesUpTo, IsSettled, ShutByCell, IsAtLevel}
+use Rattle.path_cert.specs.Levels.{Search, open_graph_of, ends_of, arrival_in, is_new, some_level, AtLevel, ArrivesFirst, ArrivesNext, AreLevelsOf}
+use Rattle.path_cert.specs.Frontiers.{Front, level_at, FrontGrows, HasTaken, Round, by_objects, AreByObjects, GoesUpTo, IsSettled, ShutByCell, IsAtLevel}
 use Rattle.path_cert.proofs.HeldObjects.{held-id, id-held}
 use Rattle.path_cert.proofs.LeastHolders.{edge_to, is_open, NoneHolds, LeastHolds, by_objects-least, by_objects-stays}
 use Rattle.path_cert.proofs.Rounds.{find-least, within-node, level-within, level-first, level-from, level-last, level-distance, no-distance, level-rises}
@@ -28,9 +28,9 @@ has_id-drop : (place : ℕ) (xs : List ℕ) (x : ℕ) → IsTrue (has_id (drop p
 has_id-drop place xs x at =
     ap (λ ys. has_id ys x) (sym (take-append-drop place xs)) ∙ has_id-append (take place xs) (drop place xs) x ∙ or_right _ _ at
 
-module _ (p : Placed) (placed : IsPlaced p) (rising : AllPairs (λ a b. a < b) (ids p.table)) (s : Search) where
+module _ (p : PlacedTable) (placed : IsPlaced p) (rising : AllPairs (λ a b. a < b) (ids p.table)) (s : Search) where
   abbrev g : Graph
-  g = graph_of p s
+  g = open_graph_of p s
 
   abbrev ends : List ℕ
   ends = ends_of s
@@ -163,7 +163,7 @@ module _ (p : Placed) (placed : IsPlaced p) (rising : AllPairs (λ a b. a < b) (
       arrives = was.arrives;
     }
 
-    module _ (h : Front) (are : AreByObjects r xs f.arrivals h.arrivals) (grows : Grows p f h) where
+    module _ (h : Front) (are : AreByObjects r xs f.arrivals h.arrivals) (grows : FrontGrows p f h) where
       settled-next : (cell id : ℕ) → id_in p cell ≡ Some id → IsSettled (record { placed = p; search = s }) (suc n) (arrival_in h.arrivals cell) id
       settled-next cell id held = subst (λ b. IsSettled (record { placed = p; search = s }) (suc n) b id) (sym (are cell id held)) (go (level_at f cell) refl)
         where
@@ -217,7 +217,7 @@ module _ (p : Placed) (placed : IsPlaced p) (rising : AllPairs (λ a b. a < b) (
 
   -- ---- the first level
 
-  module _ (f begin : Front) (taken : HasTaken p s.start s.sources f) (grows : Grows p begin f) (nothing : begin.order ≡ [])
+  module _ (f begin : Front) (taken : HasTaken p s.start s.sources f) (grows : FrontGrows p begin f) (nothing : begin.order ≡ [])
       (all_new : (cell : ℕ) → is_new (arrival_in begin.arrivals cell) ≡ true) where
     within-first : (id : ℕ) → IsTrue (has_id g.nodes id) → has_id (within g ends zero) id ≡ is_some (find (λ w. w.to == id) s.sources)
     unfolding within

@@ -11,29 +11,29 @@ use Rattle.std.proofs.lemmas.List.Folds.{find-append}
 use Rattle.graph_meaning.specs.Reach.{has_id}
 use Rattle.graph_meaning.specs.Roles.{id_at}
 use Rattle.graph_meaning.proofs.Membership.{All-has_id}
-use Rattle.object_table.specs.Placed.{Placed, id_in, IsPlaced}
+use Rattle.object_table.specs.Placed.{PlacedTable, id_in, IsPlaced}
 use Rattle.path_cert.specs.declared.arrival.Arrival.{Arrival}
 use Rattle.path_cert.specs.Levels.{arrival_in, is_new}
-use Rattle.path_cert.specs.Frontiers.{Front, Grows, Round, better, by_edge, by_some_edge, first_edge, by_object, by_objects, AreByObjects, GoesUpTo, IsUnderWay}
+use Rattle.path_cert.specs.Frontiers.{Front, FrontGrows, Round, better, by_edge, by_some_edge, first_edge, by_object, by_objects, AreByObjects, GoesUpTo, IsUnderWay}
 use Rattle.path_cert.proofs.Growing.{with_arrival, at-each, Grows-arrival, order-grown}
 
 -- ---- which arrival is kept
 
 -- whether the arrival takes the place of the known one
-abbrev takes : Placed → Arrival → Arrival → Bool
+abbrev takes : PlacedTable → Arrival → Arrival → Bool
 takes p known a = is_new known || ((known.level == a.level) && ltb (id_at p.cells a.from) (id_at p.cells known.from))
 
 not_new : (a : Arrival) → 0 < a.level → is_new a ≡ false
 not_new a positive = false_from_ne_true (is_new a) (λ is. let zero_level = eqb-true a.level 0 is in absurd (omega arith))
 
-pub better-either : (p : Placed) (known a : Arrival) → (better p known a ≡ a) ⊎ (better p known a ≡ known)
+pub better-either : (p : PlacedTable) (known a : Arrival) → (better p known a ≡ a) ⊎ (better p known a ≡ known)
 better-either p known a = go (takes p known a)
   where
     go : (b : Bool) → (cond b a known ≡ a) ⊎ (cond b a known ≡ known)
     go true = inl refl
     go false = inr refl
 
-pub better-not_new : (p : Placed) (known a : Arrival) → 0 < a.level → is_new (better p known a) ≡ false
+pub better-not_new : (p : PlacedTable) (known a : Arrival) → 0 < a.level → is_new (better p known a) ≡ false
 better-not_new p known a positive = go (is_new known) refl
   where
     rest : (b : Bool) → is_new known ≡ false → is_new (cond b a known) ≡ false
@@ -105,7 +105,7 @@ module _ (r : Round) (placed : IsPlaced r.placed) (x : ℕ) (positive : 0 < r.le
   next = with_arrival f target kept
 
   module _ (within : target < length f.arrivals) where
-    pub next-grows : Grows r.placed f next
+    pub next-grows : FrontGrows r.placed f next
     next-grows =
         Grows-arrival r.placed f target kept within (subst IsSome (sym at_target) refl) (better-not_new r.placed (arrival_in f.arrivals target) by positive)
 
@@ -174,20 +174,20 @@ module _ (r : Round) (xs : List ℕ) (x : ℕ) (before now : List Arrival) (are 
       ∙ ap (λ b. cond b (by_objects r xs (arrival_in before cell) id) (by_object r x (by_objects r xs (arrival_in before cell) id) id)) open_now)
 
 -- a place of the order keeps its cell
-pub order-at : (p : Placed) (f g : Front) → Grows p f g → (place cell : ℕ) → place < length f.order → cell ≡ get_or g.order place cell → cell ≡ get_or f.order place 0
+pub order-at : (p : PlacedTable) (f g : Front) → FrontGrows p f g → (place cell : ℕ) → place < length f.order → cell ≡ get_or g.order place cell → cell ≡ get_or f.order place 0
 order-at p f g grows place cell within read =
     read ∙ ap (λ xs. get_or xs place cell) grows.order ∙ get_or_append_left f.order grows.fresh cell place within ∙ get_or_default f.order place cell 0 within
 
-pub order-within : (p : Placed) (f g : Front) → Grows p f g → length f.order ≤ length g.order
+pub order-within : (p : PlacedTable) (f g : Front) → FrontGrows p f g → length f.order ≤ length g.order
 order-within p f g grows = (let e = ap length grows.order in let a = length-append f.order grows.fresh in omega arith)
 
 -- what stands at a place of the order holds an object
-pub order-held : (p : Placed) (level : ℕ) (f : Front) (place cell : ℕ) → IsUnderWay p level f → place < length f.order → cell ≡ get_or f.order place cell → IsSome (id_in p cell)
+pub order-held : (p : PlacedTable) (level : ℕ) (f : Front) (place cell : ℕ) → IsUnderWay p level f → place < length f.order → cell ≡ get_or f.order place cell → IsSome (id_in p cell)
 order-held p level f place cell under_way within read =
     under_way.up_to.held cell (subst (λ x. IsTrue (has_id f.order x)) (sym read) (All-has_id f.order place cell within))
 
 -- nothing arrived at the next level yet
-pub begins-level : (p : Placed) (level : ℕ) (f : Front) → GoesUpTo p level f → IsUnderWay p (level + 1) f
+pub begins-level : (p : PlacedTable) (level : ℕ) (f : Front) → GoesUpTo p level f → IsUnderWay p (level + 1) f
 begins-level p level f low = record {
   up_to = record { each = low.each; held = low.held; low = λ cell. (let l = low.low cell in omega arith) };
   from = λ cell is. absurd (let l = low.low cell in omega arith);

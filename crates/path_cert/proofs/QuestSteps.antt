@@ -10,10 +10,10 @@ use Rattle.graph_meaning.proofs.Distances.{same_bools}
 use Rattle.graph_meaning.proofs.HeapLemmas.{has_id-ids}
 use Rattle.graph_meaning.proofs.Membership.{has_id-append}
 use Rattle.graph_meaning.proofs.Reaching.{IsClosed, IsClosed-reachable, reached_is_reachable, reached_nodes-closed}
-use Rattle.object_table.specs.Placed.{Placed, id_in, IsPlaced}
+use Rattle.object_table.specs.Placed.{PlacedTable, id_in, IsPlaced}
 use Rattle.path_cert.specs.Cells.{by_id}
 use Rattle.path_cert.specs.Finds.{is_border_cell, border_graph, found_ids, finds_in}
-use Rattle.path_cert.specs.Quests.{Sought, MeetsAll, Reaches, Quest, IsFollowed, IsSearching}
+use Rattle.path_cert.specs.Quests.{SearchState, MeetsAll, Reaches, Quest, IsFollowed, IsSearching}
 use Rattle.path_cert.proofs.ByIds.{by_id-held, by_id-true}
 use Rattle.path_cert.proofs.HeldObjects.{held-id, id-held}
 
@@ -24,7 +24,7 @@ none_new true m n = refl
 none_new false true n = refl
 none_new false false n = refl
 
-MeetsAll-none : (r : RoleTable) (s : Sought) → MeetsAll r [] s s
+MeetsAll-none : (r : RoleTable) (s : SearchState) → MeetsAll r [] s s
 MeetsAll-none r s = record {
   met = λ x. sym (or-false (s.met x));
   work = λ x. none_new (has_id s.work x) (s.met x) (not (is_border_cell r x));
@@ -36,7 +36,7 @@ work_both false true p q n = refl
 work_both false false true q n = or-false n
 work_both false false false q n = refl
 
-MeetsAll-more : (r : RoleTable) (cells : List ℕ) (cell : ℕ) (a b c : Sought) → MeetsAll r cells a b → MeetsAll r (cell ∷ []) b c → MeetsAll r (cells ++ cell ∷ []) a c
+MeetsAll-more : (r : RoleTable) (cells : List ℕ) (cell : ℕ) (a b c : SearchState) → MeetsAll r cells a b → MeetsAll r (cell ∷ []) b c → MeetsAll r (cells ++ cell ∷ []) a c
 MeetsAll-more r cells cell a b c first next = record {
   met = λ x.
       next.met x
@@ -56,7 +56,7 @@ MeetsAll-more r cells cell a b c first next = record {
 same_Some : {x y : ℕ} → Some x ≡ Some y → x ≡ y
 same_Some e = cc
 
-pub Reaches-none : (p : Placed) (r : RoleTable) (s : Sought) → Reaches (record { placed = p; roles = r }) [] s s
+pub Reaches-none : (p : PlacedTable) (r : RoleTable) (s : SearchState) → Reaches (record { placed = p; roles = r }) [] s s
 Reaches-none p r s = record {
   cells = [];
   are = λ cell id at. refl;
@@ -64,7 +64,7 @@ Reaches-none p r s = record {
   meets = MeetsAll-none r s;
 }
 
-pub Reaches-more : (p : Placed) → IsPlaced p → (r : RoleTable) (ids : List ℕ) (cell id : ℕ) (a b c : Sought) → Reaches (record { placed = p; roles = r }) ids a b →
+pub Reaches-more : (p : PlacedTable) → IsPlaced p → (r : RoleTable) (ids : List ℕ) (cell id : ℕ) (a b c : SearchState) → Reaches (record { placed = p; roles = r }) ids a b →
     id_in p cell ≡ Some id → MeetsAll r (cell ∷ []) b c → Reaches (record { placed = p; roles = r }) (ids ++ id ∷ []) a c
 Reaches-more p placed r ids cell id a b c first held next = record {
   cells = first.cells ++ cell ∷ [];
@@ -88,7 +88,7 @@ abbrev IsFound : Quest → ℕ → Type 0
 IsFound q id = IsTrue (has_id (found_ids q.placed q.roles q.owner) id)
 
 -- The search goes on as it should but from this cell.
-pub record IsSearchingBut (q : Quest) (cell : ℕ) (s : Sought) : Type 0 where
+pub record IsSearchingBut (q : Quest) (cell : ℕ) (s : SearchState) : Type 0 where
   pub sound : (x : ℕ) → IsTrue (s.met x) → IsSomeAnd (id_in q.placed x) (λ id. IsTrue (has_id (found_ids q.placed q.roles q.owner) id))
   pub waiting : (x : ℕ) → IsTrue (has_id s.work x) → IsTrue (s.met x) × (is_border_cell q.roles x ≡ false)
   pub closed : (x : ℕ) → IsTrue (s.met x) → is_border_cell q.roles x ≡ false → (x ≡ cell) ⊎ (IsTrue (has_id s.work x) ⊎ IsFollowed q.placed s x)
@@ -104,7 +104,7 @@ some-id P None none = absurd none
 some-id P (Some id) is = (id, refl, is)
 
 module _ (q : Quest) (placed : IsPlaced q.placed) where
-  abbrev p : Placed
+  abbrev p : PlacedTable
   p = q.placed
 
   abbrev g : Graph
@@ -127,7 +127,7 @@ module _ (q : Quest) (placed : IsPlaced q.placed) where
       let edge = subst (λ y. IsTrue (has_id (targets p.table y) id)) (id-held p cell x.0 x.1) at in
       (reached_nodes-closed g sources).along_edges x.0 id x.2 passes (edge, there)
 
-  module _ (cell : ℕ) (s t : Sought) (now : IsSearchingBut q cell s) (leads : LeadsToFound q cell)
+  module _ (cell : ℕ) (s t : SearchState) (now : IsSearchingBut q cell s) (leads : LeadsToFound q cell)
       (reaches : Reaches (record { placed = p; roles = q.roles }) (targets p.table (id_at p.cells cell)) s t) where
     still : (x : ℕ) → IsTrue (s.met x) → IsTrue (t.met x)
     still x met = reaches.meets.met x ∙ or_left _ _ met
@@ -170,7 +170,7 @@ module _ (q : Quest) (placed : IsPlaced q.placed) where
     }
 
   -- the last cell of the worklist is taken
-  pub searching-pop : (s t : Sought) (cell : ℕ) → IsSearching q s → s.work ≡ t.work ++ cell ∷ [] → ((x : ℕ) → t.met x ≡ s.met x) → IsSearchingBut q cell t × LeadsToFound q cell
+  pub searching-pop : (s t : SearchState) (cell : ℕ) → IsSearching q s → s.work ≡ t.work ++ cell ∷ [] → ((x : ℕ) → t.met x ≡ s.met x) → IsSearchingBut q cell t × LeadsToFound q cell
   searching-pop s t cell now work met =
       let in_work = λ (x : ℕ). ap (λ xs. has_id xs x) work ∙ has_id-append t.work (cell ∷ []) x in
       let taken = now.waiting cell (in_work cell ∙ or_right _ _ (or_left _ _ (eq-eqb cell cell refl))) in (
@@ -187,7 +187,7 @@ module _ (q : Quest) (placed : IsPlaced q.placed) where
       )
 
   -- nothing is met yet
-  pub searching-begin : (s : Sought) → ((x : ℕ) → s.met x ≡ false) → s.work ≡ [] → IsSearchingBut q q.owner s × LeadsToFound q q.owner
+  pub searching-begin : (s : SearchState) → ((x : ℕ) → s.met x ≡ false) → s.work ≡ [] → IsSearchingBut q q.owner s × LeadsToFound q q.owner
   searching-begin s none empty = (
     record {
       sound = λ x at. absurd (false≢true (sym (none x) ∙ at));
@@ -199,7 +199,7 @@ module _ (q : Quest) (placed : IsPlaced q.placed) where
 
   -- ---- the end
 
-  module _ (s : Sought) (now : IsSearching q s) (owner : IsFollowed p s q.owner) where
+  module _ (s : SearchState) (now : IsSearching q s) (owner : IsFollowed p s q.owner) where
     all-closed : s.work ≡ [] → IsClosed g sources (by_id p s.met)
     all-closed empty = record {
       from_sources = λ id at there.
@@ -235,12 +235,12 @@ module _ (q : Quest) (placed : IsPlaced q.placed) where
         go false is = same_bools (s.met x) (finds_in p q.roles q.owner x) (met-found x held) (reached (done is))
 
 -- what the search goes on from holds an object
-pub searching-held : (q : Quest) (s : Sought) → IsSearching q s → (x : ℕ) → IsTrue (has_id s.work x) → IsSome (id_in q.placed x)
+pub searching-held : (q : Quest) (s : SearchState) → IsSearching q s → (x : ℕ) → IsTrue (has_id s.work x) → IsSome (id_in q.placed x)
 searching-held q s now x at =
     (let is = some-id (IsFound q) (id_in q.placed x) (now.sound x (now.waiting x at).0) in subst IsSome (sym is.1) refl)
 
 -- what is on the worklist holds an object
-pub work-held : (p : Placed) (r : RoleTable) (ids : List ℕ) (s t : Sought) (cell : ℕ) (work : List ℕ) → Reaches (record { placed = p; roles = r }) ids s t →
+pub work-held : (p : PlacedTable) (r : RoleTable) (ids : List ℕ) (s t : SearchState) (cell : ℕ) (work : List ℕ) → Reaches (record { placed = p; roles = r }) ids s t →
     work ≡ s.work ++ cell ∷ [] → ((x : ℕ) → IsTrue (has_id work x) → IsSome (id_in p x)) → (x : ℕ) → IsTrue (has_id t.work x) → IsSome (id_in p x)
 work-held p r ids s t cell work reaches taken held x at =
     let fresh = (t.met x && not (s.met x)) && not (is_border_cell r x) in

@@ -15,7 +15,7 @@ use Rattle.graph_meaning.specs.Views.{object_view, heap_view, has_object, has_st
 use Rattle.graph_meaning.proofs.Membership.{find-map}
 use Rattle.graph_meaning.proofs.Showing.{ways_are_shown_as_paths}
 use Rattle.graph_meaning.proofs.Ways.{IsWay-way_by_edge}
-use Rattle.object_table.specs.Placed.{Placed, id_in, slot_in, IsPlaced, IsSound}
+use Rattle.object_table.specs.Placed.{PlacedTable, id_in, slot_in, IsPlaced, IsSound}
 use Rattle.path_cert.specs.declared.start.Start.{Start}
 use Rattle.path_cert.specs.declared.start.Start.TheVariants.{Roots, Owners}
 use Rattle.path_cert.specs.Levels.{Search, LevelTable, arrival_in, way_in, AreLevelsOf}
@@ -49,24 +49,24 @@ root-start : (t : Table) (k : ℕ) (r : List ℕ × ℕ) → slice_get t.roots k
 root-start t k r is live = and_from _ _ (root-among t.roots k r is) (live-shown t r.1 live)
 
 -- The way is a path through the table, and starts in it.
-pub record IsWhole (p : Placed) (w : Way) : Type 0 where
+pub record IsWhole (p : PlacedTable) (w : Way) : Type 0 where
   pub starts : IsTrue (has_start (heap_view p.table) w.from)
   pub leads : IsWay p.table w
 
-pub whole-shown : (p : Placed) (w : Way) → IsSound p.table → IsWhole p w → IsTrue (is_path (heap_view p.table) (view_of w))
+pub whole-shown : (p : PlacedTable) (w : Way) → IsSound p.table → IsWhole p w → IsTrue (is_path (heap_view p.table) (view_of w))
 whole-shown p w sound whole = ways_are_shown_as_paths p.table w sound.slots whole.starts whole.leads
 
-pub whole-root : (p : Placed) (k : ℕ) (r : List ℕ × ℕ) → slice_get p.table.roots k ≡ Some r → IsTrue (is_live p.table r.1) → IsWhole p (root_way p.table r)
+pub whole-root : (p : PlacedTable) (k : ℕ) (r : List ℕ × ℕ) → slice_get p.table.roots k ≡ Some r → IsTrue (is_live p.table r.1) → IsWhole p (root_way p.table r)
 whole-root p k r is live = record { starts = root-start p.table k r is live; leads = refl }
 
-pub whole-owner : (p : Placed) (o : ℕ) → IsTrue (is_live p.table o) → IsWhole p (owner_way p.table o)
+pub whole-owner : (p : PlacedTable) (o : ℕ) → IsTrue (is_live p.table o) → IsWhole p (owner_way p.table o)
 whole-owner p o live = record { starts = live-shown p.table o live; leads = refl }
 
-pub whole-edge : (p : Placed) (w : Way) (e : ℕ × ℕ) → IsWhole p w → edge_at p.table w.to e.0 ≡ Some e.1 → IsWhole p (way_by_edge p.table w e)
+pub whole-edge : (p : PlacedTable) (w : Way) (e : ℕ × ℕ) → IsWhole p w → edge_at p.table w.to e.0 ≡ Some e.1 → IsWhole p (way_by_edge p.table w e)
 whole-edge p w e whole edge = record { starts = whole.starts; leads = IsWay-way_by_edge p.table w e whole.leads edge }
 
 -- so are the ways that levels give
-module _ (p : Placed) (placed : IsPlaced p) (s : Search) (l : LevelTable) (levels : AreLevelsOf p s l) where
+module _ (p : PlacedTable) (placed : IsPlaced p) (s : Search) (l : LevelTable) (levels : AreLevelsOf p s l) where
   whole-start : (cell : ℕ) (w : Way) → LeadsHere p s l zero cell w → IsWhole p w
   whole-start cell w leads = go s.start refl leads.level leads.is
     where
@@ -89,7 +89,7 @@ module _ (p : Placed) (placed : IsPlaced p) (s : Search) (l : LevelTable) (level
 -- ---- what is answered
 
 -- what is shown of a whole way is a path
-pub shown-whole : (p : Placed) (v : PathView) (o : Option Way) → IsSound p.table → ((w : Way) → o ≡ Some w → IsWhole p w) → Some v ≡ option_map view_of o → IsTrue (is_path (heap_view p.table) v)
+pub shown-whole : (p : PlacedTable) (v : PathView) (o : Option Way) → IsSound p.table → ((w : Way) → o ≡ Some w → IsWhole p w) → Some v ≡ option_map view_of o → IsTrue (is_path (heap_view p.table) v)
 shown-whole p v None sound whole is = absurd (cc)
 shown-whole p v (Some w) sound whole is =
     let same : v ≡ view_of w = cc in
@@ -99,7 +99,7 @@ same_Some : {X : Type 0} {a b : X} → Some a ≡ Some b → a ≡ b
 same_Some e = cc
 
 -- the path by a root alone
-pub root-is_path : (p : Placed) (k : ℕ) (r : List ℕ × ℕ) (v : PathView) → IsSound p.table → slice_get p.table.roots k ≡ Some r →
+pub root-is_path : (p : PlacedTable) (k : ℕ) (r : List ℕ × ℕ) (v : PathView) → IsSound p.table → slice_get p.table.roots k ≡ Some r →
     IsTrue (is_live p.table r.1) → IfSome (slice_get p.table.roots k) (λ n. v ≡ view_of (root_way p.table n)) →
     IsTrue (is_path (heap_view p.table) v)
 root-is_path p k r v sound is live shown =
@@ -107,7 +107,7 @@ root-is_path p k r v sound is live shown =
     subst (λ u. IsTrue (is_path (heap_view p.table) u)) (sym same) (whole-shown p (root_way p.table r) sound (whole-root p k r is live))
 
 -- the path to an object that levels give
-pub path-is_path : (p : Placed) (placed : IsPlaced p) (s : Search) (l : LevelTable) (levels : AreLevelsOf p s l) (cell steps : ℕ) (v : PathView) →
+pub path-is_path : (p : PlacedTable) (placed : IsPlaced p) (s : Search) (l : LevelTable) (levels : AreLevelsOf p s l) (cell steps : ℕ) (v : PathView) →
     IsSound p.table → IsSome (id_in p cell) → path_steps l.start (arrival_in l.arrivals cell).level ≡ Some steps →
     Some v ≡ option_map view_of (way_in p s cell) → IsTrue (is_path (heap_view p.table) v)
 path-is_path p placed s l levels cell steps v sound held many is =
@@ -115,7 +115,7 @@ path-is_path p placed s l levels cell steps v sound held many is =
     shown-whole p v (way_in p s cell) sound (λ w at. subst (IsWhole p) (same_Some (sym there.1 ∙ at)) (whole-way p placed s l levels steps cell there.0 there.2)) is
 
 -- and one step more
-pub path_then-is_path : (p : Placed) (placed : IsPlaced p) (s : Search) (l : LevelTable) (levels : AreLevelsOf p s l) (cell slot steps id : ℕ) (v : PathView) →
+pub path_then-is_path : (p : PlacedTable) (placed : IsPlaced p) (s : Search) (l : LevelTable) (levels : AreLevelsOf p s l) (cell slot steps id : ℕ) (v : PathView) →
     IsSound p.table → IsSome (id_in p cell) → path_steps l.start (arrival_in l.arrivals cell).level ≡ Some steps →
     edge_of (slot_in p cell slot) ≡ Some id → Some v ≡ option_map view_of (option_and_then (λ u. way_by_slot p u cell slot) (way_in p s cell)) →
     IsTrue (is_path (heap_view p.table) v)
@@ -127,7 +127,7 @@ path_then-is_path p placed s l levels cell slot steps id v sound held many edge 
     shown-whole p v (option_and_then (λ u. way_by_slot p u cell slot) (way_in p s cell)) sound (λ w at. subst (IsWhole p) (same_Some (sym way ∙ at)) whole) is
 
 -- the path of one step from an object
-pub step-is_path : (p : Placed) (placed : IsPlaced p) (cell slot id : ℕ) (v : PathView) → IsSound p.table → IsSome (id_in p cell) →
+pub step-is_path : (p : PlacedTable) (placed : IsPlaced p) (cell slot id : ℕ) (v : PathView) → IsSound p.table → IsSome (id_in p cell) →
     edge_of (slot_in p cell slot) ≡ Some id → Some v ≡ option_map view_of (way_by_slot p (owner_way p.table (id_at p.cells cell)) cell slot) →
     IsTrue (is_path (heap_view p.table) v)
 step-is_path p placed cell slot id v sound held edge is =

@@ -15,14 +15,14 @@ use Rattle.graph_meaning.specs.Paths.{Way, PathSearch, way_by_edge, root_way, ow
 use Rattle.graph_meaning.specs.Roles.{id_at}
 use Rattle.graph_meaning.proofs.Distances.{find_All, is_some-distance}
 use Rattle.graph_meaning.proofs.Ways.{canonical_exists, edges-at, way_at-to}
-use Rattle.object_table.specs.Placed.{Placed, id_in, slot_in}
+use Rattle.object_table.specs.Placed.{PlacedTable, id_in, slot_in}
 use Rattle.path_cert.specs.declared.start.Start.{Start}
 use Rattle.path_cert.specs.declared.start.Start.TheVariants.{Roots, Owners}
 use Rattle.path_cert.specs.declared.arrival.Arrival.{Arrival}
 use Rattle.path_cert.specs.declared.trail.Trail.{Trail}
-use Rattle.path_cert.specs.Levels.{Search, LevelTable, graph_of, ends_of, way_in, arrival_in, some_level, source_way, AtLevel, ArrivesFirst, ArrivesNext, AreLevelsOf}
+use Rattle.path_cert.specs.Levels.{Search, LevelTable, open_graph_of, ends_of, way_in, arrival_in, some_level, source_way, AtLevel, ArrivesFirst, ArrivesNext, AreLevelsOf}
 use Rattle.path_cert.specs.Steps.{step_to, way_by_slot}
-use Rattle.path_cert.specs.Trails.{path_steps, HasShown, ByStart, MayStart, IsStart}
+use Rattle.path_cert.specs.Trails.{path_steps, HasShown, ByStart, MayStartPath, IsStart}
 use Rattle.path_cert.proofs.HeldObjects.{held-id, id-held}
 use Rattle.path_cert.proofs.Rounds.{level-distance}
 
@@ -50,13 +50,13 @@ level-is (suc k) n is = same_Some is
 
 -- ---- a search by ids
 
-abbrev pub path_search : Placed → Search → PathSearch
+abbrev pub path_search : PlacedTable → Search → PathSearch
 path_search p s = record { table = p.table; is_shut = s.is_shut; sources = s.sources }
 
 -- ---- one step back
 
 -- the way is the one so many steps from the start
-abbrev pub IsWayOf : Placed → Search → Start → ℕ → Way → Type 0
+abbrev pub IsWayOf : PlacedTable → Search → Start → ℕ → Way → Type 0
 IsWayOf p s Roots n w = way_at (path_search p s) n w.to ≡ Some w
 IsWayOf p s Owners zero w = w ≡ owner_way p.table w.to
 IsWayOf p s Owners (suc n) w = way_at (path_search p s) n w.to ≡ Some w
@@ -68,25 +68,25 @@ IsLevelOf Owners zero k = Unit {0}
 IsLevelOf Owners (suc n) k = k ≡ suc n
 
 -- The way leads to the object in the cell by so many steps.
-pub record LeadsHere (p : Placed) (s : Search) (l : LevelTable) (left cell : ℕ) (w : Way) : Type 0 where
+pub record LeadsHere (p : PlacedTable) (s : Search) (l : LevelTable) (left cell : ℕ) (w : Way) : Type 0 where
   pub held : id_in p cell ≡ Some w.to
   pub level : IsLevelOf s.start left (arrival_in l.arrivals cell).level
   pub is : IsWayOf p s s.start left w
 
 -- the step by which the path arrives at the object in a cell
-abbrev pub last_step : Placed → LevelTable → ℕ → ℕ → PathStep
+abbrev pub last_step : PlacedTable → LevelTable → ℕ → ℕ → PathStep
 last_step p l cell id = step_to p.table ((arrival_in l.arrivals cell).slot, id)
 
 -- The same, one step earlier, and that step.
-pub record StepsBack (p : Placed) (s : Search) (l : LevelTable) (left cell : ℕ) (w : Way) : Type 0 where
+pub record StepsBack (p : PlacedTable) (s : Search) (l : LevelTable) (left cell : ℕ) (w : Way) : Type 0 where
   pub before : Way
   pub leads : LeadsHere p s l left (arrival_in l.arrivals cell).from before
   pub last : w ≡ way_by_edge p.table before ((arrival_in l.arrivals cell).slot, w.to)
   pub edge : edge_at p.table before.to (arrival_in l.arrivals cell).slot ≡ Some w.to
 
-module _ (p : Placed) (s : Search) (l : LevelTable) (levels : AreLevelsOf p s l) where
+module _ (p : PlacedTable) (s : Search) (l : LevelTable) (levels : AreLevelsOf p s l) where
   abbrev g : Graph
-  g = graph_of p s
+  g = open_graph_of p s
 
   -- the levels of the objects that predecessors are
   pub level-before : (n id before from : ℕ) → predecessor g (ends_of s) n id ≡ Some before → id_in p from ≡ Some before → (arrival_in l.arrivals from).level ≡ suc n
@@ -195,7 +195,7 @@ module _ (p : Placed) (s : Search) (l : LevelTable) (levels : AreLevelsOf p s l)
 
   -- ---- the start
 
-  pub may-start : (cell : ℕ) (w : Way) → LeadsHere p s l zero cell w → MayStart p l cell
+  pub may-start : (cell : ℕ) (w : Way) → LeadsHere p s l zero cell w → MayStartPath p l cell
   may-start cell w leads =
       subst (λ (st : Start). ByStart st ((arrival_in l.arrivals cell).from < length p.table.roots) (IsSome (id_in p cell))) (sym levels.start) (go s.start refl leads.level leads.is)
     where
@@ -302,7 +302,7 @@ module _ (p : Placed) (s : Search) (l : LevelTable) (levels : AreLevelsOf p s l)
 
 -- A walk back from the object in the cell `to`, where some steps come after it.
 pub record Walk : Type 0 where
-  pub placed : Placed
+  pub placed : PlacedTable
   pub search : Search
   pub levels : LevelTable
   pub to : ℕ
@@ -382,7 +382,7 @@ path-is v way w there shown =
     let is = subst (λ o. IsShownWith v [] o) there shown in
     ap (λ (u : PathView). Some u) (is ∙ ap (λ (xs : List PathStep). view_of (record { from = w.from; steps = xs; to = w.to })) (append-nil w.steps)) ∙ sym (ap (option_map view_of) there)
 
-pub path_then-is : (p : Placed) (v : PathView) (way : Option Way) (w : Way) (cell slot id : ℕ) → way ≡ Some w →
+pub path_then-is : (p : PlacedTable) (v : PathView) (way : Option Way) (w : Way) (cell slot id : ℕ) → way ≡ Some w →
     edge_of (slot_in p cell slot) ≡ Some id → IsShownWith v (step_to p.table (slot, id) ∷ []) way →
     Some v ≡ option_map view_of (option_and_then (λ u. way_by_slot p u cell slot) way)
 path_then-is p v way w cell slot id there edge shown =

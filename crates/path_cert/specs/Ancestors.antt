@@ -1,6 +1,6 @@
 -- The ancestors of objects that long paths lead to.
 use Rattle.std.specs.Prelude.{◌≡◌, ℕ, zero, suc, ◌-◌, ◌≤◌, List, Option, None, Some, slice_index_or}
-use Rattle.object_table.specs.Placed.{Placed, id_in}
+use Rattle.object_table.specs.Placed.{PlacedTable, id_in}
 use Rattle.path_cert.specs.declared.start.Start.{Start}
 use Rattle.path_cert.specs.declared.arrival.Arrival.{Arrival}
 use Rattle.path_cert.specs.declared.ancestors.TheConstants.{ANCESTOR_LEVEL}
@@ -19,7 +19,7 @@ pub record IsAncestor (arrivals : List Arrival) (cell ancestor : ℕ) : Type 0 w
 -- where the arrivals are those of levels and the cell holds an object, this is the object's ancestor, if it is one
 abbrev pub AncestorOf : List Arrival → ℕ → Option ℕ → Type 0
 AncestorOf arrivals cell ancestor =
-    (p : Placed) (s : Search) (start : Start) (id g : ℕ) → AreLevelsOf p s (record { start = start; arrivals = arrivals }) → id_in p cell ≡ Some id → ancestor ≡ Some g → IsAncestor arrivals cell g
+    (p : PlacedTable) (s : Search) (start : Start) (id g : ℕ) → AreLevelsOf p s (record { start = start; arrivals = arrivals }) → id_in p cell ≡ Some id → ancestor ≡ Some g → IsAncestor arrivals cell g
 
 -- for each cell its object's ancestor, or nothing
 abbrev pub AreAncestors : List Arrival → List (Option ℕ) → Type 0

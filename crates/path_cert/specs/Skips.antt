@@ -1,7 +1,7 @@
 -- Steps that a walk back over a path goes back over at once.
 use Rattle.std.specs.Prelude.{◌≡◌, ℕ, ◌+◌, ◌≤◌, ◌⊎◌, IsSome}
 use Rattle.heap_base.specs.declared.limits.TheConstants.{END_STEPS}
-use Rattle.object_table.specs.Placed.{Placed, id_in}
+use Rattle.object_table.specs.Placed.{PlacedTable, id_in}
 use Rattle.path_cert.specs.declared.level_table.Waypoint.{Waypoint}
 use Rattle.path_cert.specs.Levels.{Search, LevelTable, AreLevelsOf}
 use Rattle.path_cert.specs.Ancestors.{back}
@@ -16,4 +16,4 @@ pub record HasSkipped (l : LevelTable) (total : ℕ) (before after : Waypoint) :
 -- where these are levels, and the cell holds an object
 abbrev pub Skips : LevelTable → ℕ → Waypoint → Waypoint → Type 0
 Skips l total before after =
-    (p : Placed) (s : Search) → AreLevelsOf p s l → IsSome (id_in p before.cell) → HasSkipped l total before after
+    (p : PlacedTable) (s : Search) → AreLevelsOf p s l → IsSome (id_in p before.cell) → HasSkipped l total before after

@@ -5,14 +5,14 @@ use Rattle.heap_base.specs.declared.limits.TheConstants.{END_STEPS}
 use Rattle.graph_meaning.specs.declared.paths.PathStep.{PathStep}
 use Rattle.graph_meaning.specs.Heap.{Table, kind_at, edge_of}
 use Rattle.graph_meaning.specs.Paths.{Way, way_by_edge}
-use Rattle.object_table.specs.Placed.{Placed, slot_in}
+use Rattle.object_table.specs.Placed.{PlacedTable, slot_in}
 
 -- the step by an edge, from the slot with its number to the object that it leads to
 abbrev pub step_to : Table → ℕ × ℕ → PathStep
 step_to t e = record { slot = e.0; id = e.1; kind = kind_at t e.1 }
 
 -- the way to the object in a cell that goes on by one of its slots, if the slot is an edge
-abbrev pub way_by_slot : Placed → Way → ℕ → ℕ → Option Way
+abbrev pub way_by_slot : PlacedTable → Way → ℕ → ℕ → Option Way
 way_by_slot p w cell slot = option_map (λ y. way_by_edge p.table w (slot, y)) (edge_of (slot_in p cell slot))
 
 -- ---- what is shown

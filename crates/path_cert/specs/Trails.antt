@@ -7,7 +7,7 @@ use Rattle.path_cert.specs.declared.start.Start.TheVariants.{Roots, Owners}
 use Rattle.path_cert.specs.declared.trail.Trail.{Trail}
 use Rattle.graph_meaning.specs.Paths.{Way, root_way, owner_way}
 use Rattle.graph_meaning.specs.Roles.{id_at}
-use Rattle.object_table.specs.Placed.{Placed, id_in}
+use Rattle.object_table.specs.Placed.{PlacedTable, id_in}
 use Rattle.path_cert.specs.Levels.{LevelTable, arrival_in}
 use Rattle.path_cert.specs.Steps.{shown_from}
 
@@ -33,10 +33,10 @@ ByStart Roots by_root by_owner = by_root
 ByStart Owners by_root by_owner = by_owner
 
 -- a root led to the object in the cell, or it is an owner
-abbrev pub MayStart : Placed → LevelTable → ℕ → Type 0
-MayStart p l cell = ByStart l.start ((arrival_in l.arrivals cell).from < length p.table.roots) (IsSome (id_in p cell))
+abbrev pub MayStartPath : PlacedTable → LevelTable → ℕ → Type 0
+MayStartPath p l cell = ByStart l.start ((arrival_in l.arrivals cell).from < length p.table.roots) (IsSome (id_in p cell))
 
 -- the path starts at that root, or at that owner
-abbrev pub IsStart : Placed → LevelTable → ℕ → PathFrom → Type 0
+abbrev pub IsStart : PlacedTable → LevelTable → ℕ → PathFrom → Type 0
 IsStart p l cell from =
     ByStart l.start (IfSome (slice_get p.table.roots (arrival_in l.arrivals cell).from) (λ r. from ≡ (root_way p.table r).from)) (from ≡ (owner_way p.table (id_at p.cells cell)).from)

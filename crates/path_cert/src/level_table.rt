@@ -8,7 +8,7 @@ ghost use Rattle.object_table.specs.Placed.{id_in, slots_in, slot_in};
 ghost use Rattle.path_cert.specs.Ancestors.{AreAncestors, AncestorOf};
 ghost use Rattle.path_cert.specs.Levels.{Search, arrival_in, level_in, way_in, AreLevelsOf, AreLevelsIn};
 ghost use Rattle.path_cert.specs.Steps.{way_by_slot};
-ghost use Rattle.path_cert.specs.Trails.{path_steps, HasShown, with_steps, MayStart, IsStart};
+ghost use Rattle.path_cert.specs.Trails.{path_steps, HasShown, with_steps, MayStartPath, IsStart};
 ghost use Rattle.std.specs.Prelude.{◌≡◌, ◌≤◌, ◌<◌, ◌*◌, ◌^◌, List, length, Some, IsTrue, IfOk, IsSome, IfSome, option_map, option_and_then};
 
 use crate::ancestors::{ANCESTOR_LEVEL, known_ancestor};
@@ -202,7 +202,7 @@ impl Levels {
     // The start of a path: at the root that led to the object in the cell, or at the owner in it.
     fn start_at(&self, table: &ObjectTable, cell: u32) -> Result<PathFrom, OutOfMemory>
         requires cell { cell < length self.now.arrivals }
-        requires start { MayStart table.now self.now cell }
+        requires start { MayStartPath table.now self.now cell }
         ensures { IfOk result (IsStart table.now self.now cell) }
     {
         match self.start {

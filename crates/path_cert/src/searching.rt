@@ -3,7 +3,7 @@ ghost use Rattle.graph_meaning.specs.Heap.{edges};
 ghost use Rattle.graph_meaning.specs.Paths.{Way, way_by_edge, owner_way, root_ways, ways_from};
 ghost use Rattle.graph_meaning.specs.Roles.{AreRolesOf, id_at};
 ghost use Rattle.object_table.specs.Placed.{id_in, IsPlaced, IsSound};
-ghost use Rattle.path_cert.specs.Frontiers.{Grows, HasTaken, Round, by_object, AreByObjects, GoesUpTo, IsUnderWay, IsAtFirstLevel, ShutByCell, levels_by};
+ghost use Rattle.path_cert.specs.Frontiers.{FrontGrows, HasTaken, Round, by_object, AreByObjects, GoesUpTo, IsUnderWay, IsAtFirstLevel, ShutByCell, levels_by};
 ghost use Rattle.path_cert.specs.Fronts.{front_of};
 ghost use Rattle.path_cert.specs.Levels.{Search, search_of, arrival_in, AreLevelsOf};
 ghost use Rattle.path_cert.specs.declared.start.Start.TheVariants.{Roots, Owners};
@@ -49,7 +49,7 @@ impl Frontier {
         requires placed { IsPlaced table.now }
         requires nothing { HasTaken table.now Roots [] (front_of self.old) }
         ensures taken { HasTaken table.now Roots (root_ways table.now.table) (front_of self.new) }
-        ensures grows { Grows table.now (front_of self.old) (front_of self.new) }
+        ensures grows { FrontGrows table.now (front_of self.old) (front_of self.new) }
     {
         for root in 0..table.roots() {
             let arrival = Arrival {
@@ -67,7 +67,7 @@ impl Frontier {
         requires owners { All (λ owner. IsSome (id_in table.now owner)) owners.now }
         requires nothing { HasTaken table.now Owners [] (front_of self.old) }
         ensures taken { HasTaken table.now Owners (ways_from table.now.table (map (id_at table.now.cells) owners.now)) (front_of self.new) }
-        ensures grows { Grows table.now (front_of self.old) (front_of self.new) }
+        ensures grows { FrontGrows table.now (front_of self.old) (front_of self.new) }
     {
         for owner in owners {
             self.take_owner(table, *owner);
@@ -80,7 +80,7 @@ impl Frontier {
         requires owner { IsSome (id_in table.now owner) }
         requires each { length self.old.arrivals.items ≡ length table.now.cells }
         ensures taken { (ways : List Way) → HasTaken table.now Owners ways (front_of self.old) → HasTaken table.now Owners (ways ++ ways_from table.now.table (id_at table.now.cells owner ∷ [])) (front_of self.new) }
-        ensures grows { Grows table.now (front_of self.old) (front_of self.new) }
+        ensures grows { FrontGrows table.now (front_of self.old) (front_of self.new) }
     {
         for slot in 0..table.slots_at(owner) {
             if let Some(target) = table.slot_at(owner, slot) {
@@ -121,7 +121,7 @@ impl Frontier {
         requires safe { IsUnderWay table.now level (front_of self.old) }
         ensures safe { IsUnderWay table.now level (front_of self.new) }
         ensures arrivals { AreByObjects (record { placed = table.now; shut = shut.now; level = level }) (drop from self.old.order.items) self.old.arrivals.items self.new.arrivals.items }
-        ensures grows { Grows table.now (front_of self.old) (front_of self.new) }
+        ensures grows { FrontGrows table.now (front_of self.old) (front_of self.new) }
     {
         for place in from..self.order.len() {
             let cell = self.order[place];
@@ -139,7 +139,7 @@ impl Frontier {
         requires safe { IsUnderWay table.now level (front_of self.old) }
         ensures safe { IsUnderWay table.now level (front_of self.new) }
         ensures arrivals { (to : ℕ) → (id : ℕ) → id_in table.now to ≡ Some id → arrival_in self.new.arrivals.items to ≡ by_object (record { placed = table.now; shut = []; level = level }) cell (arrival_in self.old.arrivals.items to) id }
-        ensures grows { Grows table.now (front_of self.old) (front_of self.new) }
+        ensures grows { FrontGrows table.now (front_of self.old) (front_of self.new) }
     {
         for slot in 0..table.slots_at(cell) {
             if let Some(target) = table.slot_at(cell, slot) {

@@ -3,13 +3,13 @@ use Rattle.std.proofs.Common.{◌≡◌, ℕ, List, filter, ap, sym, ◌∙◌}
 use Rattle.std.specs.Option.{is_some}
 use Rattle.graph_meaning.specs.Heap.{Heap}
 use Rattle.graph_meaning.specs.Roles.{RoleTable, owner_in, has_owner}
-use Rattle.object_table.specs.Placed.{Placed}
+use Rattle.object_table.specs.Placed.{PlacedTable}
 use Rattle.assert_registry.specs.Laws.{StandFor}
 use Rattle.ownee_check.specs.Cells.{cells_by_id}
 use Rattle.ownee_check.specs.Ownership.{AreDoubts}
 use Rattle.ownee_check.proofs.OwnersOf.{ownee-found, owned-by_role}
 
-module _ (p : Placed) (r : RoleTable) (h : Heap) (stand : StandFor p r h) where
+module _ (p : PlacedTable) (r : RoleTable) (h : Heap) (stand : StandFor p r h) where
   pub ownees-doubted : (ownees : List ℕ) → ownees ≡ filter (λ cell. has_owner (owner_in r cell)) (cells_by_id p) → AreDoubts p h ownees
   ownees-doubted ownees listed = record {
     test = λ cell. has_owner (owner_in r cell);

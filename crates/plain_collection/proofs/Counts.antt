@@ -11,7 +11,7 @@ use Rattle.graph_meaning.specs.Assertions.{Reference, reference_count, roots_to,
 use Rattle.graph_meaning.specs.Collecting.{instances}
 use Rattle.graph_meaning.specs.Heap.{Table, Heap, ids, kind_at}
 use Rattle.graph_meaning.specs.Roles.{RoleTable}
-use Rattle.object_table.specs.Placed.{Placed, IsPlaced, id_in}
+use Rattle.object_table.specs.Placed.{PlacedTable, IsPlaced, id_in}
 use Rattle.assert_registry.proofs.Marking.{get_or-replicate_same}
 use Rattle.reference_search.specs.Prefixes.{IsOneMore, scanned_slots}
 use Rattle.reference_search.proofs.Listing.{references-are}
@@ -19,14 +19,14 @@ use Rattle.verdict_list.proofs.Counting.{AreCounted, seen}
 use Rattle.plain_collection.specs.Counting.{CountsLists, AtMost}
 
 -- lists that are the same for each object
-pub counts-same : (p : Placed) (before after : ℕ → List Reference) (counts : List ℕ) → ((id : ℕ) → before id ≡ after id) → CountsLists p before counts → CountsLists p after counts
+pub counts-same : (p : PlacedTable) (before after : ℕ → List Reference) (counts : List ℕ) → ((id : ℕ) → before id ≡ after id) → CountsLists p before counts → CountsLists p after counts
 counts-same p before after counts same are cell id held = are cell id held ∙ ap length (same id)
 
 same-id : (a b : ℕ) → Some a ≡ Some b → a ≡ b
 same-id a b e = cc
 
 -- a reference more to the object in a cell
-pub counted-more : (p : Placed) (before after : ℕ → List Reference) (counts : List ℕ) (cell id : ℕ) (r : Reference) → IsPlaced p →
+pub counted-more : (p : PlacedTable) (before after : ℕ → List Reference) (counts : List ℕ) (cell id : ℕ) (r : Reference) → IsPlaced p →
     id_in p cell ≡ Some id → cell < length counts → IsOneMore id r before after → CountsLists p before counts →
     CountsLists p after (set counts cell (get_or counts cell 0 + 1))
 counted-more p before after counts cell id r placed held within more are c x at = ⊎_elim same other (cases_eq id x)
@@ -54,7 +54,7 @@ most-weaker counts most more le few c = let at = few c in omega arith
 
 -- ---- at the beginning
 
-pub counts-none : (p : Placed) (cells : ℕ) (counts : List ℕ) → counts ≡ replicate cells 0 → CountsLists p (λ id. []) counts
+pub counts-none : (p : PlacedTable) (cells : ℕ) (counts : List ℕ) → counts ≡ replicate cells 0 → CountsLists p (λ id. []) counts
 counts-none p cells counts are cell id held = ap (λ xs. get_or xs cell 0) are ∙ get_or-replicate_same cells cell 0
 
 pub most-none : (cells : ℕ) (counts : List ℕ) → counts ≡ replicate cells 0 → AtMost 0 counts
@@ -64,7 +64,7 @@ most-none cells counts are cell =
 -- ---- at the end
 
 -- the counts are the numbers of references
-pub counts-references : (p : Placed) (h : Heap) (counts : List ℕ) → h.table ≡ p.table →
+pub counts-references : (p : PlacedTable) (h : Heap) (counts : List ℕ) → h.table ≡ p.table →
     CountsLists p (λ id. roots_to p.table id ++ scanned_slots p.table (λ x. is_traced h x || is_owner h x) id) counts →
     (cell id : ℕ) → id_in p cell ≡ Some id → get_or counts cell 0 ≡ reference_count h id
 counts-references p h counts same are cell id held = are cell id held ∙ ap length (references-are h p.table id same)
@@ -72,7 +72,7 @@ counts-references p h counts same are cell id held = are cell id held ∙ ap len
 -- ---- instances
 
 -- when all objects were counted, the counts are those of the instances
-pub counts-instances : (p : Placed) (r : RoleTable) (h : Heap) (counts : List ℕ) (places : List (Option ℕ)) (n : ℕ) → h.table ≡ p.table →
+pub counts-instances : (p : PlacedTable) (r : RoleTable) (h : Heap) (counts : List ℕ) (places : List (Option ℕ)) (n : ℕ) → h.table ≡ p.table →
     length p.table.objects ≤ n → AreCounted p r h counts places n → (kind : ℕ) (name : List ℕ) → slice_get p.table.kinds kind ≡ Some name →
     get_or counts kind 0 ≡ length (instances h name)
 unfolding instances traced_ids

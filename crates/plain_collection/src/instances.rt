@@ -1,6 +1,6 @@
 //! How many objects of each type are traced.
 ghost use Rattle.graph_meaning.specs.Heap.{Heap};
-ghost use Rattle.reference_search.specs.References.{KeepsTraced};
+ghost use Rattle.reference_search.specs.References.{KeptAreTraced};
 ghost use Rattle.std.specs.Prelude.{◌≡◌, ◌+◌, ◌-◌, ◌^◌, ◌<◌, length, replicate, slice_index, slice_set, IfOk};
 ghost use Rattle.verdict_list.specs.Counts.{CountsInstances};
 
@@ -16,7 +16,7 @@ pub(crate) fn count_instances(
 ) -> Result<Vec<u32>, OutOfMemory>
     requires kept { length kept.now ≡ length table.now.cells }
     ensures each { IfOk result (λ counts. length counts.items ≡ length table.now.table.kinds) }
-    ensures instances { IfOk result (λ counts. (h : Heap) → h.table ≡ table.now.table → KeepsTraced table.now h kept.now → CountsInstances table.now h counts.items) }
+    ensures instances { IfOk result (λ counts. (h : Heap) → h.table ≡ table.now.table → KeptAreTraced table.now h kept.now → CountsInstances table.now h counts.items) }
 {
     // what is true of every table
     let all = table.cells();

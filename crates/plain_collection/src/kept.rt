@@ -3,7 +3,7 @@ ghost use Rattle.assert_registry.specs.Laws.{StandFor};
 ghost use Rattle.graph_meaning.specs.Heap.{Heap};
 ghost use Rattle.graph_meaning.specs.Roles.{AreRolesOf};
 ghost use Rattle.plain_collection.specs.Counting.{is_reached_in};
-ghost use Rattle.reference_search.specs.References.{KeepsTraced};
+ghost use Rattle.reference_search.specs.References.{KeptAreTraced};
 ghost use Rattle.std.specs.Prelude.{◌≡◌, ◌<◌, ℕ, false, length, slice_index_or, IfOk};
 
 use graph_meaning::Roles;
@@ -20,7 +20,7 @@ pub(crate) fn traced_cells(
 ) -> Result<Vec<bool>, OutOfMemory>
     requires roles { AreRolesOf table.now.cells (length table.now.table.kinds) roles.now }
     ensures each { IfOk result (λ kept. length kept.items ≡ length table.now.cells) }
-    ensures traced { IfOk result (λ kept. (h : Heap) → StandFor table.now roles.now h → KeepsTraced table.now h kept.items) }
+    ensures traced { IfOk result (λ kept. (h : Heap) → StandFor table.now roles.now h → KeptAreTraced table.now h kept.items) }
 {
     let cells = table.cells();
     let nothing = vec![in alloc; false; cells as usize]?;

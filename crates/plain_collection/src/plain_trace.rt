@@ -2,7 +2,7 @@
 ghost use Rattle.assert_registry.specs.Laws.{StandFor};
 ghost use Rattle.graph_meaning.specs.Heap.{Heap};
 ghost use Rattle.graph_meaning.specs.Roles.{AreRolesOf};
-ghost use Rattle.plain_collection.specs.PlainTraces.{counts_of, IsPlainTraceOf};
+ghost use Rattle.plain_collection.specs.PlainTraces.{plain_counts, IsPlainTraceOf};
 ghost use Rattle.std.specs.Prelude.{◌≡◌, length, IfOk};
 
 use crate::instances::count_instances;
@@ -52,7 +52,7 @@ impl PlainTrace {
 }
 
 impl HeapCounts for PlainTrace {
-    ghost counts = { counts_of };
+    ghost counts = { plain_counts };
 
     fn references(&self, cell: u32) -> u64 {
         self.references[cell as usize]

@@ -11,11 +11,11 @@ use Rattle.graph_meaning.specs.Assertions.{Reference, by_root, by_slot, is_owner
 use Rattle.graph_meaning.specs.Heap.{Heap, Object, Slot, Table, edge_of, edges_of, empty_slot, ids}
 use Rattle.graph_meaning.specs.Roles.{RoleTable, id_at}
 use Rattle.graph_meaning.proofs.EdgesOfSlots.{edges-edge, edges-none, edges-all}
-use Rattle.object_table.specs.Placed.{Placed, IsPlaced, id_in, slots_in}
+use Rattle.object_table.specs.Placed.{PlacedTable, IsPlaced, id_in, slots_in}
 use Rattle.object_table.proofs.ObjectsByCell.{edges-cell, held-id, id-held, held-within}
 use Rattle.assert_registry.specs.Laws.{StandFor}
 use Rattle.assert_registry.proofs.ByHeap.{roles_say_of_heap}
-use Rattle.reference_search.specs.References.{KeepsTraced, StartList}
+use Rattle.reference_search.specs.References.{KeptAreTraced, StartList}
 use Rattle.reference_search.specs.Prefixes.{Finding, FindsFirst, IsOneMore, ScannedByCell, scanned_slots}
 
 -- the references by these roots to the object with an id
@@ -45,7 +45,7 @@ one_more-after id r others before after more x =
 
 -- ---- the roots
 
-module _ (p : Placed) (n cell : ℕ) (within : n < length p.table.roots) (names : IfSome (slice_get p.table.roots n) (λ r. id_in p cell ≡ Some r.1)) where
+module _ (p : PlacedTable) (n cell : ℕ) (within : n < length p.table.roots) (names : IfSome (slice_get p.table.roots n) (λ r. id_in p cell ≡ Some r.1)) where
   -- the root with this number
   abbrev pub nth_root : List ℕ × ℕ
   nth_root = get_or p.table.roots n ([], 0)
@@ -81,7 +81,7 @@ module _ (before : ℕ → List Reference) (holder : ℕ) (slots : List Slot) (n
   slot-none none id = ap (λ xs. before id ++ by_edges holder xs id) (sym (edges-none slots n within none))
 
 -- all slots of an object
-pub slots-all : (before : ℕ → List Reference) (p : Placed) (cell n : ℕ) → IsSome (id_in p cell) → length (slots_in p cell) ≤ n → (id : ℕ) →
+pub slots-all : (before : ℕ → List Reference) (p : PlacedTable) (cell n : ℕ) → IsSome (id_in p cell) → length (slots_in p cell) ≤ n → (id : ℕ) →
     with_slots before (id_at p.cells cell) (take n (slots_in p cell)) id ≡ before id ++ slots_to p.table id (id_at p.cells cell)
 slots-all before p cell n held most id =
     ap (λ xs. before id ++ by_edges (id_at p.cells cell) xs id)
@@ -111,7 +111,7 @@ scanned-passed t before is_scanned xs i within passed id =
 abbrev pub with_scanned : Table → (ℕ → List Reference) → (ℕ → Bool) → ℕ → ℕ → List Reference
 with_scanned t before is_scanned n id = before id ++ flat_map (slots_to t id) (filter is_scanned (take n (ids t)))
 
-module _ (p : Placed) (n cell : ℕ) (within : n < length p.table.objects) (is : id_in p cell ≡ slice_get (ids p.table) n) where
+module _ (p : PlacedTable) (n cell : ℕ) (within : n < length p.table.objects) (is : id_in p cell ≡ slice_get (ids p.table) n) where
   -- the id of the object with this number
   abbrev pub nth_object : ℕ
   nth_object = get_or (ids p.table) n 0
@@ -144,7 +144,7 @@ scanned-all t before is_scanned n most id =
     ap (λ xs. before id ++ flat_map (slots_to t id) (filter is_scanned xs)) (take_all n (ids t) (omega (arith, most, length-map t.objects (λ (o : Object). o.id))))
 
 -- lists that are the same for each object
-pub finds-same : (p : Placed) (asked : List ℕ) (before after : ℕ → List Reference) (f : Finding) → ((id : ℕ) → before id ≡ after id) → FindsFirst p asked before f → FindsFirst p asked after f
+pub finds-same : (p : PlacedTable) (asked : List ℕ) (before after : ℕ → List Reference) (f : Finding) → ((id : ℕ) → before id ≡ after id) → FindsFirst p asked before f → FindsFirst p asked after f
 finds-same p asked before after f same finds = record {
   are = finds.are;
   first = λ n cell r at is.
@@ -160,6 +160,7 @@ references-are h t id same =
     ap (λ (u : Table). roots_to u id ++ flat_map (slots_to u id) (filter (λ x. is_traced h x || is_owner h x) (ids u))) (sym same)
 
 -- what is scanned by cell are the traced objects and the owners
-pub scanned-by_cell : (p : Placed) (r : RoleTable) (h : Heap) (kept : List Bool) → IsPlaced p → StandFor p r h → KeepsTraced p h kept → ScannedByCell p r kept (λ x. is_traced h x || is_owner h x)
+pub scanned-by_cell : (p : PlacedTable) (r : RoleTable) (h : Heap) (kept : List Bool) → IsPlaced p → StandFor p r h → KeptAreTraced p h kept →
+    ScannedByCell p r kept (λ x. is_traced h x || is_owner h x)
 scanned-by_cell p r h kept placed stand keeps x id held =
     let says = roles_say_of_heap h p r placed stand in (λ i. (sym (keeps x id held) i) || (sym (says.owners x id held) i))

@@ -7,7 +7,7 @@ use Rattle.std.proofs.lemmas.List.{get_or-set_same, get_or-set_other, length-set
 use Rattle.std.proofs.lemmas.Option.{slice_get_within, slice_get-get_or, get_or_from_slice_get}
 use Rattle.graph_meaning.specs.Assertions.{Reference}
 use Rattle.graph_meaning.specs.Roles.{id_at}
-use Rattle.object_table.specs.Placed.{Placed, id_in, IsPlaced}
+use Rattle.object_table.specs.Placed.{PlacedTable, id_in, IsPlaced}
 use Rattle.reference_search.specs.declared.cell_reference.FirstReferences.{FirstReferences}
 use Rattle.reference_search.specs.References.{StartList}
 use Rattle.reference_search.specs.Prefixes.{Finding, FindsFirst, IsOneMore}
@@ -23,7 +23,7 @@ list-here : (id : ℕ) (r : Reference) (before after : ℕ → List Reference) �
 list-here id r before after more =
     sym (more id ∙ ap (λ b. before id ++ cond b (r ∷ []) []) (eq-eqb id id refl))
 
-module _ (p : Placed) (placed : IsPlaced p) (asked : List ℕ) (before after : ℕ → List Reference) (f : Finding) (cell id : ℕ) (r : Reference)
+module _ (p : PlacedTable) (placed : IsPlaced p) (asked : List ℕ) (before after : ℕ → List Reference) (f : Finding) (cell id : ℕ) (r : Reference)
     (held : id_in p cell ≡ Some id) (more : IsOneMore id r before after) (finds : FindsFirst p asked before f) where
   -- another cell that was asked for has another object
   apart : (n c : ℕ) → slice_get asked n ≡ Some c → c ≢ cell → id ≢ id_at p.cells c

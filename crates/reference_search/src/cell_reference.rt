@@ -1,6 +1,6 @@
 //! References by the cells of a table.
 ghost use Rattle.graph_meaning.specs.Assertions.{Reference};
-ghost use Rattle.object_table.specs.Placed.{Placed};
+ghost use Rattle.object_table.specs.Placed.{PlacedTable};
 ghost use Rattle.reference_search.specs.References.{reference_of, RefersTo, StartList};
 ghost use Rattle.std.specs.Prelude.{ℕ, List, ◌++◌, ◌∷◌, []};
 
@@ -29,7 +29,7 @@ pub(crate) const NO_REFERENCES: FirstReferences = FirstReferences {
 impl FirstReferences {
     // With one reference more, which comes after those that were there.
     pub(crate) fn with(self, reference: CellReference) -> FirstReferences
-        ensures { (p : Placed) → (id : ℕ) → (before : List Reference) → RefersTo p reference id → StartList p id before self → StartList p id (before ++ reference_of p reference ∷ []) result }
+        ensures { (p : PlacedTable) → (id : ℕ) → (before : List Reference) → RefersTo p reference id → StartList p id before self → StartList p id (before ++ reference_of p reference ∷ []) result }
     {
         if self.first.is_none() {
             FirstReferences {

@@ -2,7 +2,7 @@
 ghost use Rattle.graph_meaning.specs.Assertions.{roots_to, slots_to};
 ghost use Rattle.graph_meaning.specs.Roles.{cells_of, id_at};
 ghost use Rattle.heap_base.specs.Counting.{IsOnce};
-ghost use Rattle.object_table.specs.Placed.{Placed, id_in, IsPlaced};
+ghost use Rattle.object_table.specs.Placed.{PlacedTable, id_in, IsPlaced};
 ghost use Rattle.reference_search.specs.Findings.{finding_in};
 ghost use Rattle.reference_search.specs.Prefixes.{FindsFirst, FindsMore, only_to, scanned_slots, ScannedByCell};
 ghost use Rattle.reference_search.specs.References.{reference_of, RefersTo};
@@ -27,7 +27,7 @@ impl Search {
         requires in_range { All (λ cell. cell < cells) asked.now }
         requires once { IsOnce asked.now }
         ensures count { IfOk result (λ s. length (finding_in s).found ≡ length asked.now) }
-        ensures finds { IfOk result (λ s. (p : Placed) → All (λ cell. IsSome (id_in p cell)) asked.now → FindsFirst p asked.now (λ id. []) (finding_in s)) }
+        ensures finds { IfOk result (λ s. (p : PlacedTable) → All (λ cell. IsSome (id_in p cell)) asked.now → FindsFirst p asked.now (λ id. []) (finding_in s)) }
     {
         let places = places_of(alloc, cells, asked)?;
         let found = vec![in alloc; NO_REFERENCES; asked.len()]?;
@@ -79,7 +79,7 @@ impl Search {
     // Puts a reference to the object in a cell after those that were found, if the object was asked for.
     fn put(&mut self, cell: u32, reference: CellReference)
         ensures count { length self.new.found.items ≡ length self.old.found.items }
-        ensures finds { (p : Placed) → (id : ℕ) → IsPlaced p → id_in p cell ≡ Some id → RefersTo p reference id → FindsMore p (only_to id (reference_of p reference)) (finding_in self.old) (finding_in self.new) }
+        ensures finds { (p : PlacedTable) → (id : ℕ) → IsPlaced p → id_in p cell ≡ Some id → RefersTo p reference id → FindsMore p (only_to id (reference_of p reference)) (finding_in self.old) (finding_in self.new) }
     {
         let Some(place) = self.place_of(cell) else {
             return;

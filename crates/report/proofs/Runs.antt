@@ -3,7 +3,7 @@ use Rattle.std.proofs.Common.{◌≡◌, List, [], ◌∷◌, ◌++◌, ◌∙�
 use Rattle.std.proofs.lemmas.List.{append_assoc, append-nil}
 use Rattle.std.proofs.lemmas.Grind.{flat_map-append}
 use Rattle.graph_meaning.specs.declared.collection.Collection.{Collection}
-use Rattle.run_meaning.specs.Run.{Totals, Ran, Ending, with_collections, empty_run, with_earlier}
+use Rattle.run_meaning.specs.Run.{Totals, RunResult, Ending, with_collections, empty_run, with_earlier}
 use Rattle.report.specs.Text.{collection_text}
 use Rattle.report.specs.Report.{collections_text, last_line, report_text}
 use Rattle.run_meaning.proofs.Runs.{with_collections-nil, with_collections-append}
@@ -14,7 +14,8 @@ collections_text-append xs ys = flat_map-append collection_text xs ys
 pub collections_text-one : (c : Collection) → collections_text (c ∷ []) ≡ collection_text c
 collections_text-one c = append-nil (collection_text c)
 
-pub report_text-with_earlier : (before : Totals) (made : List Collection) (r : Ran) → report_text before (with_earlier made r) ≡ collections_text made ++ report_text (with_collections before made) r
+pub report_text-with_earlier : (before : Totals) (made : List Collection) (r : RunResult) →
+    report_text before (with_earlier made r) ≡ collections_text made ++ report_text (with_collections before made) r
 unfolding report_text
 report_text-with_earlier before made r =
     ap (λ t. t ++ last_line (with_collections before (made ++ r.collections)) r.ending) (collections_text-append made r.collections)

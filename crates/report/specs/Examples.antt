@@ -5,7 +5,7 @@ use Rattle.heap_base.specs.declared.status.Status.TheVariants.{Clean, Violated, 
 use Rattle.graph_meaning.specs.declared.event.Event.{Event}
 use Rattle.graph_meaning.specs.declared.event.Event.TheVariants.{Store, StartRegion, AssertDead, AssertAllDead, AssertUnshared, AssertOwnedBy, Collect}
 use Rattle.graph_meaning.specs.declared.reaction.React.TheVariants as react
-use Rattle.graph_meaning.specs.Examples.{alloc, root, store, order, cycle, cart, cached, pools}
+use Rattle.graph_meaning.specs.Examples.{alloc, root, store, order, cycle, cart, cached_entry, pools}
 use Rattle.trace_reader.specs.Meaning.{event}
 use Rattle.run_meaning.specs.Run.{RunRules, status_of}
 use Rattle.report.specs.Report.{report_of}
@@ -63,7 +63,7 @@ RegionsNest =
 -- an entry of a map that a cache holds too, once it is taken out of the map
 abbrev pub OwnershipIsLost : Type 0
 OwnershipIsLost =
-    Reports plain (cached ++ Store 1 0 None ∷ Collect ∷ [])
+    Reports plain (cached_entry ++ Store 1 0 None ∷ Collect ∷ [])
     (codes "gc 1 live 3 traced 3 freed 0\n"
     ++ codes "gc 2 live 3 traced 3 freed 0\n"
     ++ codes "gc 2 ownedby 3 Entry owner 1: root c -> 2 Cache [0] -> 3 Entry\n"

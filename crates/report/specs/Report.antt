@@ -3,7 +3,7 @@ use Rattle.std.specs.Prelude.{ℕ, List, ◌++◌}
 use Rattle.std.specs.List.{flat_map}
 use Rattle.graph_meaning.specs.declared.collection.Collection.{Collection}
 use Rattle.trace_reader.specs.Meaning.{Item}
-use Rattle.run_meaning.specs.Run.{RunRules, Totals, no_totals, with_collections, first_state, Ending, end_of_trace, refused_line, halted, Ran, run}
+use Rattle.run_meaning.specs.Run.{RunRules, Totals, no_totals, with_collections, first_state, Ending, end_of_trace, refused_line, halted, RunResult, run}
 use Rattle.report.specs.Text.{collection_text, fault_text, halt_text, end_text}
 
 -- the texts of the collections alone
@@ -17,7 +17,7 @@ last_line totals (refused_line line r) = fault_text line r
 last_line totals (halted collection violations) = halt_text collection violations
 
 -- The report on a run, where collections of these totals came before it.
-unfoldable pub report_text : Totals → Ran → List ℕ
+unfoldable pub report_text : Totals → RunResult → List ℕ
 report_text before ran = collections_text ran.collections ++ last_line (with_collections before ran.collections) ran.ending
 
 -- ---- from the beginning of a trace

@@ -6,7 +6,7 @@ use Rattle.heap_base.specs.declared.status.Status.TheVariants.{Clean, Violated, 
 use Rattle.text_comparison.specs.declared.outcome.Compared.{Compared}
 use Rattle.text_comparison.specs.declared.outcome.Compared.TheVariants.{Equal, Differs}
 use Rattle.report_check.specs.Checked.{World, IsChecked, ChecksEnd}
-use Rattle.report_check.specs.Reports.{TellsOfReports, Writes, status_of}
+use Rattle.report_check.specs.Reports.{TellsOfReports, Writes, comparison_status}
 
 pub keeps-same : (held : Option (List ℕ)) → Keeps held held
 keeps-same None = tt
@@ -25,7 +25,7 @@ written-checked paths old new Equal ReadFault tells writes = ⊎_elim (λ whole.
 written-checked paths old new (Differs n) ReadFault tells writes = ⊎_elim (λ whole. absurd (let e = whole.0 in cc)) (λ part. absurd (let e = part.0 in cc)) writes
 written-checked paths old new compared WriteFault tells writes = ⊎_elim (λ whole. absurd (fault compared whole.0)) (λ part. (part.1, (compared, tells, part.2))) writes
   where
-    fault : (compared : Compared) → WriteFault ≡ status_of compared → ⊥
+    fault : (compared : Compared) → WriteFault ≡ comparison_status compared → ⊥
     fault Equal e = cc
     fault (Differs n) e = cc
 written-checked paths old new compared NoMemory tells writes = writes

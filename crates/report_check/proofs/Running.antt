@@ -17,7 +17,7 @@ use Rattle.trace_reader.specs.Cutter.{CutterState, StepsOn, fresh_cutter, with_s
 use Rattle.trace_reader.specs.Items.{items_of}
 use Rattle.trace_reader.specs.Meaning.{item_of_line}
 use Rattle.report.specs.Text.{fault_text}
-use Rattle.trace_run.specs.Outcome.{Outside, Ended, RefusesLine, AppendsPartOfReport, seen, sink_change, trace_report}
+use Rattle.trace_run.specs.Outcome.{Outside, EndsAs, RefusesLine, AppendsPartOfReport, outside_of, sink_change, trace_report}
 use Rattle.trace_run.specs.Program.{Effect, Last, Report, by_effect, end_of_trace, ends_so, goes_on, refuses, report_by, report_on, status_by, takes_item}
 use Rattle.trace_run.specs.Turn.{EndsRun}
 use Rattle.report.proofs.Pieces.{AppendsPart-longer}
@@ -29,10 +29,10 @@ use Rattle.audit_program.proofs.Reports.{audit_is_reported}
 use Rattle.graph_meaning.specs.declared.reaction.React.TheVariants as react
 use Rattle.report_check.specs.Flows.{ComparesLine, checked_line}
 use Rattle.report_check.specs.Reports.{TellsOfReports, TellsOfRun}
-use Rattle.report_check.specs.States.{state_in}
+use Rattle.report_check.specs.States.{checked_state}
 use Rattle.report_check.specs.declared.line.Check.{Check}
 use Rattle.report_check.specs.declared.line.Flow.TheVariants.{GoesOn, Ends}
-use Rattle.text_comparison.specs.Comparing.{ComparisonState, DiffersWithin, IsEqualSoFar, Tells, comparison_of, fresh_comparison}
+use Rattle.text_comparison.specs.Comparing.{ComparisonState, DiffersWithin, IsEqualSoFar, TellsDifference, comparison_of, fresh_comparison}
 use Rattle.text_comparison.specs.Differences.{IsFirstDifference}
 use Rattle.text_comparison.specs.declared.outcome.Compared.{Compared}
 use Rattle.text_comparison.specs.declared.outcome.Compared.TheVariants.{Differs}
@@ -55,7 +55,7 @@ moment trace report check lines = record {
   trace = trace;
   report = report;
   cutter = check.cutter;
-  state = state_in check.checking;
+  state = checked_state check.checking;
   lines = lines;
   comparison = check.comparison;
 }
@@ -63,7 +63,7 @@ moment trace report check lines = record {
 -- These texts were due, and the other report has begun with them.
 pub record UnderWay (first now : Moment) : Type 0 where
   pub written : List ℕ
-  pub so_far : InProgress audit_meaning LONGEST_TRACE first.state (seen first.trace (held [])) (seen now.trace (held written)) now.cutter now.state now.lines
+  pub so_far : InProgress audit_meaning LONGEST_TRACE first.state (outside_of first.trace (held [])) (outside_of now.trace (held written)) now.cutter now.state now.lines
   pub equal : IsEqualSoFar (comparison_of first.report.bytes now.report.bytes now.comparison) written
   pub later : first.report.faults ≤ now.report.faults
 
@@ -71,8 +71,8 @@ pub begins : (first : Moment) → first.cutter ≡ fresh_cutter LONGEST_TRACE �
 begins first fresh nothing none = record {
   written = [];
   so_far =
-      subst (λ (n : ℕ). InProgress audit_meaning LONGEST_TRACE first.state (seen first.trace (held [])) (seen first.trace (held [])) first.cutter first.state n) (sym none)
-      (begins_at audit_meaning LONGEST_TRACE first.state (seen first.trace (held [])) first.cutter fresh);
+      subst (λ (n : ℕ). InProgress audit_meaning LONGEST_TRACE first.state (outside_of first.trace (held [])) (outside_of first.trace (held [])) first.cutter first.state n) (sym none)
+      (begins_at audit_meaning LONGEST_TRACE first.state (outside_of first.trace (held [])) first.cutter fresh);
   equal =
       subst (λ (k : ComparisonState). IsEqualSoFar (comparison_of first.report.bytes first.report.bytes k) []) (sym nothing)
       (record { consumed = Consumes-nil first.report.bytes; place = refl });
@@ -87,34 +87,35 @@ text_on first bytes = (report_by audit_meaning first (items_of LONGEST_TRACE byt
 
 module _ (first : AuditState) (trace report : Option (List ℕ)) where
   -- the trace has these bytes, where it tells them
-  tells-on : (bytes : List ℕ) (compared : Compared) → IfSome trace (λ left. left ≡ bytes) → Tells report (text_on first bytes) compared → TellsOfRun first trace report compared
+  tells-on : (bytes : List ℕ) (compared : Compared) → IfSome trace (λ left. left ≡ bytes) → TellsDifference report (text_on first bytes) compared → TellsOfRun first trace report compared
   tells-on bytes compared is tells = go trace is
     where
       go : (left : Option (List ℕ)) → IfSome left (λ left. left ≡ bytes) → TellsOfRun first left report compared
       go None is = tt
-      go (Some left) is = subst (λ (bytes : List ℕ). Tells report (text_on first bytes) compared) (sym is) tells
+      go (Some left) is = subst (λ (bytes : List ℕ). TellsDifference report (text_on first bytes) compared) (sym is) tells
 
   -- the whole text is this one
-  tells-whole : (bytes whole : List ℕ) (compared : Compared) → IfSome trace (λ left. left ≡ bytes) → whole ≡ text_on first bytes → Tells report whole compared → TellsOfRun first trace report compared
-  tells-whole bytes whole compared is made tells = tells-on bytes compared is (subst (λ (t : List ℕ). Tells report t compared) made tells)
+  tells-whole : (bytes whole : List ℕ) (compared : Compared) → IfSome trace (λ left. left ≡ bytes) → whole ≡ text_on first bytes →
+      TellsDifference report whole compared → TellsOfRun first trace report compared
+  tells-whole bytes whole compared is made tells = tells-on bytes compared is (subst (λ (t : List ℕ). TellsDifference report t compared) made tells)
 
 module _ (first : AuditState) (trace : Stream) (report : Option (List ℕ)) (after : Stream) where
   -- the text up to a refused line was made
   tells-refused : (whole : List ℕ) (compared : Compared) →
-      RefusesLine (trace_report LONGEST_TRACE (report_by audit_meaning first)) (seen trace (held [])) (seen after (held whole)) →
-      Tells report whole compared → TellsOfRun first trace.bytes report compared
+      RefusesLine (trace_report LONGEST_TRACE (report_by audit_meaning first)) (outside_of trace (held [])) (outside_of after (held whole)) →
+      TellsDifference report whole compared → TellsOfRun first trace.bytes report compared
   tells-refused whole compared ended tells = tells-whole first trace.bytes report ended.bytes whole compared ended.trace ended.appended tells
 
   -- the text up to the end of the trace was made
   tells-at_end : (whole : List ℕ) (compared : Compared) (violated : Bool) →
-      Ended (trace_report LONGEST_TRACE (report_by audit_meaning first)) (seen trace (held [])) (seen after (held whole)) (status_by violated) →
-      Tells report whole compared → TellsOfRun first trace.bytes report compared
+      EndsAs (trace_report LONGEST_TRACE (report_by audit_meaning first)) (outside_of trace (held [])) (outside_of after (held whole)) (status_by violated) →
+      TellsDifference report whole compared → TellsOfRun first trace.bytes report compared
   tells-at_end whole compared true ended tells = tells-whole first trace.bytes report ended.bytes whole compared ended.trace ended.appended tells
   tells-at_end whole compared false ended tells = tells-whole first trace.bytes report ended.bytes whole compared ended.trace ended.appended tells
 
   -- a part of the text was made, and they differ in it
   tells-part : (part : List ℕ) (m : ℕ) →
-      AppendsPartOfReport (trace_report LONGEST_TRACE (report_by audit_meaning first)) (seen trace (held [])) (seen after (held part)) →
+      AppendsPartOfReport (trace_report LONGEST_TRACE (report_by audit_meaning first)) (outside_of trace (held [])) (outside_of after (held part)) →
       DiffersWithin report part m → TellsOfRun first trace.bytes report (Differs m)
   tells-part part m made (within, differ) = tells-on first trace.bytes report made.bytes (Differs m) made.trace (go report made.part.2 differ)
     where
@@ -133,13 +134,13 @@ module _ {first now : Moment} (u : UnderWay first now) (trace : Stream) (c : Cut
 
   -- what is seen at the beginning, before the step, and where this text was due behind it
   abbrev start : Outside
-  start = seen first.trace (held [])
+  start = outside_of first.trace (held [])
 
   abbrev before : Outside
-  before = seen now.trace (held u.written)
+  before = outside_of now.trace (held u.written)
 
   abbrev behind : List ℕ → Outside
-  behind text = seen trace (held (u.written ++ text))
+  behind text = outside_of trace (held (u.written ++ text))
 
   -- what the line leads to that was cut
   abbrev effect : Effect AuditState
@@ -183,7 +184,7 @@ module _ {first now : Moment} (u : UnderWay first now) (trace : Stream) (c : Cut
 
   -- the line is refused
   refused-there : (number : ℕ) (r : Refusal) (compared : Compared) → Steps (Ok (Some number)) → effect ≡ refuses r →
-      Tells first.report.bytes (u.written ++ fault_text number r) compared → TellsOfRun first.state first.trace.bytes first.report.bytes compared
+      TellsDifference first.report.bytes (u.written ++ fault_text number r) compared → TellsOfRun first.state first.trace.bytes first.report.bytes compared
   refused-there number r compared steps taken tells =
       let text = fault_text number r in
       tells-refused first.state first.trace first.report.bytes trace (u.written ++ text) compared
@@ -205,7 +206,7 @@ module _ {first now : Moment} (u : UnderWay first now) (trace : Stream) (c : Cut
   last = audit_meaning.ends now.state
 
   -- the trace is at its end
-  pub ends-there : (compared : Compared) → Steps (Ok None) → Tells first.report.bytes (u.written ++ (audit_meaning.ends now.state).text) compared →
+  pub ends-there : (compared : Compared) → Steps (Ok None) → TellsDifference first.report.bytes (u.written ++ (audit_meaning.ends now.state).text) compared →
       TellsOfRun first.state first.trace.bytes first.report.bytes compared
   ends-there compared steps tells =
       tells-at_end first.state first.trace first.report.bytes trace (u.written ++ last.text) compared last.violated
@@ -219,13 +220,13 @@ module _ {first now : Moment} (u : UnderWay first now) (trace : Stream) (c : Cut
       ends-by false e = (refl, ap status_by (sym e), refl)
 
   -- a line or the trace is too long
-  pub line-too_long : (compared : Compared) → Steps (Err cut_error.LineTooLong) → Tells first.report.bytes (u.written ++ fault_text (now.lines + 1) refusal.LineTooLong) compared →
+  pub line-too_long : (compared : Compared) → Steps (Err cut_error.LineTooLong) → TellsDifference first.report.bytes (u.written ++ fault_text (now.lines + 1) refusal.LineTooLong) compared →
       TellsOfRun first.state first.trace.bytes first.report.bytes compared
   line-too_long compared steps tells =
       tells-refused first.state first.trace first.report.bytes trace (u.written ++ fault_text (now.lines + 1) refusal.LineTooLong) compared
       (line_too_long audit_meaning LONGEST_TRACE first.state start before (behind _) now.cutter c now.state now.lines took TraceFault u.so_far steps (refl, refl)) tells
 
-  pub trace-too_long : (compared : Compared) → Steps (Err cut_error.TraceTooLong) → Tells first.report.bytes (u.written ++ fault_text (now.lines + 1) refusal.TraceTooLong) compared →
+  pub trace-too_long : (compared : Compared) → Steps (Err cut_error.TraceTooLong) → TellsDifference first.report.bytes (u.written ++ fault_text (now.lines + 1) refusal.TraceTooLong) compared →
       TellsOfRun first.state first.trace.bytes first.report.bytes compared
   trace-too_long compared steps tells =
       tells-refused first.state first.trace first.report.bytes trace (u.written ++ fault_text (now.lines + 1) refusal.TraceTooLong) compared
@@ -236,4 +237,4 @@ pub as-defined : (paths : ℕ) (trace report : Option (List ℕ)) (compared : Co
     TellsOfRun (first_audit_state (rules_by paths react.Report)) trace report compared → TellsOfReports paths trace report compared
 as-defined paths None report compared tells = tt
 as-defined paths (Some bytes) report compared tells =
-    subst (λ (t : List ℕ). Tells report t compared) (ap (λ (r : Report). r.text) (audit_is_reported (rules_by paths react.Report) (items_of LONGEST_TRACE bytes))) tells
+    subst (λ (t : List ℕ). TellsDifference report t compared) (ap (λ (r : Report). r.text) (audit_is_reported (rules_by paths react.Report) (items_of LONGEST_TRACE bytes))) tells

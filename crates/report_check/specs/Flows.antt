@@ -4,7 +4,7 @@ use Rattle.graph_meaning.specs.declared.refusal.Refusal.{Refusal}
 use Rattle.report.specs.Text.{fault_text}
 use Rattle.trace_run.specs.Program.{Effect, goes_on, refuses}
 use Rattle.audit_program.specs.Audits.{AuditState}
-use Rattle.text_comparison.specs.Comparing.{ComparisonWithSource, DiffersWithin, IsEqualSoFar, Tells}
+use Rattle.text_comparison.specs.Comparing.{ComparisonWithSource, DiffersWithin, IsEqualSoFar, TellsDifference}
 use Rattle.text_comparison.specs.declared.outcome.Compared.TheVariants.{Differs}
 use Rattle.report_check.specs.declared.line.Flow.{Flow}
 use Rattle.report_check.specs.declared.line.Flow.TheVariants.{GoesOn, Ends}
@@ -34,4 +34,4 @@ abbrev pub ComparesLine : CheckedLine → ComparisonWithSource → List ℕ → 
 ComparesLine line c before GoesOn = (text : List ℕ) × (line.effect ≡ goes_on text line.after) × IsEqualSoFar c (before ++ text)
 ComparesLine line c before (Ends compared) =
     ((text : List ℕ) × (line.effect ≡ goes_on text line.after) × Differ c.start (before ++ text) compared)
-    ⊎ ((r : Refusal) × (line.effect ≡ refuses r) × Tells c.start (before ++ fault_text line.number r) compared)
+    ⊎ ((r : Refusal) × (line.effect ≡ refuses r) × TellsDifference c.start (before ++ fault_text line.number r) compared)

@@ -11,34 +11,34 @@ use Rattle.report.specs.Report.{report_of}
 use Rattle.trace_run.specs.Outcome.{WritesOnce, sink_change}
 use Rattle.trace_run.specs.Program.{report_by}
 use Rattle.audit_program.specs.Audits.{AuditState, audit_meaning, rules_by}
-use Rattle.text_comparison.specs.Comparing.{Tells}
+use Rattle.text_comparison.specs.Comparing.{TellsDifference}
 use Rattle.text_comparison.specs.declared.outcome.Compared.{Compared}
 use Rattle.text_comparison.specs.declared.outcome.Compared.TheVariants.{Equal, Differs}
 
 -- the report on these bytes of a trace that shows so many paths of each collection
-abbrev pub report_text : ℕ → List ℕ → List ℕ
-report_text paths bytes = report_of (rules_by paths Report) (items_of LONGEST_TRACE bytes)
+abbrev pub report_with_paths : ℕ → List ℕ → List ℕ
+report_with_paths paths bytes = report_of (rules_by paths Report) (items_of LONGEST_TRACE bytes)
 
 -- The report of a source compares so with that on the trace of another, where both tell their bytes.
 abbrev pub TellsOfReports : ℕ → Option (List ℕ) → Option (List ℕ) → Compared → Type 0
-TellsOfReports paths trace report compared = IfSome trace (λ bytes. Tells report (report_text paths bytes) compared)
+TellsOfReports paths trace report compared = IfSome trace (λ bytes. TellsDifference report (report_with_paths paths bytes) compared)
 
 -- The report of a source compares so with that of the run from a state over the trace of another, where both tell their bytes.
 abbrev pub TellsOfRun : AuditState → Option (List ℕ) → Option (List ℕ) → Compared → Type 0
 TellsOfRun first trace report compared =
-    IfSome trace (λ bytes. Tells report (report_by audit_meaning first (items_of LONGEST_TRACE bytes)).text compared)
+    IfSome trace (λ bytes. TellsDifference report (report_by audit_meaning first (items_of LONGEST_TRACE bytes)).text compared)
 
 -- the line that says how they compare
-abbrev pub line_of : Compared → List ℕ
-line_of Equal = codes "report equal\n"
-line_of (Differs n) = codes "report differs at byte " ++ decimal n ++ codes "\n"
+abbrev pub comparison_line : Compared → List ℕ
+comparison_line Equal = codes "report equal\n"
+comparison_line (Differs n) = codes "report differs at byte " ++ decimal n ++ codes "\n"
 
 -- the status of a check by how they compare
-abbrev pub status_of : Compared → Status
-status_of Equal = Clean
-status_of (Differs n) = Violated
+abbrev pub comparison_status : Compared → Status
+comparison_status Equal = Clean
+comparison_status (Differs n) = Violated
 
 -- The line was appended, or a beginning of it where the sink failed, or nothing where memory ran out.
 abbrev pub Writes : Compared → Stream → Stream → Status → Type 0
 Writes compared old new NoMemory = Keeps old.bytes new.bytes
-Writes compared old new answer = WritesOnce (line_of compared) (status_of compared) (sink_change old new) answer
+Writes compared old new answer = WritesOnce (comparison_line compared) (comparison_status compared) (sink_change old new) answer

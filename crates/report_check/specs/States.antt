@@ -4,8 +4,8 @@ use Rattle.audit_program.specs.Audits.{AuditState, rules_by}
 use Rattle.report_check.specs.declared.checking.Checking.{Checking}
 
 -- its rules, its heap, and the totals of its collections
-abbrev pub state_in : Checking → AuditState
-state_in c = record {
+abbrev pub checked_state : Checking → AuditState
+checked_state c = record {
   rules = rules_by c.paths Report;
   heap = c.parts.heap;
   totals = record { collections = c.collections; violations = c.violations };

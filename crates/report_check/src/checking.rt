@@ -32,11 +32,11 @@ impl Checking {
     ghost use Rattle.trace_run.specs.Program.{takes_item};
     ghost use Rattle.audit_program.specs.Audits.{audit_meaning, behind_next, end_of, first_audit_state, next_of, rules_by};
     ghost use Rattle.report_check.specs.Due.{MakesDue};
-    ghost use Rattle.report_check.specs.States.{state_in};
+    ghost use Rattle.report_check.specs.States.{checked_state};
 
     /// At the beginning of a trace.
     pub(crate) fn make(alloc: Global, paths: u32) -> Result<Checking, OutOfMemory>
-        ensures first { IfOk result (λ c. state_in c ≡ first_audit_state (rules_by paths Report)) }
+        ensures first { IfOk result (λ c. checked_state c ≡ first_audit_state (rules_by paths Report)) }
         ensures none { IfOk result (λ c. c.collections ≡ 0) }
     {
         let parts = HeapParts::make(alloc)?;
@@ -53,7 +53,7 @@ impl Checking {
     /// Takes the line with this number.
     pub(crate) fn take_line(&mut self, line: &[u8], number: u64) -> Result<Due, OutOfMemory>
         requires few { self.old.collections < LONGEST_TRACE }
-        ensures due { IfOk result (MakesDue (takes_item audit_meaning (state_in self.old) (item_of_line line.now)) number (state_in self.new)) }
+        ensures due { IfOk result (MakesDue (takes_item audit_meaning (checked_state self.old) (item_of_line line.now)) number (checked_state self.new)) }
         ensures few { self.new.collections ≤ self.old.collections + 1 }
     {
         match self.reader.event_of(line) {
@@ -67,7 +67,7 @@ impl Checking {
     // Takes the event in the line with this number.
     fn take_event(&mut self, event: &Event, number: u64) -> Result<Due, OutOfMemory>
         requires few { self.old.collections < LONGEST_TRACE }
-        ensures due { IfOk result (MakesDue (audit_meaning.takes (state_in self.old) event.now) number (state_in self.new)) }
+        ensures due { IfOk result (MakesDue (audit_meaning.takes (checked_state self.old) event.now) number (checked_state self.new)) }
         ensures few { self.new.collections ≤ self.old.collections + 1 }
     {
         match event {
@@ -85,8 +85,8 @@ impl Checking {
     // Makes the next collection, and gives its text.
     fn make_collection(&mut self) -> Result<Vec<u8>, OutOfMemory>
         requires few { self.old.collections < LONGEST_TRACE }
-        ensures text { IfOk result (λ text. text.items ≡ collection_text (next_of (state_in self.old))) }
-        ensures after { OnOk result (state_in self.new ≡ behind_next (state_in self.old)) }
+        ensures text { IfOk result (λ text. text.items ≡ collection_text (next_of (checked_state self.old))) }
+        ensures after { OnOk result (checked_state self.new ≡ behind_next (checked_state self.old)) }
         ensures few { self.new.collections ≤ self.old.collections + 1 }
     {
         let number = self.collections + 1;
@@ -98,7 +98,7 @@ impl Checking {
 
     /// The last text, where the trace ends here.
     pub(crate) fn end_text(&self) -> Result<Vec<u8>, OutOfMemory>
-        ensures { IfOk result (λ text. text.items ≡ (end_of (state_in self.now).totals).text) }
+        ensures { IfOk result (λ text. text.items ≡ (end_of (checked_state self.now).totals).text) }
     {
         end_text(self.alloc, self.collections, self.violations)
     }

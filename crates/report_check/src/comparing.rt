@@ -3,7 +3,7 @@ ghost use Rattle.std.specs.Prelude.{◌≡◌, ◌⊎◌, Err, IfOk};
 ghost use Rattle.heap_base.specs.Causes.{Rose};
 ghost use Rattle.report_check.specs.declared.outcome.CheckError.TheVariants.{ReadFault};
 ghost use Rattle.report_check.specs.Reports.{TellsOfReports, TellsOfRun};
-ghost use Rattle.report_check.specs.States.{state_in};
+ghost use Rattle.report_check.specs.States.{checked_state};
 ghost use Rattle.heap_base.specs.declared.limits.TheConstants.{LONGEST_TRACE};
 ghost use Rattle.trace_reader.specs.Cutter.{fresh_cutter};
 ghost use Rattle.text_comparison.specs.Comparing.{fresh_comparison};
@@ -48,7 +48,7 @@ fn compare_lines<A: Source, B: Source>(
     requires cutter { check.old.cutter ≡ fresh_cutter LONGEST_TRACE }
     requires comparison { check.old.comparison ≡ fresh_comparison }
     requires none { check.old.checking.collections ≡ 0 }
-    ensures tells { IfOk result (TellsOfRun (state_in check.old.checking) (A.left trace.old) (B.left report.old)) }
+    ensures tells { IfOk result (TellsOfRun (checked_state check.old.checking) (A.left trace.old) (B.left report.old)) }
     ensures cause { result ≡ Err ReadFault → Rose (A.faults trace.old) (A.faults trace.new) ⊎ Rose (B.faults report.old) (B.faults report.new) }
 {
     let mut lines = 0;

@@ -6,10 +6,10 @@ ghost use Rattle.report.specs.Text.{fault_text};
 ghost use Rattle.trace_reader.specs.Meaning.{item_of_line};
 ghost use Rattle.trace_run.specs.Program.{takes_item};
 ghost use Rattle.audit_program.specs.Audits.{audit_meaning, end_of};
-ghost use Rattle.text_comparison.specs.Comparing.{IsEqualSoFar, Tells, comparison_of};
+ghost use Rattle.text_comparison.specs.Comparing.{IsEqualSoFar, TellsDifference, comparison_of};
 ghost use Rattle.report_check.specs.declared.outcome.CheckError.TheVariants.{ReadFault};
 ghost use Rattle.report_check.specs.Flows.{ComparesLine, ComparesText, checked_line};
-ghost use Rattle.report_check.specs.States.{state_in};
+ghost use Rattle.report_check.specs.States.{checked_state};
 
 use crate::checking::Checking;
 use crate::due::Due;
@@ -43,9 +43,9 @@ impl Check {
         report: &mut B,
     ) -> Result<Flow, CheckError>
         requires few { self.old.checking.collections < LONGEST_TRACE }
-        ensures compares { let effect = takes_item audit_meaning (state_in self.old.checking) (item_of_line self.old.cutter.line) in
+        ensures compares { let effect = takes_item audit_meaning (checked_state self.old.checking) (item_of_line self.old.cutter.line) in
             (start : Option (List ℕ)) (before : List ℕ) → IsEqualSoFar (comparison_of start (B.left report.old) self.old.comparison) before →
-            IfOk result (ComparesLine (checked_line number effect (state_in self.new.checking)) (comparison_of start (B.left report.new) self.new.comparison) before) }
+            IfOk result (ComparesLine (checked_line number effect (checked_state self.new.checking)) (comparison_of start (B.left report.new) self.new.comparison) before) }
         ensures cutter { self.new.cutter ≡ self.old.cutter }
         ensures few { self.new.checking.collections ≤ self.old.checking.collections + 1 }
         ensures later { B.faults report.old ≤ B.faults report.new }
@@ -60,7 +60,7 @@ impl Check {
     /// Compares the last text, where the trace ends.
     pub(crate) fn compare_end<B: Source>(&mut self, report: &mut B) -> Result<Compared, CheckError>
         ensures tells { (start : Option (List ℕ)) (before : List ℕ) → IsEqualSoFar (comparison_of start (B.left report.old) self.old.comparison) before →
-            IfOk result (Tells start (before ++ (end_of (state_in self.old.checking).totals).text)) }
+            IfOk result (TellsDifference start (before ++ (end_of (checked_state self.old.checking).totals).text)) }
         ensures cause { result ≡ Err ReadFault → Rose (B.faults report.old) (B.faults report.new) }
     {
         let text = self.checking.end_text()?;
@@ -75,7 +75,7 @@ impl Check {
         report: &mut B,
     ) -> Result<Compared, CheckError>
         ensures tells { (start : Option (List ℕ)) (before : List ℕ) → IsEqualSoFar (comparison_of start (B.left report.old) self.old.comparison) before →
-            IfOk result (Tells start (before ++ fault_text line refusal)) }
+            IfOk result (TellsDifference start (before ++ fault_text line refusal)) }
         ensures cause { result ≡ Err ReadFault → Rose (B.faults report.old) (B.faults report.new) }
     {
         let text = fault_text(self.checking.alloc, line, &refusal)?;

@@ -1,8 +1,8 @@
 ghost use Rattle.std.specs.Prelude.{◌≡◌, ℕ, None, Some, map, IfOk};
 ghost use Rattle.heap_base.specs.Streams.{stream_of};
-ghost use Rattle.trace_run.specs.Outcome.{RefusesWords, seen};
-ghost use Rattle.report_check.specs.Checked.{IsChecked, usage_line, world};
-ghost use Rattle.report_check.specs.Reports.{Writes, line_of, status_of};
+ghost use Rattle.trace_run.specs.Outcome.{RefusesWords, outside_of};
+ghost use Rattle.report_check.specs.Checked.{IsChecked, usage_line, world_of};
+ghost use Rattle.report_check.specs.Reports.{Writes, comparison_line, comparison_status};
 ghost use Rattle.report_check.specs.Words.{paths_by};
 
 use crate::comparing::compare_reports;
@@ -29,12 +29,12 @@ pub fn check_run<A: Source, B: Source, K: Sink>(
     report: &mut B,
     sink: &mut K,
 ) -> Status
-    ensures taken { let old = world (stream_of A.left A.faults trace.old) (stream_of B.left B.faults report.old) (stream_of K.held K.faults sink.old) in
-        let new = world (stream_of A.left A.faults trace.new) (stream_of B.left B.faults report.new) (stream_of K.held K.faults sink.new) in
+    ensures taken { let old = world_of (stream_of A.left A.faults trace.old) (stream_of B.left B.faults report.old) (stream_of K.held K.faults sink.old) in
+        let new = world_of (stream_of A.left A.faults trace.new) (stream_of B.left B.faults report.new) (stream_of K.held K.faults sink.new) in
         (paths : ℕ) → paths_by (map (λ w. w.now) words.now) ≡ Some paths → IsChecked paths old new result }
     ensures refused { let source = stream_of A.left A.faults trace.old in
         paths_by (map (λ w. w.now) words.now) ≡ None →
-        (trace.new ≡ trace.old) × (report.new ≡ report.old) × RefusesWords usage_line (seen source (stream_of K.held K.faults sink.old)) (seen source (stream_of K.held K.faults sink.new)) result }
+        (trace.new ≡ trace.old) × (report.new ≡ report.old) × RefusesWords usage_line (outside_of source (stream_of K.held K.faults sink.old)) (outside_of source (stream_of K.held K.faults sink.new)) result }
 {
     let Some(paths) = paths_of(words) else {
         return refuse_words(USAGE, sink);
@@ -50,14 +50,14 @@ pub fn check_run<A: Source, B: Source, K: Sink>(
 fn tell<K: Sink>(alloc: Global, compared: Compared, sink: &mut K) -> Status
     ensures { Writes compared (stream_of K.held K.faults sink.old) (stream_of K.held K.faults sink.new) result }
 {
-    let Ok(line) = line_of(alloc, compared) else {
+    let Ok(line) = comparison_line(alloc, compared) else {
         return Status::NoMemory;
     };
-    write_once(&line, status_of(compared), sink)
+    write_once(&line, comparison_status(compared), sink)
 }
 
-fn status_of(compared: Compared) -> Status
-    ensures { result ≡ status_of compared }
+fn comparison_status(compared: Compared) -> Status
+    ensures { result ≡ comparison_status compared }
 {
     match compared {
         Compared::Equal => Status::Clean,
@@ -66,8 +66,8 @@ fn status_of(compared: Compared) -> Status
 }
 
 // The line that says how the two compare.
-fn line_of(alloc: Global, compared: Compared) -> Result<Vec<u8>, OutOfMemory>
-    ensures { IfOk result (λ line. line.items ≡ line_of compared) }
+fn comparison_line(alloc: Global, compared: Compared) -> Result<Vec<u8>, OutOfMemory>
+    ensures { IfOk result (λ line. line.items ≡ comparison_line compared) }
 {
     let mut line = Vec::new(alloc);
     match compared {

@@ -17,8 +17,8 @@ abbrev pub usage_line : List ℕ
 usage_line = codes "usage: gcresident [--workers N]\n"
 
 -- What stands after a run, by its status: the report is that of an audit.
-abbrev pub Ended : Outside → Outside → Status → Type 0
-Ended old new answer = outcome.Ended (trace_report LONGEST_TRACE (audit_report rules)) old new answer
+abbrev pub EndsAs : Outside → Outside → Status → Type 0
+EndsAs old new answer = outcome.EndsAs (trace_report LONGEST_TRACE (audit_report rules)) old new answer
 
 -- What was appended where the words of the command line are refused, by the status.
 abbrev pub RefusesWords : Outside → Outside → Status → Type 0

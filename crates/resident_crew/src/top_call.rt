@@ -1,9 +1,9 @@
 ghost use Rattle.std.specs.Prelude.{◌≡◌, ◌<◌, ℕ, None, Some, map};
 ghost use Rattle.heap_base.specs.declared.limits.TheConstants.{LONGEST_TRACE};
 ghost use Rattle.heap_base.specs.Streams.{stream_of};
-ghost use Rattle.trace_run.specs.Outcome.{seen};
+ghost use Rattle.trace_run.specs.Outcome.{outside_of};
 ghost use Rattle.trace_audit.specs.Auditors.{IsCollected};
-ghost use Rattle.resident_crew.specs.Outcome.{Ended, RefusesWords};
+ghost use Rattle.resident_crew.specs.Outcome.{EndsAs, RefusesWords};
 ghost use Rattle.resident_crew.specs.Words.{workers_by};
 
 use crate::collecting::collect_resident;
@@ -34,11 +34,11 @@ pub fn audit_resident<
     K: Sink,
     G: Gate + Send + Drop + 'static,
 >(rt: &R, alloc: Global, words: &[&str], source: &mut S, sink: &mut K, gate: Arc<G>) -> Status
-    ensures taken { let old = seen (stream_of S.left S.faults source.old) (stream_of K.held K.faults sink.old) in
-        let new = seen (stream_of S.left S.faults source.new) (stream_of K.held K.faults sink.new) in
-        (workers : ℕ) → workers_by (map (λ w. w.now) words.now) ≡ Some workers → Ended old new result }
-    ensures refused { let old = seen (stream_of S.left S.faults source.old) (stream_of K.held K.faults sink.old) in
-        let new = seen (stream_of S.left S.faults source.new) (stream_of K.held K.faults sink.new) in
+    ensures taken { let old = outside_of (stream_of S.left S.faults source.old) (stream_of K.held K.faults sink.old) in
+        let new = outside_of (stream_of S.left S.faults source.new) (stream_of K.held K.faults sink.new) in
+        (workers : ℕ) → workers_by (map (λ w. w.now) words.now) ≡ Some workers → EndsAs old new result }
+    ensures refused { let old = outside_of (stream_of S.left S.faults source.old) (stream_of K.held K.faults sink.old) in
+        let new = outside_of (stream_of S.left S.faults source.new) (stream_of K.held K.faults sink.new) in
         workers_by (map (λ w. w.now) words.now) ≡ None → (source.new ≡ source.old) × RefusesWords old new result }
 {
     let Some(workers) = workers_by(words) else {

@@ -7,7 +7,7 @@ use Rattle.heap_base.specs.Counting.{bit}
 use Rattle.heap_base.proofs.Counting.{total-le, total-ones}
 use Rattle.graph_meaning.specs.Roles.{RoleTable, AreRolesOf}
 use Rattle.graph_meaning.proofs.Membership.{length-filter_le}
-use Rattle.object_table.specs.Placed.{Placed, id_in}
+use Rattle.object_table.specs.Placed.{PlacedTable, id_in}
 use Rattle.scan_job.specs.Cells.{graph_of}
 use Rattle.scan_job.specs.Graphs.{StoppedGraph}
 use Rattle.scan_job.specs.Scans.{kind_count}
@@ -27,7 +27,7 @@ few-counted g kind xs =
     omega arith
 
 -- at most one object stands in a cell
-few-nodes : (p : Placed) (r : RoleTable) → length (traced_cells (graph_of p r)) ≤ length p.cells
+few-nodes : (p : PlacedTable) (r : RoleTable) → length (traced_cells (graph_of p r)) ≤ length p.cells
 few-nodes p r =
     let g = graph_of p r in
     let a = length-filter_le (is_traced g) g.nodes in
@@ -36,7 +36,7 @@ few-nodes p r =
     omega arith
 
 -- No type has more traced objects than there are cells.
-pub few-tallied : (p : Placed) (r : RoleTable) → AreRolesOf p.cells (length p.table.kinds) r → (js ms : List ScanState) → All IsNew js →
+pub few-tallied : (p : PlacedTable) (r : RoleTable) → AreRolesOf p.cells (length p.table.kinds) r → (js ms : List ScanState) → All IsNew js →
     ThreePhases (graph_of p r) js ms → AreWonOnce ms → (kind : ℕ) → all_tallies kind ms ≤ length p.cells
 few-tallied p r roles js ms new phases once kind =
     let g = graph_of p r in

@@ -1,6 +1,6 @@
 //! The job of a worker that stays: what it does over what it owns is what a scan job does over what is lent.
 ghost use Rattle.std.specs.Prelude.{◌≡◌};
-ghost use Rattle.scan_job.specs.States.{room_of, turns_of};
+ghost use Rattle.scan_job.specs.States.{wins_left, turns_of};
 
 use crate::scan::ResidentScan;
 use heap_base::Task;
@@ -24,13 +24,13 @@ impl Model for ResidentJob {
 
 impl Job<ResidentScan> for ResidentJob {
     ghost use Rattle.scan_job.specs.Jobs.{meaning_over};
-    ghost use Rattle.resident_trace.specs.Scans.{owned};
+    ghost use Rattle.resident_trace.specs.Scans.{shared_by_scan};
 
-    ghost meaning = { meaning_over owned };
+    ghost meaning = { meaning_over shared_by_scan };
 
     /// How many cells it may still win.
     fn room(&self) -> u64
-        ensures { result ≡ room_of self.now }
+        ensures { result ≡ wins_left self.now }
     {
         <ScanJob as Job<ScanShared<'static>>>::room(&self.scan)
     }

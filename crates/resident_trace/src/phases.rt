@@ -4,12 +4,12 @@ ghost use Rattle.std.specs.List.{All};
 ghost use Rattle.std.specs.Prelude.{◌≡◌, ◌+◌, ◌*◌, ◌^◌, ◌<◌, length, IfOk};
 ghost use Rattle.steal_pool.specs.Runs.{AreReady};
 ghost use Rattle.scan_job.specs.Jobs.{graph_in, shared_meaning};
-ghost use Rattle.scan_job.specs.Phases.{CanBegin, CanRun, HasRun, cells_in};
-ghost use Rattle.scan_job.specs.Shared.{lent};
+ghost use Rattle.scan_job.specs.Phases.{CanBeginPhase, CanRunJobs, HasRunJobs, cells_in};
+ghost use Rattle.scan_job.specs.Shared.{shared_behind};
 ghost use Rattle.scan_job.specs.States.{turns_of};
 ghost use Rattle.heap_trace.specs.TracedCells.{ThreePhases};
 ghost use Rattle.resident_rounds.specs.Crews.{workers_of};
-ghost use Rattle.resident_trace.specs.Scans.{owned};
+ghost use Rattle.resident_trace.specs.Scans.{shared_by_scan};
 
 use crate::job::ResidentJob;
 use crate::scan::ResidentScan;
@@ -40,11 +40,11 @@ pub fn run_phases<R: Wait, G: Gate + Send + Drop + 'static>(
     mut jobs: Vec<ScanJob>,
     mut first: FirstTasks,
 ) -> Result<Vec<ScanJob>, OutOfMemory>
-    requires begin { CanBegin (owned (arc_value context.now.shared.now)) jobs.items first }
+    requires begin { CanBeginPhase (shared_by_scan (arc_value context.now.shared.now)) jobs.items first }
     requires turns { All (λ j. 3 * 2 ^ 25 + 3 < turns_of j) jobs.items }
     requires jobs { length jobs.items ≡ workers_of crew.old }
-    ensures phases { IfOk result (λ ms. ThreePhases (graph_in (owned (arc_value context.now.shared.now))) jobs.items ms.items) }
-    ensures ready { IfOk result (λ ms. AreReady shared_meaning (owned (arc_value context.now.shared.now)) ms.items) }
+    ensures phases { IfOk result (λ ms. ThreePhases (graph_in (shared_by_scan (arc_value context.now.shared.now))) jobs.items ms.items) }
+    ensures ready { IfOk result (λ ms. AreReady shared_meaning (shared_by_scan (arc_value context.now.shared.now)) ms.items) }
     ensures workers { workers_of crew.new ≡ workers_of crew.old }
 {
     let shared = context.shared;
@@ -57,7 +57,7 @@ pub fn run_phases<R: Wait, G: Gate + Send + Drop + 'static>(
 }
 
 fn lend(shared: &Arc<ResidentScan>) -> ScanShared<'_>
-    ensures { lent result ≡ owned (arc_value shared.now) }
+    ensures { shared_behind result ≡ shared_by_scan (arc_value shared.now) }
 {
     shared.lend()
 }
@@ -69,9 +69,9 @@ fn run_jobs<R: Wait, G: Gate + Send + Drop + 'static>(
     jobs: Vec<ScanJob>,
     first: &FirstTasks,
 ) -> Result<Vec<ScanJob>, OutOfMemory>
-    requires can { CanRun (owned (arc_value context.now.shared.now)) (record { jobs = jobs.items; first = first.now.lists }) (2 * cells_in (owned (arc_value context.now.shared.now)) + 1) }
+    requires can { CanRunJobs (shared_by_scan (arc_value context.now.shared.now)) (record { jobs = jobs.items; first = first.now.lists }) (2 * cells_in (shared_by_scan (arc_value context.now.shared.now)) + 1) }
     requires jobs { length jobs.items ≡ workers_of crew.old }
-    ensures ran { IfOk result (λ ks. HasRun (owned (arc_value context.now.shared.now)) (record { jobs = jobs.items; first = first.now.lists }) ks.items) }
+    ensures ran { IfOk result (λ ks. HasRunJobs (shared_by_scan (arc_value context.now.shared.now)) (record { jobs = jobs.items; first = first.now.lists }) ks.items) }
     ensures workers { workers_of crew.new ≡ workers_of crew.old }
 {
     let jobs = wrap(context.alloc, jobs)?;

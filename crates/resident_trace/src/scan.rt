@@ -1,7 +1,7 @@
 //! What the workers of a trace share.
 ghost use Rattle.std.specs.Prelude.{◌≡◌};
-ghost use Rattle.resident_trace.specs.Scans.{owned};
-ghost use Rattle.scan_job.specs.Shared.{lent};
+ghost use Rattle.resident_trace.specs.Scans.{shared_by_scan};
+ghost use Rattle.scan_job.specs.Shared.{shared_behind};
 
 use graph_meaning::Roles;
 use header_rule::Headers;
@@ -19,7 +19,7 @@ pub struct ResidentScan {
 impl ResidentScan {
     /// The same, borrowed.
     pub fn lend(&self) -> ScanShared<'_>
-        ensures { lent result ≡ owned self.now }
+        ensures { shared_behind result ≡ shared_by_scan self.now }
     {
         ScanShared {
             headers: &self.headers,

@@ -8,7 +8,7 @@ ghost use Rattle.heap_trace.specs.Results.{IsByCounts};
 ghost use Rattle.heap_trace.specs.Traces.{IsTraceOf, CountsReferences};
 ghost use Rattle.object_table.specs.Placed.{IsPlaced};
 ghost use Rattle.resident_rounds.specs.Crews.{workers_of};
-ghost use Rattle.resident_trace.specs.Scans.{owned};
+ghost use Rattle.resident_trace.specs.Scans.{shared_by_scan};
 
 use crate::phases::{TraceContext, TraceCrew, run_phases};
 use crate::scan::ResidentScan;
@@ -68,7 +68,7 @@ fn share(
     table: &ObjectTable,
     roles: &Roles,
 ) -> Result<Arc<ResidentScan>, OutOfMemory>
-    ensures { IfOk result (λ s. owned (arc_value s) ≡ record { headers = headers; table = table.now; roles = roles.now }) }
+    ensures { IfOk result (λ s. shared_by_scan (arc_value s) ≡ record { headers = headers; table = table.now; roles = roles.now }) }
 {
     let scan = ResidentScan {
         headers,

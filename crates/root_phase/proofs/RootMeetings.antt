@@ -10,11 +10,11 @@ use Rattle.heap_base.specs.declared.task.Task.{Task}
 use Rattle.graph_meaning.proofs.Membership.{length-filter_le}
 use Rattle.object_table.specs.Placed.{id_in, cell_of}
 use Rattle.header_rule.specs.Passes.{adds, wins}
-use Rattle.scan_job.specs.Shared.{Shared}
+use Rattle.scan_job.specs.Shared.{SharedHeap}
 use Rattle.scan_job.specs.Fit.{no_owners}
 use Rattle.scan_job.specs.Graphs.{StoppedGraph}
 use Rattle.scan_job.specs.Jobs.{graph_in, IsReadyFor}
-use Rattle.scan_job.specs.Phases.{cells_in, put_last, dealt, root_firsts}
+use Rattle.scan_job.specs.Phases.{cells_in, put_last, task_lists, root_firsts}
 use Rattle.scan_job.specs.Scans.{one_meeting, Meets, task_at}
 use Rattle.scan_job.specs.States.{ScanState, IsWithinWins, turns_of}
 use Rattle.scan_job.proofs.Dealing.{dealt-room, dealt-snoc}
@@ -32,7 +32,7 @@ length-filter_map h (x ∷ xs) = go (h x) (length-filter_map h xs)
     go (Some y) r = omega arith
 
 -- before the first root
-pub meets-no_roots : (s : Shared) (n : ℕ) (j : ScanState) (fs : List (List Task)) → fs ≡ replicate n [] →
+pub meets-no_roots : (s : SharedHeap) (n : ℕ) (j : ScanState) (fs : List (List Task)) → fs ≡ replicate n [] →
     (r : MeetsRoots s 0 (record { job = j; lists = fs }) (record { job = j; lists = fs })) × (0 ≡ length (root_firsts (graph_in s) r.won))
 meets-no_roots s n j fs none = (
   record {
@@ -45,7 +45,7 @@ meets-no_roots s n j fs none = (
 )
 
 -- the meetings with the first roots use up few of the meets that are left
-pub turns-left : (s : Shared) (roots : ℕ) (old new : JobAndLists) → MeetsRoots s roots old new → roots ≤ MOST_ROOTS → turns_of old.job ≤ turns_of new.job + 1
+pub turns-left : (s : SharedHeap) (roots : ℕ) (old new : JobAndLists) → MeetsRoots s roots old new → roots ≤ MOST_ROOTS → turns_of old.job ≤ turns_of new.job + 1
 turns-left s roots old new p few =
     let met = ap length p.meets.adds in
     let sum = length-append (adds old.job.pass) (first_roots s.table roots) in
@@ -73,14 +73,14 @@ firsts-more g won cell b put is =
     one true false = refl
 
 -- One root more: the job that met it, and whether the scan goes on from its cell.
-pub record NextRoot (s : Shared) (roots cell : ℕ) (goes_on : Bool) (j k : ScanState) : Type 0 where
+pub record NextRoot (s : SharedHeap) (roots cell : ℕ) (goes_on : Bool) (j k : ScanState) : Type 0 where
   pub within : roots < length s.table.table.roots
   pub names : IfSome (slice_get s.table.table.roots roots) (λ n. id_in s.table cell ≡ Some n.1)
   pub meets : MeetsRoot s (record { cell = cell; goes_on = goes_on }) j k
   pub ready : IsReadyFor k s
   pub within_wins : IsWithinWins k
 
-module _ (s : Shared) (roots cell : ℕ) (goes_on : Bool) (old now : JobAndLists) (next : ScanState) (p : MeetsRoots s roots old now) (q : NextRoot s roots cell goes_on now.job next) where
+module _ (s : SharedHeap) (roots cell : ℕ) (goes_on : Bool) (old now : JobAndLists) (next : ScanState) (p : MeetsRoots s roots old now) (q : NextRoot s roots cell goes_on now.job next) where
   abbrev g : StoppedGraph
   g = graph_in s
 
@@ -109,7 +109,7 @@ module _ (s : Shared) (roots cell : ℕ) (goes_on : Bool) (old now : JobAndLists
         firsts-more g p.won cell q.meets.won goes_on q.meets.scanned ∙ ap (λ b. root_firsts g p.won ++ cond b (task_at 0 cell ∷ []) []) stops in
         let l = ap length same in
         let a = length-append (root_firsts g p.won) [] in
-        (record { won = won_more; meets = met-more; few = few-more; lists = p.lists ∙ ap (dealt (length old.lists)) (sym (same ∙ append-nil (root_firsts g p.won))) }, omega arith)
+        (record { won = won_more; meets = met-more; few = few-more; lists = p.lists ∙ ap (task_lists (length old.lists)) (sym (same ∙ append-nil (root_firsts g p.won))) }, omega arith)
 
     module _ (goes : goes_on ≡ true) where
       more : root_firsts g won_more ≡ root_firsts g p.won ++ task_at 0 cell ∷ []
@@ -129,7 +129,7 @@ module _ (s : Shared) (roots cell : ℕ) (goes_on : Bool) (old now : JobAndLists
       has-room room some enough =
           let l = le-times n room some in
           let b = below in
-          dealt-room n room number now.lists (root_firsts g p.won) some count (p.lists ∙ ap (λ m. dealt m (root_firsts g p.won)) (sym workers)) (omega arith)
+          dealt-room n room number now.lists (root_firsts g p.won) some count (p.lists ∙ ap (λ m. task_lists m (root_firsts g p.won)) (sym workers)) (omega arith)
 
       pub goes-on : (fs : List (List Task)) → fs ≡ put_last now.lists (number % n) (task_at 0 cell) →
           (r : MeetsRoots s (roots + 1) old (record { job = next; lists = fs })) × (number + 1 ≡ length (root_firsts g r.won))
@@ -141,8 +141,8 @@ module _ (s : Shared) (roots cell : ℕ) (goes_on : Bool) (old now : JobAndLists
               meets = met-more;
               few = few-more;
               lists =
-                  dealt-snoc n number now.lists fs (root_firsts g p.won) (task_at 0 cell) count (p.lists ∙ ap (λ m. dealt m (root_firsts g p.won)) (sym workers)) is
-                  ∙ ap (dealt n) (sym more) ∙ ap (λ m. dealt m (root_firsts g won_more)) workers;
+                  dealt-snoc n number now.lists fs (root_firsts g p.won) (task_at 0 cell) count (p.lists ∙ ap (λ m. task_lists m (root_firsts g p.won)) (sym workers)) is
+                  ∙ ap (task_lists n) (sym more) ∙ ap (λ m. task_lists m (root_firsts g won_more)) workers;
             },
             omega arith,
           )

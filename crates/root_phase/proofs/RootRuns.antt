@@ -7,12 +7,12 @@ use Rattle.graph_meaning.proofs.Membership.{length-filter_le}
 use Rattle.steal_pool.specs.FirstLists.{FirstLists}
 use Rattle.steal_pool.specs.Runs.{most_tasks, AreReady, TurnsLast}
 use Rattle.scan_job.specs.declared.mode.Mode.TheVariants.{Root}
-use Rattle.scan_job.specs.Shared.{Shared}
+use Rattle.scan_job.specs.Shared.{SharedHeap}
 use Rattle.object_table.specs.Placed.{cell_of}
 use Rattle.scan_job.specs.Fit.{no_owners}
 use Rattle.scan_job.specs.Graphs.{StoppedGraph, IsWhole}
 use Rattle.scan_job.specs.Jobs.{graph_in, IsReadyFor, shared_meaning}
-use Rattle.scan_job.specs.Phases.{cells_in, CanBegin, HasBegun, begun, dealt, root_firsts, BeginsAtRoots, from_roots}
+use Rattle.scan_job.specs.Phases.{cells_in, CanBeginPhase, HasBegun, starting_in, task_lists, root_firsts, BeginsAtRoots, from_roots}
 use Rattle.scan_job.specs.Scans.{Meets, task_at}
 use Rattle.scan_job.specs.States.{ScanState, turns_of}
 use Rattle.scan_job.proofs.Gaining.{run-modes, root_meeting, roots-fit, root-phase}
@@ -26,25 +26,26 @@ all-set : {X : Type 0} (P : X → Type 0) (x : X) (xs : List X) → P x → All 
 all-set P x [] here all = all
 all-set P x (y ∷ xs) here all = all-cons P x xs here (all-tail P y xs all)
 
-first-last : (n m : ℕ) (js ks : List ScanState) (j k : ScanState) → n + 1 ≤ m → j ≡ get_or (map (begun Root) js) 0 j →
-    turns_of j ≤ turns_of k + 1 → TurnsLast shared_meaning n (set (map (begun Root) js) 0 k) ks → TurnsLast shared_meaning m js ks
+first-last : (n m : ℕ) (js ks : List ScanState) (j k : ScanState) → n + 1 ≤ m → j ≡ get_or (map (starting_in Root) js) 0 j →
+    turns_of j ≤ turns_of k + 1 → TurnsLast shared_meaning n (set (map (starting_in Root) js) 0 k) ks → TurnsLast shared_meaning m js ks
 first-last n m [] ks j k enough is met last = last
 first-last n m (i ∷ js) [] j k enough is met last = absurd last
 first-last n m (i ∷ js) (l ∷ ks) j k enough is met last =
     (let a = last.0 in let b = ap turns_of is in omega arith, begun-last Root n m js ks (omega arith) last.1)
 
 -- the first of jobs that have begun the phase is ready
-pub first-of-begun : (s : Shared) (js begins : List ScanState) (j : ScanState) → 0 < length js → AreReady shared_meaning s js → begins ≡ map (begun Root) js → j ≡ get_or begins 0 j → IsReadyFor j s
+pub first-of-begun : (s : SharedHeap) (js begins : List ScanState) (j : ScanState) → 0 < length js → AreReady shared_meaning s js →
+    begins ≡ map (starting_in Root) js → j ≡ get_or begins 0 j → IsReadyFor j s
 first-of-begun s js begins j some ready are_begun is =
-    let l = ap length are_begun ∙ length-map js (begun Root) in
+    let l = ap length are_begun ∙ length-map js (starting_in Root) in
     let all = subst (λ zs. AreReady shared_meaning s zs) (sym are_begun) (begun-ready s Root js ready) in
     subst (λ z. IsReadyFor z s) (sym is) (all 0 j (omega arith))
 
 -- A phase from the roots, whose first job met them.
-pub record RootStart (s : Shared) (js : List ScanState) (first : FirstLists) : Type 0 where
-  pub can : CanBegin s js first
+pub record RootStart (s : SharedHeap) (js : List ScanState) (first : FirstLists) : Type 0 where
+  pub can : CanBeginPhase s js first
   pub begins : List ScanState
-  pub are_begun : begins ≡ map (begun Root) js
+  pub are_begun : begins ≡ map (starting_in Root) js
   pub old : JobAndLists
   pub new : JobAndLists
   pub is_first : old.job ≡ get_or begins 0 old.job
@@ -52,7 +53,7 @@ pub record RootStart (s : Shared) (js : List ScanState) (first : FirstLists) : T
   pub met : MeetsRoots s (length s.table.table.roots) old new
   pub ready : IsReadyFor new.job s
 
-module _ (s : Shared) (js : List ScanState) (first : FirstLists) (p : RootStart s js first) where
+module _ (s : SharedHeap) (js : List ScanState) (first : FirstLists) (p : RootStart s js first) where
   abbrev g : StoppedGraph
   g = graph_in s
 
@@ -63,16 +64,16 @@ module _ (s : Shared) (js : List ScanState) (first : FirstLists) (p : RootStart 
   met-roots =
       subst (λ xs. Meets g (record { tag = 0; cells = filter_map (λ root. cell_of s.table root.1) xs; won = p.met.won }) p.old.job p.new.job) (take-length s.table.table.roots) p.met.meets
 
-  first-begun : p.old.job ≡ get_or (map (begun Root) js) 0 p.old.job
+  first-begun : p.old.job ≡ get_or (map (starting_in Root) js) 0 p.old.job
   first-begun = p.is_first ∙ ap (λ zs. get_or zs 0 p.old.job) p.are_begun
 
-  lists : p.new.lists ≡ dealt (length js) (root_firsts g p.met.won)
-  lists = p.met.lists ∙ ap (λ n. dealt n (root_firsts g p.met.won)) p.workers
+  lists : p.new.lists ≡ task_lists (length js) (root_firsts g p.met.won)
+  lists = p.met.lists ∙ ap (λ n. task_lists n (root_firsts g p.met.won)) p.workers
 
   old-turns : 2 ^ 25 < turns_of p.old.job
   old-turns =
-      let all = all-map (begun Root) (λ j. 2 ^ 25 < turns_of j) (λ j. 2 ^ 25 < turns_of j) (λ j l. l) js p.can.turns in
-      let l = length-map js (begun Root) in
+      let all = all-map (starting_in Root) (λ j. 2 ^ 25 < turns_of j) (λ j. 2 ^ 25 < turns_of j) (λ j l. l) js p.can.turns in
+      let l = length-map js (starting_in Root) in
       let a = p.can.some in
       subst (λ j. 2 ^ 25 < turns_of j) (sym first-begun) (all 0 p.old.job (omega arith))
 
@@ -81,18 +82,18 @@ module _ (s : Shared) (js : List ScanState) (first : FirstLists) (p : RootStart 
       turns-left s (length s.table.table.roots) p.old p.new p.met p.ready.sound.limits.roots
 
   abbrev starts : List ScanState
-  starts = set (map (begun Root) js) 0 p.new.job
+  starts = set (map (starting_in Root) js) 0 p.new.job
 
   many : length starts ≡ length js
-  many = length-set (map (begun Root) js) 0 p.new.job ∙ length-map js (begun Root)
+  many = length-set (map (starting_in Root) js) 0 p.new.job ∙ length-map js (starting_in Root)
 
   start : IsStart s Root (length js) starts (root_firsts g p.met.won)
   start = record {
-    ready = all-set (λ j. IsReadyFor j s) p.new.job (map (begun Root) js) p.ready (begun-ready s Root js p.can.ready);
-    modes = all-set (λ j. j.mode ≡ Root) p.new.job (map (begun Root) js) (met-roots.mode ∙ first-mode) (begun-modes s Root js);
+    ready = all-set (λ j. IsReadyFor j s) p.new.job (map (starting_in Root) js) p.ready (begun-ready s Root js p.can.ready);
+    modes = all-set (λ j. j.mode ≡ Root) p.new.job (map (starting_in Root) js) (met-roots.mode ∙ first-mode) (begun-modes s Root js);
     turns =
-        all-set (λ j. 2 ^ 25 ≤ turns_of j) p.new.job (map (begun Root) js) (let a = old-turns in let b = turns-met in omega arith)
-        (all-map (begun Root) (λ j. 2 ^ 25 < turns_of j) (λ j. 2 ^ 25 ≤ turns_of j) (λ j l. omega arith) js p.can.turns);
+        all-set (λ j. 2 ^ 25 ≤ turns_of j) p.new.job (map (starting_in Root) js) (let a = old-turns in let b = turns-met in omega arith)
+        (all-map (starting_in Root) (λ j. 2 ^ 25 < turns_of j) (λ j. 2 ^ 25 ≤ turns_of j) (λ j l. omega arith) js p.can.turns);
     jobs = many;
     some = p.can.some;
     few_jobs = p.can.few;
@@ -107,7 +108,7 @@ module _ (s : Shared) (js : List ScanState) (first : FirstLists) (p : RootStart 
     where
       first-mode : p.old.job.mode ≡ Root
       first-mode =
-          let l = length-map js (begun Root) in
+          let l = length-map js (starting_in Root) in
           let a = p.can.some in
           subst (λ j. j.mode ≡ Root) (sym first-begun) (begun-modes s Root js 0 p.old.job (omega arith))
 

@@ -4,7 +4,7 @@ ghost use Rattle.object_table.specs.Placed.{id_in};
 ghost use Rattle.scan_job.specs.declared.mode.Mode.TheVariants.{Root};
 ghost use Rattle.scan_job.specs.Jobs.{IsReady};
 ghost use Rattle.scan_job.specs.Phases.{cells_in};
-ghost use Rattle.scan_job.specs.Shared.{lent};
+ghost use Rattle.scan_job.specs.Shared.{shared_behind};
 ghost use Rattle.scan_job.specs.States.{IsWithinWins, turns_of};
 ghost use Rattle.root_phase.specs.Roots.{MeetsRoot, MeetsRoots};
 
@@ -18,7 +18,7 @@ fn meet_one(shared: &ScanShared<'_>, job: &mut ScanJob, cell: u32) -> bool
     requires mode { job.old.mode ≡ Root }
     requires turns { 0 < turns_of job.old }
     requires cell { IsSome (id_in shared.now.table.now cell) }
-    ensures meets { MeetsRoot (lent shared.now) (record { cell = cell; goes_on = result }) job.old job.new }
+    ensures meets { MeetsRoot (shared_behind shared.now) (record { cell = cell; goes_on = result }) job.old job.new }
     ensures ready { IsReady job.new shared.now }
     ensures within_wins { IsWithinWins job.new }
 {
@@ -34,8 +34,8 @@ pub fn meet_roots(shared: &ScanShared<'_>, job: &mut ScanJob, first: &mut FirstT
     requires mode { job.old.mode ≡ Root }
     requires turns { 1 < turns_of job.old }
     requires lists { first.old.lists ≡ replicate workers [] }
-    requires room { cells_in (lent shared.now) ≤ first.old.room }
-    ensures met { MeetsRoots (lent shared.now) (length shared.now.table.now.table.roots) (record { job = job.old; lists = first.old.lists }) (record { job = job.new; lists = first.new.lists }) }
+    requires room { cells_in (shared_behind shared.now) ≤ first.old.room }
+    ensures met { MeetsRoots (shared_behind shared.now) (length shared.now.table.now.table.roots) (record { job = job.old; lists = first.old.lists }) (record { job = job.new; lists = first.new.lists }) }
     ensures ready { IsReady job.new shared.now }
     ensures room { first.new.room ≡ first.old.room }
 {

@@ -1,8 +1,8 @@
 //! The scans from the roots.
 ghost use Rattle.std.specs.Prelude.{◌≡◌, [], length};
 ghost use Rattle.scan_job.specs.Jobs.{shared_graph};
-ghost use Rattle.scan_job.specs.Phases.{CanBegin, CanScan, HasBegun, IsDone, from_roots, all_held, BeginsAtRoots};
-ghost use Rattle.scan_job.specs.Shared.{lent};
+ghost use Rattle.scan_job.specs.Phases.{CanBeginPhase, CanScan, HasBegun, IsDone, from_roots, all_held, BeginsAtRoots};
+ghost use Rattle.scan_job.specs.Shared.{shared_behind};
 ghost use Rattle.steal_pool.specs.Runs.{workers_of, room_of};
 
 use crate::meeting::meet_roots;
@@ -15,8 +15,8 @@ use steal_pool::{Crew, FirstTasks};
 /// is no owner is a first task. Such a win number k, from 0, goes first to worker k modulo the number of workers. What the
 /// jobs held before is taken away. It takes no memory.
 pub fn begin_root_phase(shared: &ScanShared<'_>, jobs: &mut Vec<ScanJob>, first: &mut FirstTasks)
-    requires { CanBegin (lent shared.now) jobs.old.items first.old }
-    ensures begun { HasBegun (lent shared.now) from_roots jobs.old.items (record { jobs = jobs.new.items; first = first.new.lists }) }
+    requires { CanBeginPhase (shared_behind shared.now) jobs.old.items first.old }
+    ensures begun { HasBegun (shared_behind shared.now) from_roots jobs.old.items (record { jobs = jobs.new.items; first = first.new.lists }) }
     ensures first { BeginsAtRoots (shared_graph shared.now) (length jobs.old.items) first.new.lists }
     ensures first_room { first.new.room ≡ first.old.room }
 {
@@ -39,7 +39,7 @@ pub fn root_phase<R: Threads + Sync, G: Gate>(
     gate: &G,
 )
     requires { CanScan shared.now jobs.old.items crew.old first.old }
-    ensures done { IsDone (lent shared.now) from_roots jobs.old.items jobs.new.items }
+    ensures done { IsDone (shared_behind shared.now) from_roots jobs.old.items jobs.new.items }
     ensures none_held { all_held jobs.new.items ≡ [] }
     ensures first { BeginsAtRoots (shared_graph shared.now) (workers_of crew.old) first.new.lists }
     ensures first_room { first.new.room ≡ first.old.room }

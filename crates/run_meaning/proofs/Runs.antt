@@ -12,7 +12,7 @@ use Rattle.graph_meaning.specs.Heap.{Heap}
 use Rattle.graph_meaning.specs.Step.{step}
 use Rattle.graph_meaning.specs.Collecting.{Rules, collection_of, after_collection}
 use Rattle.trace_reader.specs.Meaning.{Item, blank, event, refused}
-use Rattle.run_meaning.specs.Run.{RunRules, collection_rules, Totals, RunState, Turn, Ran, Ending, violations_of, with_collections, turn_to}
+use Rattle.run_meaning.specs.Run.{RunRules, collection_rules, Totals, RunState, Turn, RunResult, Ending, violations_of, with_collections, turn_to}
 use Rattle.run_meaning.specs.Run.{turn_by_step, turn, turn_of_item, end_of_trace, refused_line, halted, empty_run, with_earlier, halts, after_turn}
 use Rattle.run_meaning.specs.Run.{by_turn, run, last_status, run_status}
 
@@ -38,7 +38,7 @@ with_collections-append t xs ys =
 
 -- ---- collections before a run
 
-pub run_status-with_earlier : (before : Totals) (made : List Collection) (r : Ran) → run_status before (with_earlier made r) ≡ run_status (with_collections before made) r
+pub run_status-with_earlier : (before : Totals) (made : List Collection) (r : RunResult) → run_status before (with_earlier made r) ≡ run_status (with_collections before made) r
 unfolding run_status
 run_status-with_earlier before made r =
     ap (λ (t : Totals). last_status t r.ending) (with_collections-append before made r.collections)
@@ -108,11 +108,11 @@ unfolding run
 run-turns rules s item t items is = ap (λ o. by_turn rules.react (s.lines + 1) o (λ next. run rules next items)) is
 
 -- behind a turn a run goes on, or halts
-turn-goes_on : (react : React) (t : Turn) (go_on : RunState → Ran) → halts react t.collections ≡ false → after_turn react t go_on ≡ with_earlier t.collections (go_on t.state)
+turn-goes_on : (react : React) (t : Turn) (go_on : RunState → RunResult) → halts react t.collections ≡ false → after_turn react t go_on ≡ with_earlier t.collections (go_on t.state)
 turn-goes_on react t go_on is =
     ap (λ b. with_earlier t.collections (cond b (empty_run (halted t.state.totals.collections (violations_of t.collections))) (go_on t.state))) is
 
-turn-halts : (react : React) (t : Turn) (go_on : RunState → Ran) → halts react t.collections ≡ true →
+turn-halts : (react : React) (t : Turn) (go_on : RunState → RunResult) → halts react t.collections ≡ true →
     after_turn react t go_on ≡ with_earlier t.collections (empty_run (halted t.state.totals.collections (violations_of t.collections)))
 turn-halts react t go_on is =
     ap (λ b. with_earlier t.collections (cond b (empty_run (halted t.state.totals.collections (violations_of t.collections))) (go_on t.state))) is

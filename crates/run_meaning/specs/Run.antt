@@ -115,16 +115,16 @@ is_at_end (refused_line line r) = false
 is_at_end (halted collection violations) = false
 
 -- What a run did: the collections that it made, in order, and how it ended.
-pub record Ran : Type 0 where
+pub record RunResult : Type 0 where
   pub collections : List Collection
   pub ending : Ending
 
 -- a run that makes no collection and ends so
-abbrev pub empty_run : Ending → Ran
+abbrev pub empty_run : Ending → RunResult
 empty_run ending = record { collections = []; ending = ending }
 
 -- the run with these collections before its own
-abbrev pub with_earlier : List Collection → Ran → Ran
+abbrev pub with_earlier : List Collection → RunResult → RunResult
 with_earlier earlier ran = record { collections = earlier ++ ran.collections; ending = ran.ending }
 
 -- whether a run halts behind these collections: it does so behind the first that has a violation
@@ -132,18 +132,18 @@ abbrev pub halts : React → List Collection → Bool
 halts react made = is_halt react && nat_lt 0 (violations_of made)
 
 -- the run that goes on from a turn, unless it halts
-abbrev pub after_turn : React → Turn → (RunState → Ran) → Ran
+abbrev pub after_turn : React → Turn → (RunState → RunResult) → RunResult
 after_turn react t go_on =
     with_earlier t.collections
     (if halts react t.collections then empty_run (halted t.state.totals.collections (violations_of t.collections)) else go_on t.state)
 
 -- the run that goes on from a turn, or ends at this line where the turn is refused
-abbrev pub by_turn : React → ℕ → Result Turn Refusal → (RunState → Ran) → Ran
+abbrev pub by_turn : React → ℕ → Result Turn Refusal → (RunState → RunResult) → RunResult
 by_turn react line (Ok t) go_on = after_turn react t go_on
 by_turn react line (Err r) go_on = empty_run (refused_line line r)
 
 -- The run of these items from a state. It ends at the first line that is refused, or where it halts.
-unfoldable pub run : RunRules → RunState → List Item → Ran
+unfoldable pub run : RunRules → RunState → List Item → RunResult
 run rules s [] = empty_run end_of_trace
 run rules s (item ∷ items) =
     by_turn rules.react (s.lines + 1) (turn_of_item (collection_rules rules) s item) (λ next. run rules next items)
@@ -157,7 +157,7 @@ last_status totals (halted collection violations) = Violated
 
 -- The status that a run ends with, where collections of these totals came before it: a line was refused, or some
 -- assertion was violated, or neither.
-unfoldable pub run_status : Totals → Ran → Status
+unfoldable pub run_status : Totals → RunResult → Status
 run_status before ran = last_status (with_collections before ran.collections) ran.ending
 
 -- ---- from the beginning of a trace

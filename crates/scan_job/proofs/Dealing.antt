@@ -8,7 +8,7 @@ use Rattle.heap_base.specs.declared.task.Task.{Task}
 use Rattle.heap_base.specs.Counting.{total, AsOften}
 use Rattle.heap_base.proofs.Counting.{total-append, total-flat_map, total-ones, total-same}
 use Rattle.steal_pool.specs.Runs.{all_first}
-use Rattle.scan_job.specs.Phases.{put_last, deal, dealt}
+use Rattle.scan_job.specs.Phases.{put_last, deal, task_lists}
 
 -- ---- one task more
 
@@ -24,14 +24,14 @@ deal-snoc n k fs (u ∷ ts) t =
     ∙ ap (λ m. put_last (deal n (k + 1) (put_last fs (k % n) u) ts) (m % n) t) (let e : k + 1 + length ts ≡ k + suc (length ts) = omega arith in e)
 
 -- a task that is put last in its list is dealt
-pub dealt-snoc : (n number : ℕ) (fs gs : List (List Task)) (ts : List Task) (t : Task) → number ≡ length ts → fs ≡ dealt n ts → gs ≡ put_last fs (number % n) t → gs ≡ dealt n (ts ++ t ∷ [])
+pub dealt-snoc : (n number : ℕ) (fs gs : List (List Task)) (ts : List Task) (t : Task) → number ≡ length ts → fs ≡ task_lists n ts → gs ≡ put_last fs (number % n) t → gs ≡ task_lists n (ts ++ t ∷ [])
 dealt-snoc n number fs gs ts t count e is =
     is
     ∙ ap (λ hs. put_last hs (number % n) t) e
-    ∙ ap (λ m. put_last (dealt n ts) (m % n) t) (let z : number ≡ 0 + length ts = omega arith in z)
+    ∙ ap (λ m. put_last (task_lists n ts) (m % n) t) (let z : number ≡ 0 + length ts = omega arith in z)
     ∙ sym (deal-snoc n 0 (replicate n []) ts t)
 
-pub length-dealt : (n : ℕ) (ts : List Task) → length (dealt n ts) ≡ n
+pub length-dealt : (n : ℕ) (ts : List Task) → length (task_lists n ts) ≡ n
 length-dealt n ts = length-deal n 0 (replicate n []) ts ∙ length-replicate n []
 
 -- ---- what the lists hold together
@@ -61,17 +61,17 @@ none-first : (h : Task → ℕ) (n : ℕ) → total h (all_first (replicate n []
 none-first h zero = refl
 none-first h (suc n) = none-first h n
 
-pub dealt-as_often : (n : ℕ) (ts : List Task) → 0 < n → AsOften (all_first (dealt n ts)) ts
+pub dealt-as_often : (n : ℕ) (ts : List Task) → 0 < n → AsOften (all_first (task_lists n ts)) ts
 dealt-as_often n ts some h =
     let a = deal-total h n 0 (replicate n []) ts some (length-replicate n []) in
     let b = none-first h n in
     omega arith
 
 -- how many there are in all lists
-pub dealt-length : (n : ℕ) (ts : List Task) → 0 < n → total length (dealt n ts) ≡ length ts
+pub dealt-length : (n : ℕ) (ts : List Task) → 0 < n → total length (task_lists n ts) ≡ length ts
 dealt-length n ts some =
-    total-same length (λ f. total (λ _. 1) f) (λ f. sym (total-ones f)) (dealt n ts)
-    ∙ sym (total-flat_map (λ _. 1) (λ (f : List Task). f) (dealt n ts))
+    total-same length (λ f. total (λ _. 1) f) (λ f. sym (total-ones f)) (task_lists n ts)
+    ∙ sym (total-flat_map (λ _. 1) (λ (f : List Task). f) (task_lists n ts))
     ∙ dealt-as_often n ts some (λ _. 1)
     ∙ total-ones ts
 
@@ -99,7 +99,7 @@ all-snoc Q [] t all q = (q, tt)
 all-snoc Q (u ∷ f) t all q = (all.0, all-snoc Q f t all.1 q)
 
 -- what is so of each task is so of each in the lists
-pub dealt-all : (Q : Task → Type 0) (n : ℕ) (ts : List Task) → AllByRecursion Q ts → All (AllByRecursion Q) (dealt n ts)
+pub dealt-all : (Q : Task → Type 0) (n : ℕ) (ts : List Task) → AllByRecursion Q ts → All (AllByRecursion Q) (task_lists n ts)
 dealt-all Q n ts each =
     deal-all (AllByRecursion Q) Q (all-snoc Q) n 0 (replicate n []) ts
     (λ k d within. subst (AllByRecursion Q) (sym (get_or-replicate n k [] d (let l = length-replicate {A = List Task} n [] in omega arith))) tt)
@@ -145,7 +145,7 @@ deal-shares n k fs (t ∷ ts) some e shares w within =
     let r = deal-shares n (k + 1) (put_last fs (k % n) t) ts some (length-set fs (k % n) (get_or fs (k % n) [] ++ t ∷ []) ∙ e) (shares-step n k fs t some e shares) w within in
     omega arith
 
-dealt-shares : (n : ℕ) (ts : List Task) → 0 < n → HaveShares n (length ts) (dealt n ts)
+dealt-shares : (n : ℕ) (ts : List Task) → 0 < n → HaveShares n (length ts) (task_lists n ts)
 dealt-shares n ts some w within =
     let none : HaveShares n 0 (replicate n []) =
     (λ v below. let z : n * length (get_or (replicate n []) v []) ≡ n * 0 = ap (λ (f : List Task). n * length f) (get_or-replicate n v [] [] below) in omega arith) in
@@ -153,23 +153,23 @@ dealt-shares n ts some w within =
     omega arith
 
 -- where there are at most n times c tasks, each of n lists has at most c
-pub dealt-short : (n c : ℕ) (ts : List Task) → 0 < n → length ts ≤ n * c → All (λ f. length f ≤ c) (dealt n ts)
+pub dealt-short : (n c : ℕ) (ts : List Task) → 0 < n → length ts ≤ n * c → All (λ f. length f ≤ c) (task_lists n ts)
 dealt-short n c ts some few k d within =
     let l = length-dealt n ts in
     let s = dealt-shares n ts some k (omega arith) in
-    let e = ap (λ (f : List Task). length f) (get_or_default (dealt n ts) k [] d within) in
-    let m = cancel n (length (get_or (dealt n ts) k [])) c (omega arith) in
+    let e = ap (λ (f : List Task). length f) (get_or_default (task_lists n ts) k [] d within) in
+    let m = cancel n (length (get_or (task_lists n ts) k [])) c (omega arith) in
     omega arith
 
 -- and where there are fewer, there is room for the next
-pub dealt-room : (n c number : ℕ) (fs : List (List Task)) (ts : List Task) → 0 < n → number ≡ length ts → fs ≡ dealt n ts → number < n * c →
+pub dealt-room : (n c number : ℕ) (fs : List (List Task)) (ts : List Task) → 0 < n → number ≡ length ts → fs ≡ task_lists n ts → number < n * c →
     (number % n < length fs) × (length (get_or fs (number % n) []) < c)
 dealt-room n c k fs ts some count e few =
     let l = length-dealt n ts in
     let len = ap length e in
     let s = dealt-shares n ts some (k % n) (omega arith) in
     let here = ap (λ (hs : List (List Task)). length (get_or hs (k % n) [])) e in
-    let m : length (get_or (dealt n ts) (k % n) []) ≤ k / n = cancel n (length (get_or (dealt n ts) (k % n) [])) (k / n) (omega arith) in
+    let m : length (get_or (task_lists n ts) (k % n) []) ≤ k / n = cancel n (length (get_or (task_lists n ts) (k % n) [])) (k / n) (omega arith) in
     let below : k / n < c =
     ⊎_elim
     (λ less. less)

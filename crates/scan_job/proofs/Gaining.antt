@@ -12,12 +12,12 @@ use Rattle.steal_pool.specs.Lists.{Each}
 use Rattle.steal_pool.specs.Runs.{Run, all_first, AreReady}
 use Rattle.scan_job.specs.declared.mode.Mode.{Mode}
 use Rattle.scan_job.specs.declared.mode.Mode.TheVariants.{Owner, TakeUp, Root}
-use Rattle.scan_job.specs.Shared.{Shared}
+use Rattle.scan_job.specs.Shared.{SharedHeap}
 use Rattle.scan_job.specs.Fit.{fit_tasks}
-use Rattle.scan_job.specs.Gains.{Gain, all_gains, Grows, Gained}
+use Rattle.scan_job.specs.Gains.{Gain, all_gains, Grows, GainsOf}
 use Rattle.scan_job.specs.Graphs.{StoppedGraph, IsWhole, owners}
 use Rattle.scan_job.specs.Jobs.{graph_in, shared_meaning}
-use Rattle.scan_job.specs.Phases.{AreIn, all_held, AreUnderOwners, begun, dealt, owner_firsts, held_firsts, root_firsts, OwnerGains, TakeUpGains, RootGains}
+use Rattle.scan_job.specs.Phases.{AreIn, all_held, AreUnderOwners, starting_in, task_lists, owner_firsts, held_firsts, root_firsts, OwnerGains, TakeUpGains, RootGains}
 use Rattle.scan_job.specs.Scans.{Meeting, AreAmong, Meets, task_at}
 use Rattle.scan_job.specs.States.{ScanState}
 use Rattle.scan_job.proofs.Dealing.{dealt-as_often}
@@ -46,7 +46,8 @@ same-modes g mode (j ∷ js) (a ∷ gains) [] e are = absurd e
 same-modes g mode (j ∷ js) (a ∷ gains) (k ∷ ks) e are =
     all-cons (λ i. i.mode ≡ mode) k ks (e.0.mode ∙ are 0 j (omega arith)) (same-modes g mode js gains ks e.1 (all-tail (λ i. i.mode ≡ mode) j js are))
 
-pub run-modes : (s : Shared) (mode : Mode) (fs : List (List Task)) (js ks : List ScanState) → 0 < length js → AreIn mode js → Run shared_meaning s (record { jobs = js; first = fs }) ks → AreIn mode ks
+pub run-modes : (s : SharedHeap) (mode : Mode) (fs : List (List Task)) (js ks : List ScanState) → 0 < length js → AreIn mode js →
+    Run shared_meaning s (record { jobs = js; first = fs }) ks → AreIn mode ks
 run-modes s mode fs js ks some are run =
     let r = run-scans s mode fs js ks some are run in same-modes (graph_in s) mode js r.gains ks r.each are
 
@@ -55,16 +56,16 @@ all-tasks : (P : Task → Type 0) (tag : ℕ → ℕ) (xs : List ℕ) → ((x : 
 all-tasks P tag [] each = tt
 all-tasks P tag (x ∷ xs) each = (each x (has_id-head xs x), all-tasks P tag xs (λ y at. each y (or_right _ _ at)))
 
-map-some : (mode : Mode) (js : List ScanState) → 0 < length js → 0 < length (map (begun mode) js)
+map-some : (mode : Mode) (js : List ScanState) → 0 < length js → 0 < length (map (starting_in mode) js)
 map-some mode [] some = absurd (omega arith)
 map-some mode (j ∷ js) some = omega arith
 
 -- what is first dealt is what is to be done
-first-often : (n : ℕ) (fs : List (List Task)) (ts : List Task) → 0 < n → fs ≡ dealt n ts → AsOften (all_first fs) ts
+first-often : (n : ℕ) (fs : List (List Task)) (ts : List Task) → 0 < n → fs ≡ task_lists n ts → AsOften (all_first fs) ts
 first-often n fs ts some lists h =
     ap (λ (hs : List (List Task)). total h (all_first hs)) lists ∙ dealt-as_often n ts some h
 
-module _ (s : Shared) (js : List ScanState) (some_jobs : 0 < length js) (ready : AreReady shared_meaning s js) where
+module _ (s : SharedHeap) (js : List ScanState) (some_jobs : 0 < length js) (ready : AreReady shared_meaning s js) where
   abbrev g : StoppedGraph
   g = graph_in s
 
@@ -84,9 +85,9 @@ module _ (s : Shared) (js : List ScanState) (some_jobs : 0 < length js) (ready :
   -- ---- what the run gains
 
   module _ (ks : List ScanState) (fs : List (List Task)) (n : ℕ) (some_workers : 0 < n) where
-    pub owner-phase : fs ≡ dealt n (owner_firsts s.roles) → Run shared_meaning s (record { jobs = map (begun Owner) js; first = fs }) ks → Gained g (OwnerGains g) js ks
+    pub owner-phase : fs ≡ task_lists n (owner_firsts s.roles) → Run shared_meaning s (record { jobs = map (starting_in Owner) js; first = fs }) ks → GainsOf g (OwnerGains g) js ks
     owner-phase lists run =
-        let r = run-scans s Owner fs (map (begun Owner) js) ks (map-some Owner js some_jobs) (begun-modes s Owner js) run in
+        let r = run-scans s Owner fs (map (starting_in Owner) js) ks (map-some Owner js some_jobs) (begun-modes s Owner js) run in
         record {
           gains = r.gains;
           each = begun-grows g Owner js r.gains ks r.each;
@@ -99,9 +100,9 @@ module _ (s : Shared) (js : List ScanState) (some_jobs : 0 < length js) (ready :
               omega arith);
         }
 
-    pub take_up-phase : fs ≡ dealt n (held_firsts js) → Run shared_meaning s (record { jobs = map (begun TakeUp) js; first = fs }) ks → Gained g (TakeUpGains g (all_held js)) js ks
+    pub take_up-phase : fs ≡ task_lists n (held_firsts js) → Run shared_meaning s (record { jobs = map (starting_in TakeUp) js; first = fs }) ks → GainsOf g (TakeUpGains g (all_held js)) js ks
     take_up-phase lists run =
-        let r = run-scans s TakeUp fs (map (begun TakeUp) js) ks (map-some TakeUp js some_jobs) (begun-modes s TakeUp js) run in
+        let r = run-scans s TakeUp fs (map (starting_in TakeUp) js) ks (map-some TakeUp js some_jobs) (begun-modes s TakeUp js) run in
         record {
           gains = r.gains;
           each = begun-grows g TakeUp js r.gains ks r.each;
@@ -112,12 +113,12 @@ module _ (s : Shared) (js : List ScanState) (some_jobs : 0 < length js) (ready :
 
 -- what the first job gained before the run is the first of what all gained
 first-gains : (g : StoppedGraph) (mode : Mode) (j : ScanState) (js : List ScanState) (k : ScanState) (gains : List Gain) (ks : List ScanState) (a : Gain) →
-    Extends g (begun mode j) a k → Each (Extends g) (k ∷ map (begun mode) js) gains ks →
-    (all : List Gain) × Each (Extends g) (map (begun mode) (j ∷ js)) all ks × (all_gains all ≡ both_gains a (all_gains gains))
+    Extends g (starting_in mode j) a k → Each (Extends g) (k ∷ map (starting_in mode) js) gains ks →
+    (all : List Gain) × Each (Extends g) (map (starting_in mode) (j ∷ js)) all ks × (all_gains all ≡ both_gains a (all_gains gains))
 first-gains g mode j js k [] ks a p e = absurd e
 first-gains g mode j js k (b ∷ gains) [] a p e = absurd e
 first-gains g mode j js k (b ∷ gains) (l ∷ ks) a p e =
-    (both_gains a b ∷ gains, (extends-both g (begun mode j) k l a b p e.0, e.1), both_gains-assoc a b (all_gains gains))
+    (both_gains a b ∷ gains, (extends-both g (starting_in mode j) k l a b p e.0, e.1), both_gains-assoc a b (all_gains gains))
 
 -- the meeting with the roots
 abbrev pub root_meeting : StoppedGraph → List ℕ → Meeting
@@ -128,15 +129,15 @@ roots-fit g whole won among =
     all-tagged (Contains (fit_tasks g Root)) 0 (λ x. not (g.is_owner x)) won
     (λ x at free. (fit_tasks-is g whole Root (task_at 0 x)).1 (refl, free, root-reached g whole x (among-at won g.roots among x at)))
 
-root-jobs : (s : Shared) (j : ScanState) (js ks : List ScanState) (k : ScanState) (won : List ℕ) (fs : List (List Task)) (n : ℕ) → 0 < n →
-    IsWhole (graph_in s) → Meets (graph_in s) (root_meeting (graph_in s) won) (begun Root j) k → fs ≡ dealt n (root_firsts (graph_in s) won) →
-    Run shared_meaning s (record { jobs = k ∷ map (begun Root) js; first = fs }) ks → Gained (graph_in s) (RootGains (graph_in s)) (j ∷ js) ks
+root-jobs : (s : SharedHeap) (j : ScanState) (js ks : List ScanState) (k : ScanState) (won : List ℕ) (fs : List (List Task)) (n : ℕ) → 0 < n →
+    IsWhole (graph_in s) → Meets (graph_in s) (root_meeting (graph_in s) won) (starting_in Root j) k → fs ≡ task_lists n (root_firsts (graph_in s) won) →
+    Run shared_meaning s (record { jobs = k ∷ map (starting_in Root) js; first = fs }) ks → GainsOf (graph_in s) (RootGains (graph_in s)) (j ∷ js) ks
 root-jobs s j js ks k won fs n some whole met lists run =
     let g = graph_in s in
-    let modes : AreIn Root (k ∷ map (begun Root) js) = all-cons (λ i. i.mode ≡ Root) k (map (begun Root) js) met.mode (begun-modes s Root js) in
-    let r = run-scans s Root fs (k ∷ map (begun Root) js) ks (omega arith) modes run in
+    let modes : AreIn Root (k ∷ map (starting_in Root) js) = all-cons (λ i. i.mode ≡ Root) k (map (starting_in Root) js) met.mode (begun-modes s Root js) in
+    let r = run-scans s Root fs (k ∷ map (starting_in Root) js) ks (omega arith) modes run in
     let a = gain_of g Root (root_meeting g won) in
-    let f = first-gains g Root j js k r.gains ks a (meets-extends g (begun Root j) k (root_meeting g won) met) r.each in
+    let f = first-gains g Root j js k r.gains ks a (meets-extends g (starting_in Root j) k (root_meeting g won) met) r.each in
     record {
       gains = f.0;
       each = begun-grows g Root (j ∷ js) f.0 ks f.1;
@@ -147,16 +148,16 @@ root-jobs s j js ks k won fs n some whole met lists run =
     }
 
 -- the first of the jobs that have begun met the roots and became k
-pub root-phase : (s : Shared) (js ks : List ScanState) (j k : ScanState) (won : List ℕ) (fs : List (List Task)) (n : ℕ) → 0 < length js →
-    0 < n → IsWhole (graph_in s) → j ≡ get_or (map (begun Root) js) 0 j → Meets (graph_in s) (root_meeting (graph_in s) won) j k →
-    fs ≡ dealt n (root_firsts (graph_in s) won) → Run shared_meaning s (record { jobs = set (map (begun Root) js) 0 k; first = fs }) ks →
-    Gained (graph_in s) (RootGains (graph_in s)) js ks
+pub root-phase : (s : SharedHeap) (js ks : List ScanState) (j k : ScanState) (won : List ℕ) (fs : List (List Task)) (n : ℕ) → 0 < length js →
+    0 < n → IsWhole (graph_in s) → j ≡ get_or (map (starting_in Root) js) 0 j → Meets (graph_in s) (root_meeting (graph_in s) won) j k →
+    fs ≡ task_lists n (root_firsts (graph_in s) won) → Run shared_meaning s (record { jobs = set (map (starting_in Root) js) 0 k; first = fs }) ks →
+    GainsOf (graph_in s) (RootGains (graph_in s)) js ks
 root-phase s [] ks j k won fs n some_jobs some_workers whole is met lists run = absurd (omega arith)
 root-phase s (i ∷ js) ks j k won fs n some_jobs some_workers whole is met lists run =
     root-jobs s i js ks k won fs n some_workers whole (subst (λ z. Meets (graph_in s) (root_meeting (graph_in s) won) z k) is met) lists run
 
 -- What the owner phase holds can be taken up.
-pub held-under : (g : StoppedGraph) (js ks : List ScanState) → Gained g (OwnerGains g) js ks → AreUnderOwners g (all_held ks)
+pub held-under : (g : StoppedGraph) (js ks : List ScanState) → GainsOf g (OwnerGains g) js ks → AreUnderOwners g (all_held ks)
 held-under g js ks gained x at =
     let a = times-at x (all_held ks) at in
     let b = ap (total (λ y. bit (eqb y x))) (held-gained g js gained.gains ks gained.each) in
@@ -166,5 +167,5 @@ held-under g js ks gained x at =
     ((and_parts (g.is_ownee x) (not (g.is_owner x)) f.0).1, gained.all.wins x f.1)
 
 -- Take-up leaves nothing held.
-pub none-held : (g : StoppedGraph) (js ks : List ScanState) (P : Gain → Type 0) (gained : Gained g P js ks) → (all_gains gained.gains).held ≡ [] → all_held ks ≡ []
+pub none-held : (g : StoppedGraph) (js ks : List ScanState) (P : Gain → Type 0) (gained : GainsOf g P js ks) → (all_gains gained.gains).held ≡ [] → all_held ks ≡ []
 none-held g js ks P gained none = held-gained g js gained.gains ks gained.each ∙ none

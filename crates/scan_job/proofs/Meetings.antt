@@ -13,8 +13,8 @@ use Rattle.graph_meaning.proofs.Membership.{has_id-append, length-filter_le}
 use Rattle.header_rule.specs.Passes.{adds, wins, marks}
 use Rattle.scan_job.specs.declared.mode.Mode.{Mode}
 use Rattle.scan_job.specs.Graphs.{StoppedGraph}
-use Rattle.scan_job.specs.Scans.{Meeting, is_held, is_put, marks_on, all_marks, Meets, task_at, put_tasks}
-use Rattle.scan_job.specs.States.{ScanState, IsSameJob, IsWithinWins, room_of}
+use Rattle.scan_job.specs.Scans.{Meeting, is_held, is_put, marks_on, marks_on_cells, Meets, task_at, put_tasks}
+use Rattle.scan_job.specs.States.{ScanState, IsSameJob, IsWithinWins, wins_left}
 use Rattle.scan_job.proofs.Numbers.{few-below}
 
 -- the cell, where it was won
@@ -111,8 +111,8 @@ module _ (g : StoppedGraph) where
     wins = q.wins ∙ ap (λ zs. zs ++ n.won) p.wins ∙ append_assoc (wins j.pass) m.won n.won;
     among = λ f. (let a = p.among f in let b = q.among f in let c = total-append f m.won n.won in let d = total-append f m.cells n.cells in omega arith);
     marks =
-        q.marks ∙ (λ x. p.marks x ++ all_marks g (p.mode x) (record { tag = same x; cells = n.cells; won = n.won }))
-        ∙ append_assoc (marks j.pass) (all_marks g j.mode m) _
+        q.marks ∙ (λ x. p.marks x ++ marks_on_cells g (p.mode x) (record { tag = same x; cells = n.cells; won = n.won }))
+        ∙ append_assoc (marks j.pass) (marks_on_cells g j.mode m) _
         ∙ ap (λ zs. marks j.pass ++ zs) (sym (flat_map-append (marks_on g j.mode m.tag) m.cells n.cells));
     held =
         q.held ∙ (λ x. p.held x ++ filter (is_held g (p.mode x)) n.won)
@@ -135,7 +135,7 @@ module _ (g : StoppedGraph) where
       omega arith
 
   -- each win leaves room for one fewer
-  pub room-falls : (m : Meeting) (j k : ScanState) → Meets g m j k → IsWithinWins k → room_of k + length m.won ≤ room_of j
+  pub room-falls : (m : Meeting) (j k : ScanState) → Meets g m j k → IsWithinWins k → wins_left k + length m.won ≤ wins_left j
   room-falls m j k p w =
       let few = few-wins k w in
       let more = ap length p.wins in

@@ -9,7 +9,7 @@ use Rattle.heap_base.proofs.Counting.{total-ones, times-filter, as_often-from_ti
 use Rattle.graph_meaning.specs.Reach.{has_id}
 use Rattle.graph_meaning.specs.Roles.{RoleTable, id_at, AreRolesOf}
 use Rattle.graph_meaning.proofs.Membership.{has_id-Contains, length-filter_le}
-use Rattle.object_table.specs.Placed.{Placed, id_in}
+use Rattle.object_table.specs.Placed.{PlacedTable, id_in}
 use Rattle.scan_job.specs.Cells.{graph_of}
 use Rattle.scan_job.specs.Graphs.{owners}
 use Rattle.scan_job.proofs.Fitting.{times-at, at-times}
@@ -46,7 +46,7 @@ rising-once f (y ∷ ys) rises x =
         go zero e = e
         go (suc n) e = absurd (false≢true (sym away ∙ at-times x ys (omega arith)))
 
-module _ (p : Placed) (r : RoleTable) (roles : AreRolesOf p.cells (length p.table.kinds) r) where
+module _ (p : PlacedTable) (r : RoleTable) (roles : AreRolesOf p.cells (length p.table.kinds) r) where
   -- the owners of the roles are those of the graph
   pub owners-as_often : AsOften r.owners (owners (graph_of p r))
   owners-as_often =

@@ -17,7 +17,7 @@ use Rattle.scan_job.specs.declared.mode.Mode.{Mode}
 use Rattle.scan_job.specs.declared.mode.Mode.TheVariants.{Owner, TakeUp, Root}
 use Rattle.scan_job.specs.Graphs.{StoppedGraph, IsWhole, owners, all_targets, is_found_from}
 use Rattle.scan_job.specs.Fit.{IsFit, fit_tasks, no_owners}
-use Rattle.scan_job.specs.Gains.{Gain, is_marked}
+use Rattle.scan_job.specs.Gains.{Gain, lists_mark}
 use Rattle.scan_job.specs.Phases.{OwnerGains, TakeUpGains, RootGains}
 use Rattle.scan_job.specs.Scans.{is_held, marks_on, AreAmong, task_at}
 use Rattle.scan_job.proofs.Fitting.{found-step, fit_tasks-is, among-at, times-at, at-times}
@@ -152,7 +152,7 @@ module _ (g : StoppedGraph) (w : IsWhole g) (mode : Mode) (done put : List Task)
 
 module _ (g : StoppedGraph) (w : IsWhole g) (done put first : List Task) (a : Gain) (s : Scanned g Owner done put a)
     (fits : AllFit (fit_tasks g Owner) done) (ran : AsOften done (first ++ put)) (begins : AsOften first (map (λ o. task_at o o) (owners g))) where
-  found-by : (e : ℕ) → is_marked Found e a.marks ≡ true → (o : ℕ) × IsTrue (g.owns o e) × IsTrue (is_found_from g o e)
+  found-by : (e : ℕ) → lists_mark Found e a.marks ≡ true → (o : ℕ) × IsTrue (g.owns o e) × IsTrue (is_found_from g o e)
   found-by e at =
       let l = is_positive-true _ at in
       let m = marks-total g w Owner done put a s fits Found e in
@@ -177,7 +177,7 @@ module _ (g : StoppedGraph) (w : IsWhole g) (done put first : List Task) (a : Ga
           omega arith
 
   -- each owner was scanned, so what it holds in a slot and owns is marked
-  own-found : (o e : ℕ) → g.owns o e ≡ true → has_id (g.targets o) e ≡ true → is_marked Found e a.marks ≡ true
+  own-found : (o e : ℕ) → g.owns o e ≡ true → has_id (g.targets o) e ≡ true → lists_mark Found e a.marks ≡ true
   own-found o e owns at =
       is_positive-from _
       (let m = marks-total g w Owner done put a s fits Found e in

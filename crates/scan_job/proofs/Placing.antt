@@ -16,7 +16,8 @@ use Rattle.graph_meaning.specs.declared.roles.OwnerRole.TheVariants.{NotOwned, O
 use Rattle.graph_meaning.specs.Heap.{Slot, Object, empty_slot, object_at, edge_of}
 use Rattle.graph_meaning.specs.Reach.{has_id}
 use Rattle.graph_meaning.specs.Roles.{RoleTable, owner_in, has_owner, AreRolesOf}
-use Rattle.object_table.specs.Placed.{Placed, id_in, slots_in, slot_in, IsPlaced, IsSound, cell_of, holds_id}
+use Rattle.object_table.specs.Placed.{PlacedTable, id_in, slots_in, slot_in, IsPlaced, IsSound, cell_of, holds_id}
+use Rattle.object_table.proofs.ObjectsByCell.{holds_id-true, cell_of-held}
 use Rattle.scan_job.specs.Graphs.{IsWhole}
 use Rattle.scan_job.specs.Cells.{target_of, targets_of, is_owned_by, graph_of}
 use Rattle.scan_job.proofs.Numbers.{once-range, once-filter, in-range}
@@ -26,11 +27,7 @@ some-held : (o : Option ℕ) → is_some o ≡ true → (id : ℕ) × (o ≡ Som
 some-held None e = absurd (false≢true e)
 some-held (Some id) e = (id, refl)
 
-holds_id-true : (id : ℕ) (o : Option ℕ) → holds_id id o ≡ true → o ≡ Some id
-holds_id-true id None e = absurd (false≢true e)
-holds_id-true id (Some x) e = ap Some (eqb-true x id e)
-
-module _ (p : Placed) where
+module _ (p : PlacedTable) where
   -- a cell that holds an object is one of the table's
   pub held-below : (cell : ℕ) → is_some (id_in p cell) ≡ true → cell < length p.cells
   held-below cell held =
@@ -52,19 +49,6 @@ module _ (p : Placed) where
   held-from_cell : (id cell : ℕ) → cell_of p id ≡ Some cell → is_some (id_in p cell) ≡ true
   held-from_cell id cell e =
       ap is_some (holds_id-true id (id_in p cell) (position-Some (holds_id id) p.cells cell None e).1)
-
-  -- and the cell that holds an id is given for it
-  pub cell-from_held : IsPlaced p → (cell id : ℕ) → id_in p cell ≡ Some id → cell_of p id ≡ Some cell
-  cell-from_held placed cell id held =
-      let within = held-below cell (ap is_some held) in
-      let before : (k : ℕ) → k < cell → holds_id id (get_or p.cells k None) ≡ false = λ k less.
-      ⊎_elim
-      (λ same. absurd (let e = placed.once k cell id (holds_id-true id (id_in p k) same) held in omega arith))
-      (λ other. other)
-      (cases_Bool (holds_id id (get_or p.cells k None))) in
-      let here : holds_id id (get_or p.cells cell None) ≡ true = ap (holds_id id) held ∙ eq-eqb id id refl in
-      let is : position_or_len (holds_id id) p.cells ≡ cell = position_or_len_is (holds_id id) p.cells cell None (omega arith) before (λ _. here) in
-      ap (λ n. cond (ltb n (length p.cells)) (Some n) None) is ∙ ap (λ b. cond b (Some cell) None) (lt-ltb cell (length p.cells) within)
 
   -- ---- what slots lead to
 
@@ -95,7 +79,7 @@ module _ (p : Placed) where
       none (Some x) e = absurd (false≢true e)
   target-is placed slot (Some cell) e some =
       let held = some-held (edge_of slot) (sym some) in
-      ap (option_and_then (cell_of p)) held.1 ∙ cell-from_held placed cell held.0 (e ∙ held.1)
+      ap (option_and_then (cell_of p)) held.1 ∙ cell_of-held p placed cell held.0 (e ∙ held.1)
 
   pub length-targets : (xs : List Slot) → length (targets_of p xs) ≤ length xs
   length-targets [] = omega arith
@@ -146,27 +130,27 @@ has_id-filter_map h (x ∷ xs) (suc i) d y within is = go (h x) (has_id-filter_m
     go (Some z) rest = or_right _ _ rest
 
 -- the cell that an object's slot leads to is among its targets
-pub target-there : (p : Placed) (r : RoleTable) (cell slot target : ℕ) → IsPlaced p → slot < length (slots_in p cell) →
+pub target-there : (p : PlacedTable) (r : RoleTable) (cell slot target : ℕ) → IsPlaced p → slot < length (slots_in p cell) →
     option_and_then (id_in p) (Some target) ≡ edge_of (slot_in p cell slot) → true ≡ is_some (edge_of (slot_in p cell slot)) →
     has_id ((graph_of p r).targets cell) target ≡ true
 target-there p r cell slot target placed within leads some =
     has_id-filter_map (target_of p) (slots_in p cell) slot empty_slot target within (target-is p placed (slot_in p cell slot) (Some target) leads some)
 
 -- the cell that is given for a root is that of the object which it names
-root-cell : (p : Placed) (root cell : ℕ) → IsPlaced p → root < length p.table.roots →
+root-cell : (p : PlacedTable) (root cell : ℕ) → IsPlaced p → root < length p.table.roots →
     IfSome (slice_get p.table.roots root) (λ n. id_in p cell ≡ Some n.1) → cell_of p (get_or p.table.roots root ([], 0)).1 ≡ Some cell
 root-cell p root cell placed within names =
     let held = subst (λ o. IfSome o (λ n. id_in p cell ≡ Some n.1)) (slice_get-get_or p.table.roots root ([], 0) within) names in
-    cell-from_held p placed cell (get_or p.table.roots root ([], 0)).1 held
+    cell_of-held p placed cell (get_or p.table.roots root ([], 0)).1 held
 
 -- the cell that a root names is among the roots
-pub root-there : (p : Placed) (r : RoleTable) (root cell : ℕ) → IsPlaced p → root < length p.table.roots →
+pub root-there : (p : PlacedTable) (r : RoleTable) (root cell : ℕ) → IsPlaced p → root < length p.table.roots →
     IfSome (slice_get p.table.roots root) (λ n. id_in p cell ≡ Some n.1) → has_id (graph_of p r).roots cell ≡ true
 root-there p r root cell placed within names =
     has_id-filter_map (λ n. cell_of p n.1) p.table.roots root ([], 0) cell within (root-cell p root cell placed within names)
 
 -- the cells that the first roots name, and one root more
-pub roots-more : (p : Placed) (root cell : ℕ) → IsPlaced p → root < length p.table.roots →
+pub roots-more : (p : PlacedTable) (root cell : ℕ) → IsPlaced p → root < length p.table.roots →
     IfSome (slice_get p.table.roots root) (λ n. id_in p cell ≡ Some n.1) →
     filter_map (λ n. cell_of p n.1) (take (root + 1) p.table.roots) ≡ filter_map (λ n. cell_of p n.1) (take root p.table.roots) ++ cell ∷ []
 roots-more p root cell placed within names =
@@ -181,7 +165,7 @@ owned-by owner NotOwned e = absurd (false≢true e)
 owned-by owner (OwnerCell o) e = ap OwnerCell (eqb-true o owner e)
 owned-by owner (OwnerGone id) e = absurd (false≢true e)
 
-named-held : (p : Placed) (roots : List (List ℕ × ℕ)) (cell : ℕ) → has_id (filter_map (λ root. cell_of p root.1) roots) cell ≡ true → is_some (id_in p cell) ≡ true
+named-held : (p : PlacedTable) (roots : List (List ℕ × ℕ)) (cell : ℕ) → has_id (filter_map (λ root. cell_of p root.1) roots) cell ≡ true → is_some (id_in p cell) ≡ true
 named-held p [] cell at = absurd (false≢true at)
 named-held p (root ∷ roots) cell at = go (cell_of p root.1) (named-held p roots cell) refl at
   where
@@ -195,7 +179,7 @@ named-held p (root ∷ roots) cell at = go (cell_of p root.1) (named-held p root
         (or_cases _ _ at)
 
 -- The graph of a table and of roles of it is whole.
-pub is-whole : (p : Placed) (r : RoleTable) → AreRolesOf p.cells (length p.table.kinds) r → IsWhole (graph_of p r)
+pub is-whole : (p : PlacedTable) (r : RoleTable) → AreRolesOf p.cells (length p.table.kinds) r → IsWhole (graph_of p r)
 is-whole p r roles = record {
   once = once-filter (λ cell. is_some (id_in p cell)) (range_with_len 0 (length p.cells)) (once-range 0 (length p.cells));
   edges = λ x y at. (let s = leads p (slots_in p x) y at in node-from_held p r y (target-held p s.0 y s.1));

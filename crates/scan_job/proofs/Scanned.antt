@@ -14,13 +14,13 @@ use Rattle.steal_pool.specs.Lists.{Each}
 use Rattle.steal_pool.specs.Runs.{Work, Run, all_first, all_done, all_put}
 use Rattle.steal_pool.specs.Runs as Runs
 use Rattle.scan_job.specs.declared.mode.Mode.{Mode}
-use Rattle.scan_job.specs.Shared.{Shared}
+use Rattle.scan_job.specs.Shared.{SharedHeap}
 use Rattle.scan_job.specs.Fit.{fit_tasks}
 use Rattle.scan_job.specs.Gains.{Gain, all_gains, Grows}
 use Rattle.scan_job.specs.Graphs.{StoppedGraph, all_targets}
 use Rattle.scan_job.specs.Jobs.{graph_in, shared_meaning}
-use Rattle.scan_job.specs.Phases.{AreIn, begun}
-use Rattle.scan_job.specs.Scans.{Meeting, is_held, is_put, marks_on, all_marks, AreAmong, Meets, Works, task_at, scan_meeting}
+use Rattle.scan_job.specs.Phases.{AreIn, starting_in}
+use Rattle.scan_job.specs.Scans.{Meeting, is_held, is_put, marks_on, marks_on_cells, AreAmong, Meets, Works, task_at, scan_meeting}
 use Rattle.scan_job.specs.States.{ScanState}
 
 abbrev pub no_gain : Gain
@@ -93,7 +93,7 @@ module _ (g : StoppedGraph) where
   -- ---- what one meeting gains
 
   abbrev pub gain_of : Mode → Meeting → Gain
-  gain_of mode m = record { adds = m.cells; wins = m.won; held = filter (is_held g mode) m.won; marks = all_marks g mode m }
+  gain_of mode m = record { adds = m.cells; wins = m.won; held = filter (is_held g mode) m.won; marks = marks_on_cells g mode m }
 
   pub meets-extends : (j k : ScanState) (m : Meeting) → Meets g m j k → Extends g j (gain_of j.mode m) k
   meets-extends j k m p = record {
@@ -178,7 +178,7 @@ module _ (g : StoppedGraph) where
       omega arith
 
 -- What the jobs of a run in one mode gained.
-pub record RanScans (s : Shared) (mode : Mode) (fs : List (List Task)) (js ks : List ScanState) : Type 0 where
+pub record RanScans (s : SharedHeap) (mode : Mode) (fs : List (List Task)) (js ks : List ScanState) : Type 0 where
   pub gains : List Gain
   pub each : Each (Extends (graph_in s)) js gains ks
   pub done : List Task
@@ -188,7 +188,7 @@ pub record RanScans (s : Shared) (mode : Mode) (fs : List (List Task)) (js ks : 
   pub as_often : AsOften done (all_first fs ++ put)
 
 -- jobs in one mode have the fit tasks of the mode
-pub fit_tasks-in : (s : Shared) (mode : Mode) (js : List ScanState) → 0 < length js → AreIn mode js → Runs.fit_tasks shared_meaning s js ≡ fit_tasks (graph_in s) mode
+pub fit_tasks-in : (s : SharedHeap) (mode : Mode) (js : List ScanState) → 0 < length js → AreIn mode js → Runs.fit_tasks shared_meaning s js ≡ fit_tasks (graph_in s) mode
 fit_tasks-in s mode [] some are = absurd (omega arith)
 fit_tasks-in s mode (j ∷ js) some are = ap (fit_tasks (graph_in s)) (are 0 j (omega arith))
 
@@ -201,7 +201,7 @@ all-done fit [] all = tt
 all-done fit (w ∷ ws) all =
     all-append (Contains fit) w.done (all_done ws) (all 0 w (omega arith)) (all-done fit ws (λ i x within. all (suc i) x (omega arith)))
 
-pub run-scans : (s : Shared) (mode : Mode) (fs : List (List Task)) (js ks : List ScanState) → 0 < length js → AreIn mode js →
+pub run-scans : (s : SharedHeap) (mode : Mode) (fs : List (List Task)) (js ks : List ScanState) → 0 < length js → AreIn mode js →
     Run shared_meaning s (record { jobs = js; first = fs }) ks → RanScans s mode fs js ks
 run-scans s mode fs js ks some are run =
     let d = did-all (graph_in s) mode js run.work ks are run.each in
@@ -216,7 +216,7 @@ run-scans s mode fs js ks some are run =
     }
 
 -- Jobs that began a phase and then gained: since nothing was held, they hold what they gained.
-pub begun-grows : (g : StoppedGraph) (mode : Mode) (js : List ScanState) (gains : List Gain) (ks : List ScanState) → Each (Extends g) (map (begun mode) js) gains ks → Each (Grows g) js gains ks
+pub begun-grows : (g : StoppedGraph) (mode : Mode) (js : List ScanState) (gains : List Gain) (ks : List ScanState) → Each (Extends g) (map (starting_in mode) js) gains ks → Each (Grows g) js gains ks
 begun-grows g mode [] gains ks e = e
 begun-grows g mode (j ∷ js) [] ks e = absurd e
 begun-grows g mode (j ∷ js) (a ∷ gains) [] e = absurd e

@@ -9,11 +9,11 @@ use Rattle.heap_base.specs.declared.task.Task.{Task}
 use Rattle.graph_meaning.specs.Heap.{empty_slot, edge_of}
 use Rattle.object_table.specs.Placed.{id_in, slots_in}
 use Rattle.header_rule.specs.Passes.{adds}
-use Rattle.steal_pool.specs.Outboxes.{Held}
+use Rattle.steal_pool.specs.Outboxes.{HeldTasks}
 use Rattle.scan_job.specs.declared.shared.ScanShared.{ScanShared}
 use Rattle.scan_job.specs.Cells.{targets_of}
 use Rattle.scan_job.specs.Scans.{Meeting, one_meeting, Meets, put_tasks, Works}
-use Rattle.scan_job.specs.States.{ScanState, IsSameJob, IsWithinWins, room_of}
+use Rattle.scan_job.specs.States.{ScanState, IsSameJob, IsWithinWins, wins_left}
 use Rattle.scan_job.specs.Jobs.{IsReady, shared_graph}
 use Rattle.scan_job.proofs.Placing.{targets-more, length-targets, few-slots}
 use Rattle.scan_job.proofs.Meetings.{meets-same, meets-both, puts-both, length-puts, room-falls, won_of}
@@ -21,7 +21,7 @@ use Rattle.scan_job.proofs.Meetings.{meets-same, meets-both, puts-both, length-p
 -- A job and its outbox.
 pub record Worker : Type 0 where
   pub job : ScanState
-  pub out : Held
+  pub out : HeldTasks
 
 -- what the first slots of the task's cell lead to was met, and these were won
 abbrev pub scanned : ScanShared → Task → ℕ → List ℕ → Meeting
@@ -33,9 +33,9 @@ pub record HasScanned (s : ScanShared) (t : Task) (slots : ℕ) (old new : Worke
   pub ready : IsReady new.job s
   pub tasks : new.out.tasks ≡ old.out.tasks ++ put_tasks (shared_graph s) old.job.mode (scanned s t slots won)
   pub outbox : new.out.room ≡ old.out.room
-  pub room : room_of new.job + length won ≤ room_of old.job
+  pub room : wins_left new.job + length won ≤ wins_left old.job
 
-pub scan-begins : (s : ScanShared) (t : Task) (j k : ScanState) (out : Held) → IsSameJob j k → IsReady k s → HasScanned s t 0 (record { job = j; out = out }) (record { job = k; out = out })
+pub scan-begins : (s : ScanShared) (t : Task) (j k : ScanState) (out : HeldTasks) → IsSameJob j k → IsReady k s → HasScanned s t 0 (record { job = j; out = out }) (record { job = k; out = out })
 scan-begins s t j k out same ready =
     let cells = same.cells in
     let won = ap length same.pass.wins in
@@ -50,7 +50,7 @@ scan-begins s t j k out same ready =
 
 module _ (s : ScanShared) (t : Task) (i : ℕ) (old now : Worker) (p : HasScanned s t i old now) where
   -- there is room in the outbox for what may still be won
-  pub room-left : length old.out.tasks + room_of old.job ≤ old.out.room → length now.out.tasks + room_of now.job ≤ now.out.room
+  pub room-left : length old.out.tasks + wins_left old.job ≤ old.out.room → length now.out.tasks + wins_left now.job ≤ now.out.room
   room-left enough =
       let a = length-puts (shared_graph s) old.job.mode (scanned s t i p.won) in
       let b = ap length p.tasks in
@@ -130,7 +130,7 @@ module _ (s : ScanShared) (t : Task) (old now : Worker) (p : HasScanned s t (len
     puts = refl;
   }
 
-  pub scan-room : room_of now.job + length (put_tasks (shared_graph s) old.job.mode all_slots) ≤ room_of old.job
+  pub scan-room : wins_left now.job + length (put_tasks (shared_graph s) old.job.mode all_slots) ≤ wins_left old.job
   scan-room = (let a = length-puts (shared_graph s) old.job.mode all_slots in let b = p.room in omega arith)
 
   pub scan-turns : old.job.pass.left / MOST_SLOTS ≤ now.job.pass.left / MOST_SLOTS + 1

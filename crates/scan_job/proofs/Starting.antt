@@ -9,12 +9,12 @@ use Rattle.steal_pool.specs.Jobs.{AllFit}
 use Rattle.steal_pool.specs.Runs.{most_tasks, all_first, AreReady, HaveRoom, TurnsLast}
 use Rattle.steal_pool.specs.Runs as Runs
 use Rattle.scan_job.specs.declared.mode.Mode.{Mode}
-use Rattle.scan_job.specs.Shared.{Shared}
+use Rattle.scan_job.specs.Shared.{SharedHeap}
 use Rattle.scan_job.specs.Fit.{fit_tasks}
 use Rattle.scan_job.specs.Graphs.{IsWhole}
 use Rattle.scan_job.specs.Jobs.{graph_in, IsReadyFor, shared_meaning}
-use Rattle.scan_job.specs.Phases.{cells_in, AreIn, begun, CanRun, dealt}
-use Rattle.scan_job.specs.States.{ScanState, room_of, turns_of}
+use Rattle.scan_job.specs.Phases.{cells_in, AreIn, starting_in, CanRunJobs, task_lists}
+use Rattle.scan_job.specs.States.{ScanState, wins_left, turns_of}
 use Rattle.scan_job.proofs.Dealing.{length-dealt, dealt-all, dealt-length, dealt-short}
 use Rattle.scan_job.proofs.Placing.{is-whole}
 use Rattle.scan_job.proofs.Scanned.{fit_tasks-in}
@@ -34,14 +34,14 @@ all-tail P x xs all k d within = all (suc k) d (omega arith)
 
 -- ---- what the readiness of one job says
 
-pub first-ready : (s : Shared) (js : List ScanState) → 0 < length js → AreReady shared_meaning s js → (j : ScanState) × IsReadyFor j s
+pub first-ready : (s : SharedHeap) (js : List ScanState) → 0 < length js → AreReady shared_meaning s js → (j : ScanState) × IsReadyFor j s
 first-ready s [] some ready = absurd (omega arith)
 first-ready s (j ∷ js) some ready = (j, ready 0 j (omega arith))
 
-pub ready-cells : (s : Shared) (js : List ScanState) → AreReady shared_meaning s js → All (λ j. j.cells ≤ cells_in s) js
+pub ready-cells : (s : SharedHeap) (js : List ScanState) → AreReady shared_meaning s js → All (λ j. j.cells ≤ cells_in s) js
 ready-cells s js ready k d within = let e = (ready k d within).cells in omega arith
 
-module _ (s : Shared) (js : List ScanState) (some : 0 < length js) (ready : AreReady shared_meaning s js) where
+module _ (s : SharedHeap) (js : List ScanState) (some : 0 < length js) (ready : AreReady shared_meaning s js) where
   pub few-cells : cells_in s ≤ 2 ^ 20
   few-cells = let r = (first-ready s js some ready).1.placed.few in omega arith
 
@@ -50,20 +50,20 @@ module _ (s : Shared) (js : List ScanState) (some : 0 < length js) (ready : AreR
 
 -- ---- jobs that began a phase
 
-module _ (s : Shared) (mode : Mode) (js : List ScanState) where
-  pub begun-ready : AreReady shared_meaning s js → AreReady shared_meaning s (map (begun mode) js)
+module _ (s : SharedHeap) (mode : Mode) (js : List ScanState) where
+  pub begun-ready : AreReady shared_meaning s js → AreReady shared_meaning s (map (starting_in mode) js)
   begun-ready ready =
-      all-map (begun mode) (λ j. IsReadyFor j s) (λ j. IsReadyFor j s)
+      all-map (starting_in mode) (λ j. IsReadyFor j s) (λ j. IsReadyFor j s)
       (λ j r. record { pass = r.pass; headers = r.headers; cells = r.cells; kinds = r.kinds; roles = r.roles; placed = r.placed; sound = r.sound })
       js ready
 
-  pub begun-modes : AreIn mode (map (begun mode) js)
-  begun-modes = all-map (begun mode) (λ j. Unit {0}) (λ j. j.mode ≡ mode) (λ j u. refl) js (λ k d within. tt)
+  pub begun-modes : AreIn mode (map (starting_in mode) js)
+  begun-modes = all-map (starting_in mode) (λ j. Unit {0}) (λ j. j.mode ≡ mode) (λ j u. refl) js (λ k d within. tt)
 
-  pub begun-turns : (n : ℕ) → All (λ j. n < turns_of j) js → All (λ j. n ≤ turns_of j) (map (begun mode) js)
-  begun-turns n turns = all-map (begun mode) (λ j. n < turns_of j) (λ j. n ≤ turns_of j) (λ j l. omega arith) js turns
+  pub begun-turns : (n : ℕ) → All (λ j. n < turns_of j) js → All (λ j. n ≤ turns_of j) (map (starting_in mode) js)
+  begun-turns n turns = all-map (starting_in mode) (λ j. n < turns_of j) (λ j. n ≤ turns_of j) (λ j l. omega arith) js turns
 
-pub begun-last : (mode : Mode) (n m : ℕ) (js ks : List ScanState) → n ≤ m → TurnsLast shared_meaning n (map (begun mode) js) ks → TurnsLast shared_meaning m js ks
+pub begun-last : (mode : Mode) (n m : ℕ) (js ks : List ScanState) → n ≤ m → TurnsLast shared_meaning n (map (starting_in mode) js) ks → TurnsLast shared_meaning m js ks
 begun-last mode n m [] ks l last = last
 begun-last mode n m (j ∷ js) [] l last = absurd last
 begun-last mode n m (j ∷ js) (k ∷ ks) l last = (let t = last.0 in omega arith, begun-last mode n m js ks l last.1)
@@ -71,7 +71,7 @@ begun-last mode n m (j ∷ js) (k ∷ ks) l last = (let t = last.0 in omega arit
 -- ---- what a run asks
 
 -- So many jobs of a phase that are ready for these first tasks.
-pub record IsStart (s : Shared) (mode : Mode) (n : ℕ) (js : List ScanState) (ts : List Task) : Type 0 where
+pub record IsStart (s : SharedHeap) (mode : Mode) (n : ℕ) (js : List ScanState) (ts : List Task) : Type 0 where
   pub ready : AreReady shared_meaning s js
   pub modes : AreIn mode js
   pub turns : All (λ j. 2 ^ 25 ≤ turns_of j) js
@@ -81,7 +81,7 @@ pub record IsStart (s : Shared) (mode : Mode) (n : ℕ) (js : List ScanState) (t
   pub few : length ts ≤ n * cells_in s
   pub fit : AllFit (fit_tasks (graph_in s) mode) ts
 
-rooms : (s : Shared) (js : List ScanState) → AreReady shared_meaning s js → total room_of js ≤ length js * cells_in s
+rooms : (s : SharedHeap) (js : List ScanState) → AreReady shared_meaning s js → total wins_left js ≤ length js * cells_in s
 rooms s [] ready = omega arith
 rooms s (j ∷ js) ready =
     let r = rooms s js (λ k d within. ready (suc k) d (omega arith)) in
@@ -89,7 +89,7 @@ rooms s (j ∷ js) ready =
     let x : suc (length js) * cells_in s ≡ length js * cells_in s + cells_in s = omega arith in
     omega arith
 
-has-room : (s : Shared) (n : ℕ) (js : List ScanState) (fs : List (List Task)) → length fs ≡ length js → AreReady shared_meaning s js →
+has-room : (s : SharedHeap) (n : ℕ) (js : List ScanState) (fs : List (List Task)) → length fs ≡ length js → AreReady shared_meaning s js →
     All (λ f. length f ≤ cells_in s) fs → 2 * cells_in s < n → HaveRoom shared_meaning n js fs
 has-room s n [] [] e ready short wide = refl
 has-room s n [] (f ∷ fs) e ready short wide = absurd (omega arith)
@@ -99,7 +99,7 @@ has-room s n (j ∷ js) (f ∷ fs) e ready short wide =
     let l = short 0 f (omega arith) in
     (omega arith, has-room s n js fs (omega arith) (λ k d within. ready (suc k) d (omega arith)) (λ k d within. short (suc k) d (omega arith)) wide)
 
-module _ (s : Shared) (mode : Mode) (n : ℕ) (js : List ScanState) (ts : List Task) (fs : List (List Task)) (start : IsStart s mode n js ts) (lists : fs ≡ dealt n ts) where
+module _ (s : SharedHeap) (mode : Mode) (n : ℕ) (js : List ScanState) (ts : List Task) (fs : List (List Task)) (start : IsStart s mode n js ts) (lists : fs ≡ task_lists n ts) where
   some : 0 < length js
   some = let a = start.jobs in let b = start.some in omega arith
 
@@ -120,7 +120,7 @@ module _ (s : Shared) (mode : Mode) (n : ℕ) (js : List ScanState) (ts : List T
       let f = most-cells in
       omega arith
 
-  pub can-run : (room : ℕ) → 2 * cells_in s < room → CanRun s (record { jobs = js; first = fs }) room
+  pub can-run : (room : ℕ) → 2 * cells_in s < room → CanRunJobs s (record { jobs = js; first = fs }) room
   can-run room wide =
       let fit = fit_tasks-in s mode js some start.modes in
       let many = ap length lists ∙ length-dealt n ts ∙ sym start.jobs in
@@ -130,7 +130,7 @@ module _ (s : Shared) (mode : Mode) (n : ℕ) (js : List ScanState) (ts : List T
         same_fit = λ k d within. ap (fit_tasks (graph_in s)) (start.modes k d within) ∙ sym fit;
         fit =
             subst (λ (hs : List (List Task)). All (AllFit (Runs.fit_tasks shared_meaning s js)) hs) (sym lists)
-            (subst (λ us. All (AllFit us) (dealt n ts)) (sym fit) (dealt-all (Contains (fit_tasks (graph_in s) mode)) n ts start.fit));
+            (subst (λ us. All (AllFit us) (task_lists n ts)) (sym fit) (dealt-all (Contains (fit_tasks (graph_in s) mode)) n ts start.fit));
         have_room =
             has-room s room js fs many start.ready (subst (λ (hs : List (List Task)). All (λ f. length f ≤ cells_in s) hs) (sym lists) (dealt-short n (cells_in s) ts start.some start.few)) wide;
         turns = λ k d within. (let t = start.turns k d within in let m = few-tasks in omega arith);

@@ -7,19 +7,19 @@ use Rattle.graph_meaning.specs.declared.roles.OwnerRole.TheVariants.{NotOwned, O
 use Rattle.graph_meaning.specs.Heap.{Slot, edge_of}
 use Rattle.graph_meaning.specs.Reach.{has_id}
 use Rattle.graph_meaning.specs.Roles.{RoleTable, owner_in, has_owner}
-use Rattle.object_table.specs.Placed.{Placed, id_in, cell_of, object_in, slots_in}
+use Rattle.object_table.specs.Placed.{PlacedTable, id_in, cell_of, object_in, slots_in}
 use Rattle.scan_job.specs.Graphs.{StoppedGraph}
 
 -- the cell of what a slot leads to, if it is an edge
-abbrev pub target_of : Placed → Slot → Option ℕ
+abbrev pub target_of : PlacedTable → Slot → Option ℕ
 target_of p slot = option_and_then (cell_of p) (edge_of slot)
 
 -- the cells of what these slots lead to, in order
-abbrev pub targets_of : Placed → List Slot → List ℕ
+abbrev pub targets_of : PlacedTable → List Slot → List ℕ
 targets_of p slots = filter_map (target_of p) slots
 
 -- the number of the type of the object in a cell
-abbrev pub kind_in : Placed → ℕ → Option ℕ
+abbrev pub kind_in : PlacedTable → ℕ → Option ℕ
 kind_in p cell = option_and_then (λ o. position (bytes_eq o.kind) p.table.kinds) (object_in p cell)
 
 -- the role is that of an ownee whose owner is in this cell
@@ -29,7 +29,7 @@ is_owned_by cell (OwnerCell o) = o == cell
 is_owned_by cell (OwnerGone id) = false
 
 -- the nodes are the cells that hold an object
-abbrev pub graph_of : Placed → RoleTable → StoppedGraph
+abbrev pub graph_of : PlacedTable → RoleTable → StoppedGraph
 graph_of p r = record {
   nodes = filter (λ cell. is_some (id_in p cell)) (range_with_len 0 (length p.cells));
   targets = λ cell. targets_of p (slots_in p cell);

@@ -28,8 +28,8 @@ all_gains gains = record {
 }
 
 -- whether the mark of the cell is among these
-abbrev pub is_marked : Mark → ℕ → List (ℕ × Mark) → Bool
-is_marked mark cell marks = is_positive (times_marked mark cell marks)
+abbrev pub lists_mark : Mark → ℕ → List (ℕ × Mark) → Bool
+lists_mark mark cell marks = is_positive (times_marked mark cell marks)
 
 -- By this gain the job j became k: the lists of its pass are longer, it holds what was held, and its tally rose by the wins of
 -- each type. It keeps the number of its pass and what it was made for.
@@ -44,7 +44,7 @@ pub record Grows (g : StoppedGraph) (j : ScanState) (a : Gain) (k : ScanState) :
   pub tally : (kind : ℕ) → slice_index k.tally kind ≡ slice_index j.tally kind + kind_count g kind a.wins
 
 -- Each job grew by a gain of its own, and P is true of all these gains together.
-pub record Gained (g : StoppedGraph) (P : Gain → Type 0) (js ks : List ScanState) : Type 0 where
+pub record GainsOf (g : StoppedGraph) (P : Gain → Type 0) (js ks : List ScanState) : Type 0 where
   pub gains : List Gain
   pub each : Each (Grows g) js gains ks
   pub all : P (all_gains gains)

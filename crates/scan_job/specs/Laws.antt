@@ -4,7 +4,7 @@ use Rattle.std.specs.List.{Contains}
 use Rattle.heap_base.specs.declared.task.Task.{Task}
 use Rattle.graph_meaning.specs.Reach.{HasEdge, IsPath}
 use Rattle.graph_meaning.specs.Roles.{RoleTable, AreRolesOf}
-use Rattle.object_table.specs.Placed.{Placed}
+use Rattle.object_table.specs.Placed.{PlacedTable}
 use Rattle.scan_job.specs.declared.mode.Mode.{Mode}
 use Rattle.scan_job.specs.Graphs.{StoppedGraph, IsWhole, whole_graph, inner_graph, is_under_owners, is_found_from}
 use Rattle.scan_job.specs.Cells.{graph_of}
@@ -12,7 +12,7 @@ use Rattle.scan_job.specs.Fit.{IsFit, fit_tasks}
 
 -- The graph of a table and of roles of it is whole.
 abbrev pub TablesAreWhole : Type 0
-TablesAreWhole = (p : Placed) (r : RoleTable) → AreRolesOf p.cells (length p.table.kinds) r → IsWhole (graph_of p r)
+TablesAreWhole = (p : PlacedTable) (r : RoleTable) → AreRolesOf p.cells (length p.table.kinds) r → IsWhole (graph_of p r)
 
 -- The list of fit tasks holds exactly those that are fit.
 abbrev pub FitTasksAreListed : Type 0

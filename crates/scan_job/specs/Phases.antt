@@ -17,18 +17,18 @@ use Rattle.scan_job.specs.declared.mode.Mode.TheVariants.{Owner, TakeUp, Root}
 use Rattle.scan_job.specs.declared.shared.ScanShared.{ScanShared}
 use Rattle.scan_job.specs.Graphs.{StoppedGraph, is_border, owners, all_targets, is_under_owners, is_found_from, is_reached_by_roots}
 use Rattle.scan_job.specs.Fit.{no_owners}
-use Rattle.scan_job.specs.Gains.{Gain, Gained, is_marked}
+use Rattle.scan_job.specs.Gains.{Gain, GainsOf, lists_mark}
 use Rattle.scan_job.specs.Jobs.{graph_in, shared_meaning, scan_meaning}
 use Rattle.scan_job.specs.Scans.{AreAmong, task_at}
-use Rattle.scan_job.specs.Shared.{Shared, lent}
+use Rattle.scan_job.specs.Shared.{SharedHeap, shared_behind}
 use Rattle.scan_job.specs.States.{ScanState, turns_of}
 
-abbrev pub cells_in : Shared → ℕ
+abbrev pub cells_in : SharedHeap → ℕ
 cells_in s = length s.table.cells
 
 -- What each phase asks of the jobs and the first tasks, whoever runs them: there are 1 to 16 jobs; every job is ready and has
 -- turns for as many tasks as a phase may have; and there is a list of first tasks for each job, with room.
-pub record CanBegin (s : Shared) (js : List ScanState) (first : FirstLists) : Type 0 where
+pub record CanBeginPhase (s : SharedHeap) (js : List ScanState) (first : FirstLists) : Type 0 where
   pub some : 0 < length js
   pub few : length js ≤ MOST_WORKERS
   pub ready : AreReady shared_meaning s js
@@ -43,8 +43,8 @@ pub record CanScan (s : ScanShared) (js : List ScanState) (crew : Crew ScanState
   pub turns : All (λ j. 2 ^ 25 < turns_of j) js
   pub jobs : length js ≡ workers_of crew
   pub lists : length first.lists ≡ workers_of crew
-  pub list_room : cells_in (lent s) ≤ first.room
-  pub room : 2 * cells_in (lent s) < Runs.room_of crew
+  pub list_room : cells_in (shared_behind s) ≤ first.room
+  pub room : 2 * cells_in (shared_behind s) < Runs.room_of crew
 
 -- what all jobs hold, in the order of the jobs
 abbrev pub all_held : List ScanState → List ℕ
@@ -58,12 +58,12 @@ abbrev pub AreUnderOwners : StoppedGraph → List ℕ → Type 0
 AreUnderOwners g xs = (x : ℕ) → IsTrue (has_id xs x) → IsTrue (not (g.is_owner x)) × IsTrue (is_under_owners g x)
 
 -- the job as it begins a phase
-abbrev pub begun : Mode → ScanState → ScanState
-begun mode j = record j { mode = mode; held = [] }
+abbrev pub starting_in : Mode → ScanState → ScanState
+starting_in mode j = record j { mode = mode; held = [] }
 
 -- What a run asks, where each worker has room for so many tasks: there is a list of first tasks for each job; the jobs are
 -- ready and have the same fit tasks; the first tasks are fit; and there are room and turns for all that may be put.
-pub record CanRun (s : Shared) (load : Workload ScanState) (room : ℕ) : Type 0 where
+pub record CanRunJobs (s : SharedHeap) (load : Workload ScanState) (room : ℕ) : Type 0 where
   pub lists : length load.first ≡ length load.jobs
   pub ready : AreReady shared_meaning s load.jobs
   pub same_fit : ShareFit shared_meaning s (Runs.fit_tasks shared_meaning s load.jobs) load.jobs
@@ -72,7 +72,7 @@ pub record CanRun (s : Shared) (load : Workload ScanState) (room : ℕ) : Type 0
   pub turns : HaveTurns shared_meaning (most_tasks shared_meaning load.jobs load.first) load.jobs
 
 -- What a run of this workload leaves, whoever ran it.
-pub record HasRun (s : Shared) (load : Workload ScanState) (ks : List ScanState) : Type 0 where
+pub record HasRunJobs (s : SharedHeap) (load : Workload ScanState) (ks : List ScanState) : Type 0 where
   pub ran : Run shared_meaning s load ks
   pub ready : AreReady shared_meaning s ks
   pub turns : TurnsLast shared_meaning (most_tasks shared_meaning load.jobs load.first) load.jobs ks
@@ -90,8 +90,8 @@ deal workers k fs [] = fs
 deal workers k fs (t ∷ ts) = deal workers (k + 1) (put_last fs (k % workers) t) ts
 
 -- a list for each worker: task number k stands in that of the worker k modulo the number of workers
-abbrev pub dealt : ℕ → List Task → List (List Task)
-dealt workers ts = deal workers 0 (replicate workers []) ts
+abbrev pub task_lists : ℕ → List Task → List (List Task)
+task_lists workers ts = deal workers 0 (replicate workers []) ts
 
 -- the first tasks of the owner phase
 abbrev pub owner_firsts : RoleTable → List Task
@@ -109,7 +109,7 @@ root_firsts g won = map (task_at 0) (no_owners g won)
 pub record BeginsAtRoots (g : StoppedGraph) (workers : ℕ) (fs : List (List Task)) : Type 0 where
   pub won : List ℕ
   pub among : AreAmong won g.roots
-  pub lists : fs ≡ dealt workers (root_firsts g won)
+  pub lists : fs ≡ task_lists workers (root_firsts g won)
 
 -- ---- what the jobs gain together
 
@@ -124,9 +124,9 @@ pub record OwnerGains (g : StoppedGraph) (a : Gain) : Type 0 where
   pub adds : AsOften a.adds (all_targets g (owners g) ++ all_targets g (filter (λ x. not (is_border g x)) a.wins))
   pub wins : (x : ℕ) → IsTrue (has_id a.wins x) → IsTrue (is_under_owners g x)
   pub held : AsOften a.held (filter (λ x. g.is_ownee x && not (g.is_owner x)) a.wins)
-  pub found : (e : ℕ) → IsTrue (is_marked Found e a.marks) → (o : ℕ) × IsTrue (g.owns o e) × IsTrue (is_found_from g o e)
-  pub marked : (o e : ℕ) → IsTrue (g.owns o e) → IsTrue (has_id (g.targets o) e) → IsTrue (is_marked Found e a.marks)
-  pub unmet : (e : ℕ) → is_marked MetByRoots e a.marks ≡ false
+  pub found : (e : ℕ) → IsTrue (lists_mark Found e a.marks) → (o : ℕ) × IsTrue (g.owns o e) × IsTrue (is_found_from g o e)
+  pub marked : (o e : ℕ) → IsTrue (g.owns o e) → IsTrue (has_id (g.targets o) e) → IsTrue (lists_mark Found e a.marks)
+  pub unmet : (e : ℕ) → lists_mark MetByRoots e a.marks ≡ false
 
 -- the scans from what was held
 -- adds: what is met is what the slots of what was held lead to, and those of the wins that are no owners
@@ -165,14 +165,14 @@ abbrev pub from_roots : Phase
 from_roots = record { mode = Root; gains = RootGains }
 
 -- The jobs js went through the phase and became ks.
-pub record IsDone (s : Shared) (phase : Phase) (js ks : List ScanState) : Type 0 where
-  pub gains : Gained (graph_in s) (phase.gains (graph_in s)) js ks
+pub record IsDone (s : SharedHeap) (phase : Phase) (js ks : List ScanState) : Type 0 where
+  pub gains : GainsOf (graph_in s) (phase.gains (graph_in s)) js ks
   pub modes : AreIn phase.mode ks
   pub ready : AreReady shared_meaning s ks
   pub turns : TurnsLast shared_meaning (2 ^ 25 + 1) js ks
 
 -- The jobs js have begun the phase with this workload: it can be run, and whatever run does it, the phase is done.
-pub record HasBegun (s : Shared) (phase : Phase) (js : List ScanState) (load : Workload ScanState) : Type 0 where
+pub record HasBegun (s : SharedHeap) (phase : Phase) (js : List ScanState) (load : Workload ScanState) : Type 0 where
   pub many : length load.jobs ≡ length js
-  pub can_run : (room : ℕ) → 2 * cells_in s < room → CanRun s load room
-  pub done : (ks : List ScanState) → HasRun s load ks → IsDone s phase js ks
+  pub can_run : (room : ℕ) → 2 * cells_in s < room → CanRunJobs s load room
+  pub done : (ks : List ScanState) → HasRunJobs s load ks → IsDone s phase js ks

@@ -44,8 +44,8 @@ mark_of g Root tag x = MetByRoots ∷ []
 abbrev pub marks_on : StoppedGraph → Mode → ℕ → ℕ → List (ℕ × Mark)
 marks_on g mode tag x = if g.is_ownee x then map (λ m. (x, m)) (mark_of g mode tag x) else []
 
-abbrev pub all_marks : StoppedGraph → Mode → Meeting → List (ℕ × Mark)
-all_marks g mode m = flat_map (marks_on g mode m.tag) m.cells
+abbrev pub marks_on_cells : StoppedGraph → Mode → Meeting → List (ℕ × Mark)
+marks_on_cells g mode m = flat_map (marks_on g mode m.tag) m.cells
 
 -- how many of these objects are of the type with this number
 abbrev pub kind_count : StoppedGraph → ℕ → List ℕ → ℕ
@@ -64,7 +64,7 @@ pub record Meets (g : StoppedGraph) (m : Meeting) (j k : ScanState) : Type 0 whe
   pub adds : adds k.pass ≡ adds j.pass ++ m.cells
   pub wins : wins k.pass ≡ wins j.pass ++ m.won
   pub among : AreAmong m.won m.cells
-  pub marks : marks k.pass ≡ marks j.pass ++ all_marks g j.mode m
+  pub marks : marks k.pass ≡ marks j.pass ++ marks_on_cells g j.mode m
   pub held : k.held ≡ j.held ++ filter (is_held g j.mode) m.won
   pub tally : (kind : ℕ) → slice_index k.tally kind ≡ slice_index j.tally kind + kind_count g kind m.won
 

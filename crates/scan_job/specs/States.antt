@@ -1,5 +1,5 @@
 -- What contracts see of a scan job.
-use Rattle.std.specs.Prelude.{◌≡◌, ℕ, ◌-◌, ◌/◌, ◌<◌, ◌≤◌, List, [], length, replicate, IsTrue, slice_index}
+use Rattle.std.specs.Prelude.{◌≡◌, ℕ, ◌-◌, ◌/◌, ◌<◌, ◌≤◌, List, [], length, map, replicate, IsTrue, slice_index}
 use Rattle.heap_base.specs.declared.limits.TheConstants.{MOST_SLOTS}
 use Rattle.heap_base.specs.Counting.{IsOnce}
 use Rattle.graph_meaning.specs.Reach.{has_id}
@@ -37,9 +37,13 @@ pub record IsSameJob (j k : ScanState) : Type 0 where
 abbrev pub new_state : Pass → ℕ → ℕ → ScanState
 new_state pass cells kinds = record { mode = Owner; pass = pass; cells = cells; held = []; tally = replicate kinds 0 }
 
+-- the passes of these jobs, in order
+abbrev pub passes_of : List ScanState → List Pass
+passes_of js = map (λ (j : ScanState). j.pass) js
+
 -- how many cells it may still win, at most
-abbrev pub room_of : ScanState → ℕ
-room_of j = j.cells - length (wins j.pass)
+abbrev pub wins_left : ScanState → ℕ
+wins_left j = j.cells - length (wins j.pass)
 
 -- how many objects its pass may still scan, where each has as many slots as all may have together
 abbrev pub turns_of : ScanState → ℕ

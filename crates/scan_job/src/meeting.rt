@@ -7,7 +7,7 @@ ghost use Rattle.scan_job.specs.declared.mode.Mode.TheVariants.{Root};
 ghost use Rattle.scan_job.specs.Cells.{is_owned_by};
 ghost use Rattle.scan_job.specs.Jobs.{IsReady, shared_graph};
 ghost use Rattle.scan_job.specs.Scans.{Meets, one_meeting, is_held, is_put, marks_on, put_tasks};
-ghost use Rattle.scan_job.specs.States.{IsWithinWins, room_of, turns_of};
+ghost use Rattle.scan_job.specs.States.{IsWithinWins, wins_left, turns_of};
 
 use crate::job::ScanJob;
 use crate::mode::Mode;
@@ -118,7 +118,7 @@ impl ScanJob {
         requires ready { IsReady self.old shared.now }
         requires cell { IsSome (id_in shared.now.table.now cell) }
         requires left { 0 < self.old.pass.left }
-        requires spare { length out.old.tasks + room_of self.old ≤ out.old.room }
+        requires spare { length out.old.tasks + wins_left self.old ≤ out.old.room }
         ensures meets { Meets (shared_graph shared.now) (one_meeting tag cell result) self.old self.new }
         ensures ready { IsReady self.new shared.now }
         ensures within_wins { IsWithinWins self.new }

@@ -2,8 +2,8 @@
 ghost use Rattle.std.specs.Bool.{OnTrue};
 ghost use Rattle.std.specs.List.{All};
 ghost use Rattle.std.specs.Prelude.{◌≡◌, [], length, map};
-ghost use Rattle.scan_job.specs.Phases.{CanRun, HasRun, begun};
-ghost use Rattle.scan_job.specs.Shared.{lent};
+ghost use Rattle.scan_job.specs.Phases.{CanRunJobs, HasRunJobs, starting_in};
+ghost use Rattle.scan_job.specs.Shared.{shared_behind};
 ghost use Rattle.steal_pool.specs.Runs.{workers_of, room_of};
 
 use crate::job::ScanJob;
@@ -23,7 +23,7 @@ pub struct ScanContext<'a, R, G> {
 
 /// Sets the mode of each job, and takes the held cells away.
 pub fn begin_phase(jobs: &mut Vec<ScanJob>, mode: Mode)
-    ensures { jobs.new.items ≡ map (begun mode) jobs.old.items }
+    ensures { jobs.new.items ≡ map (starting_in mode) jobs.old.items }
 {
     for job in jobs.iter_mut() {
         job.set_mode(mode);
@@ -51,9 +51,9 @@ pub fn run_scans<R: Threads + Sync, G: Gate>(
     jobs: &mut Vec<ScanJob>,
     first: &FirstTasks,
 )
-    requires can { CanRun (lent context.shared.now) (record { jobs = jobs.old.items; first = first.now.lists }) (room_of crew.old) }
+    requires can { CanRunJobs (shared_behind context.shared.now) (record { jobs = jobs.old.items; first = first.now.lists }) (room_of crew.old) }
     requires jobs { length jobs.old.items ≡ workers_of crew.old }
-    ensures ran { HasRun (lent context.entry.shared.now) (record { jobs = jobs.old.items; first = first.now.lists }) jobs.new.items }
+    ensures ran { HasRunJobs (shared_behind context.entry.shared.now) (record { jobs = jobs.old.items; first = first.now.lists }) jobs.new.items }
     ensures room { room_of crew.new ≡ room_of crew.old }
     ensures workers { workers_of crew.new ≡ workers_of crew.old }
 {

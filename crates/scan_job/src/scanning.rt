@@ -2,7 +2,7 @@
 ghost use Rattle.std.specs.Prelude.{◌≡◌, IsSome};
 ghost use Rattle.object_table.specs.Placed.{id_in};
 ghost use Rattle.scan_job.specs.Jobs.{IsReady};
-ghost use Rattle.scan_job.specs.States.{IsSameJob, room_of, turns_of};
+ghost use Rattle.scan_job.specs.States.{IsSameJob, wins_left, turns_of};
 
 use crate::job::ScanJob;
 use crate::shared::ScanShared;
@@ -16,7 +16,7 @@ impl<'a> Job<ScanShared<'a>> for ScanJob {
 
     /// How many cells it may still win.
     fn room(&self) -> u64
-        ensures { result ≡ room_of self.now }
+        ensures { result ≡ wins_left self.now }
     {
         (self.cells - self.won) as u64
     }

@@ -15,17 +15,17 @@ use Rattle.scan_job.specs.Gains.{Gain, Grows}
 use Rattle.scan_job.specs.Graphs.{StoppedGraph}
 use Rattle.scan_job.specs.Jobs.{IsReady, scan_meaning}
 use Rattle.scan_job.specs.Phases.{cells_in, CanScan}
-use Rattle.scan_job.specs.Shared.{lent}
-use Rattle.scan_job.specs.States.{ScanState, turns_of}
-use Rattle.scan_tests.specs.NewJobs.{AreAllJobs, passes_of}
+use Rattle.scan_job.specs.Shared.{shared_behind}
+use Rattle.scan_job.specs.States.{ScanState, turns_of, passes_of}
+use Rattle.scan_tests.specs.NewJobs.{AreAllJobs}
 use Rattle.scan_job.proofs.Starting.{all-map, all-cons, all-tail}
 
 -- a crew and lists for so many workers, with room for a phase
 pub record HasRoom (s : ScanShared) (workers : ℕ) (crew : Crew ScanState) (first : FirstLists) : Type 0 where
   pub count : workers_of crew ≡ workers
-  pub room : 2 * cells_in (lent s) < Runs.room_of crew
+  pub room : 2 * cells_in (shared_behind s) < Runs.room_of crew
   pub lists : length first.lists ≡ workers
-  pub list_room : cells_in (lent s) ≤ first.room
+  pub list_room : cells_in (shared_behind s) ≤ first.room
 
 module _ (s : ScanShared) (workers : ℕ) (js : List ScanState) (crew : Crew ScanState) (first : FirstLists)
     (all : AreAllJobs workers s.table.now s.headers.now js) (room : HasRoom s workers crew first)
@@ -58,7 +58,7 @@ module _ (s : ScanShared) (workers : ℕ) (js : List ScanState) (crew : Crew Sca
 -- with a crew and lists that were just made for the cells new jobs may go through a phase
 pub begin-scan : (s : ScanShared) (workers cells : ℕ) (js : List ScanState) (crew : Crew ScanState) (first : FirstLists) →
     AreAllJobs workers s.table.now s.headers.now js → AreRolesOf s.table.now.cells (length s.table.now.table.kinds) s.roles.now →
-    IsPlaced s.table.now → IsSound s.table.now.table → cells ≡ cells_in (lent s) → workers_of crew ≡ workers →
+    IsPlaced s.table.now → IsSound s.table.now.table → cells ≡ cells_in (shared_behind s) → workers_of crew ≡ workers →
     Runs.room_of crew ≡ 2 * cells + 1 → first.lists ≡ replicate workers [] → first.room ≡ cells → CanScan s js crew first
 begin-scan s workers cells js crew first all roles placed sound count crew_count room lists list_room = new-can_scan s workers js crew first all (record {
   count = crew_count;

@@ -3,7 +3,8 @@ ghost use Rattle.std.specs.Prelude.{◌≡◌, ◌<◌, ◌≤◌, length, IfOk,
 ghost use Rattle.heap_base.specs.declared.limits.TheConstants.{MOST_WORKERS};
 ghost use Rattle.graph_meaning.specs.Roles.{AreRolesOf};
 ghost use Rattle.header_rule.specs.Passes.{ArePassesOf};
-ghost use Rattle.scan_tests.specs.NewJobs.{AreAllJobs, CountKinds, passes_of};
+ghost use Rattle.scan_tests.specs.NewJobs.{AreAllJobs, CountKinds};
+ghost use Rattle.scan_job.specs.States.{passes_of};
 
 use graph_meaning::Roles;
 use header_rule::{Headers, Words};

@@ -10,7 +10,7 @@ use Rattle.generator.specs.declared.plan.TheConstants.{LEAST_SIZE, MOST_NUMBER, 
 use Rattle.generator.specs.Plans.{IsPlan}
 use Rattle.settings.specs.declared.numbers.TheConstants.{LEAST_WORKERS, USUAL_WORKERS, MOST_PATHS}
 use Rattle.settings.specs.Numbers.{is_number, number_by}
-use Rattle.settings.specs.Settings.{Given, IsInRange, asked, paths_asked, plan_asked, plan_by, planned, react_asked, settings_from, workers_asked}
+use Rattle.settings.specs.Settings.{OptionValues, IsInRange, option_setting, paths_asked, plan_asked, plan_by, plan_of, react_asked, settings_from, workers_asked}
 
 -- a number that is taken is from the least to the most
 pub taken_number : (least most : ℕ) (text : List ℕ) → IfSome (number_by least most text) (λ n. (least ≤ n) × (n ≤ most))
@@ -26,7 +26,7 @@ taken_number least most text = go (is_number text && nat_le least (digits_value 
         (grind (arith, above, nat_tests), grind (arith, upper, nat_tests))
 
 -- and so is what is usual, where that is
-asked_number : (usual least most : ℕ) (value : Option (List ℕ)) → least ≤ usual → usual ≤ most → IfSome (asked usual (number_by least most) value) (λ n. (least ≤ n) × (n ≤ most))
+asked_number : (usual least most : ℕ) (value : Option (List ℕ)) → least ≤ usual → usual ≤ most → IfSome (option_setting usual (number_by least most) value) (λ n. (least ≤ n) × (n ≤ most))
 asked_number usual least most None low high = (low, high)
 asked_number usual least most (Some text) low high = taken_number least most text
 
@@ -55,13 +55,13 @@ some_plan : (plan : Option GenPlan) → IfSome plan IsPlan → IfSome (option_ma
 some_plan None is = tt
 some_plan (Some plan) is = is
 
-planned_plan : (number size : Option (List ℕ)) → IfSome (planned number size) (λ p. IfSome p IsPlan)
+planned_plan : (number size : Option (List ℕ)) → IfSome (plan_of number size) (λ p. IfSome p IsPlan)
 planned_plan None None = tt
 planned_plan None (Some size) = tt
 planned_plan (Some number) None = tt
 planned_plan (Some number) (Some size) = some_plan (plan_by number size) (taken_plan number size)
 
-pub settings_in_range : (given : Given) → IfSome (settings_from given) IsInRange
+pub settings_in_range : (given : OptionValues) → IfSome (settings_from given) IsInRange
 unfolding settings_from
 settings_in_range given =
     made_of (λ n. (LEAST_WORKERS ≤ n) × (n ≤ MOST_WORKERS)) IsInRange (workers_asked given) _

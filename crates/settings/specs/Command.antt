@@ -23,5 +23,5 @@ unfoldable pub is_well_formed : List Text → Bool
 is_well_formed words = not (is_empty words) && is_empty (fault_of command words)
 
 -- the value that the words give the option of this name
-unfoldable pub value_of : Text → List Text → Option Text
-value_of name words = first_of name (matches_of command words)
+unfoldable pub option_value : Text → List Text → Option Text
+option_value name words = first_of name (matches_of command words)

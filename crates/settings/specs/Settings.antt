@@ -9,15 +9,15 @@ use Rattle.generator.specs.declared.plan.TheConstants.{LEAST_SIZE, MOST_NUMBER, 
 use Rattle.generator.specs.Plans.{IsPlan}
 use Rattle.settings.specs.declared.numbers.TheConstants.{LEAST_WORKERS, USUAL_WORKERS, MOST_PATHS}
 use Rattle.settings.specs.declared.settings.Settings.{Settings}
-use Rattle.settings.specs.Command.{is_well_formed, value_of}
+use Rattle.settings.specs.Command.{is_well_formed, option_value}
 use Rattle.settings.specs.Numbers.{number_by}
 
 -- ---- the values of the options
 
 -- what an option asks for: what is usual where it isn't there, or else what its value says
-abbrev pub asked : {X : Type 0} → X → (List ℕ → Option X) → Option (List ℕ) → Option X
-asked usual read None = Some usual
-asked usual read (Some value) = read value
+abbrev pub option_setting : {X : Type 0} → X → (List ℕ → Option X) → Option (List ℕ) → Option X
+option_setting usual read None = Some usual
+option_setting usual read (Some value) = read value
 
 abbrev pub react_by : List ℕ → Option React
 react_by value =
@@ -31,31 +31,31 @@ plan_by number size =
     option_and_then (λ n. option_map (λ s. record { number = n; size = s }) (number_by LEAST_SIZE MOST_SIZE size)) (number_by 0 MOST_NUMBER number)
 
 -- a plan has a number and a size; where there is neither, there is none
-abbrev pub planned : Option (List ℕ) → Option (List ℕ) → Option (Option GenPlan)
-planned None None = Some None
-planned (Some number) (Some size) = option_map Some (plan_by number size)
-planned _ _ = None
+abbrev pub plan_of : Option (List ℕ) → Option (List ℕ) → Option (Option GenPlan)
+plan_of None None = Some None
+plan_of (Some number) (Some size) = option_map Some (plan_by number size)
+plan_of _ _ = None
 
 -- ---- the settings
 
 -- the value that the words give an option by its name, where they do
-abbrev pub Given : Type 0
-Given = List ℕ → Option (List ℕ)
+abbrev pub OptionValues : Type 0
+OptionValues = List ℕ → Option (List ℕ)
 
-abbrev pub workers_asked : Given → Option ℕ
-workers_asked given = asked USUAL_WORKERS (number_by LEAST_WORKERS MOST_WORKERS) (given (codes "workers"))
+abbrev pub workers_asked : OptionValues → Option ℕ
+workers_asked given = option_setting USUAL_WORKERS (number_by LEAST_WORKERS MOST_WORKERS) (given (codes "workers"))
 
-abbrev pub paths_asked : Given → Option ℕ
-paths_asked given = asked USUAL_PATHS (number_by 0 MOST_PATHS) (given (codes "paths"))
+abbrev pub paths_asked : OptionValues → Option ℕ
+paths_asked given = option_setting USUAL_PATHS (number_by 0 MOST_PATHS) (given (codes "paths"))
 
-abbrev pub react_asked : Given → Option React
-react_asked given = asked Report react_by (given (codes "react"))
+abbrev pub react_asked : OptionValues → Option React
+react_asked given = option_setting Report react_by (given (codes "react"))
 
-abbrev pub plan_asked : Given → Option (Option GenPlan)
-plan_asked given = planned (given (codes "gen")) (given (codes "size"))
+abbrev pub plan_asked : OptionValues → Option (Option GenPlan)
+plan_asked given = plan_of (given (codes "gen")) (given (codes "size"))
 
 -- the settings that the options ask for, where the value of each is one that it may have
-unfoldable pub settings_from : Given → Option Settings
+unfoldable pub settings_from : OptionValues → Option Settings
 settings_from given =
     option_and_then (λ workers.
     option_and_then (λ paths.
@@ -65,10 +65,10 @@ settings_from given =
 
 -- The settings that the words ask for, the program's name first, and none where the words are refused.
 abbrev pub settings_by : List (List ℕ) → Option Settings
-settings_by words = if is_well_formed words then settings_from (λ name. value_of name words) else None
+settings_by words = if is_well_formed words then settings_from (λ name. option_value name words) else None
 
-abbrev pub is_taken : List (List ℕ) → Bool
-is_taken words = is_some (settings_by words)
+abbrev pub are_accepted : List (List ℕ) → Bool
+are_accepted words = is_some (settings_by words)
 
 -- the numbers are in their ranges
 pub record IsInRange (s : Settings) : Type 0 where

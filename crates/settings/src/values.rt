@@ -2,7 +2,7 @@
 ghost use Rattle.std.specs.Prelude.{◌≡◌, map, option_map};
 ghost use Rattle.clap.specs.Words.{first_value, found_of};
 ghost use Rattle.settings.specs.Numbers.{number_by};
-ghost use Rattle.settings.specs.Settings.{asked, plan_by, planned, react_asked, react_by, settings_from};
+ghost use Rattle.settings.specs.Settings.{option_setting, plan_by, plan_of, react_asked, react_by, settings_from};
 
 use crate::command::{GEN, PATHS, REACT, SIZE, WORKERS};
 use crate::numbers::{LEAST_WORKERS, MOST_PATHS, USUAL_WORKERS, number_by};
@@ -20,7 +20,7 @@ pub(crate) fn settings_from(matches: &ArgMatches<'_>) -> Option<Settings>
     let workers = workers_asked(matches.get_str(WORKERS))?;
     let paths = paths_asked(matches.get_str(PATHS))?;
     let react = react_asked(matches.get_str(REACT))?;
-    let plan = planned(matches.get_str(GEN), matches.get_str(SIZE))?;
+    let plan = plan_of(matches.get_str(GEN), matches.get_str(SIZE))?;
     Some(Settings {
         workers,
         paths,
@@ -30,7 +30,7 @@ pub(crate) fn settings_from(matches: &ArgMatches<'_>) -> Option<Settings>
 }
 
 fn workers_asked(value: Option<&str>) -> Option<u32>
-    ensures { result ≡ asked USUAL_WORKERS (number_by LEAST_WORKERS MOST_WORKERS) (option_map (λ v. v.now) value.entry) }
+    ensures { result ≡ option_setting USUAL_WORKERS (number_by LEAST_WORKERS MOST_WORKERS) (option_map (λ v. v.now) value.entry) }
 {
     match value {
         None => Some(USUAL_WORKERS),
@@ -39,7 +39,7 @@ fn workers_asked(value: Option<&str>) -> Option<u32>
 }
 
 fn paths_asked(value: Option<&str>) -> Option<u32>
-    ensures { result ≡ asked USUAL_PATHS (number_by 0 MOST_PATHS) (option_map (λ v. v.now) value.entry) }
+    ensures { result ≡ option_setting USUAL_PATHS (number_by 0 MOST_PATHS) (option_map (λ v. v.now) value.entry) }
 {
     match value {
         None => Some(USUAL_PATHS),
@@ -48,7 +48,7 @@ fn paths_asked(value: Option<&str>) -> Option<u32>
 }
 
 fn react_asked(value: Option<&str>) -> Option<React>
-    ensures { result ≡ asked React.Report react_by (option_map (λ v. v.now) value.entry) }
+    ensures { result ≡ option_setting React.Report react_by (option_map (λ v. v.now) value.entry) }
 {
     match value {
         None => Some(React::Report),
@@ -68,8 +68,8 @@ fn react_by(text: &str) -> Option<React>
 }
 
 // A plan has a number and a size; where neither is there, no trace is to be generated.
-fn planned(number: Option<&str>, size: Option<&str>) -> Option<Option<GenPlan>>
-    ensures { result ≡ planned (option_map (λ v. v.now) number.entry) (option_map (λ v. v.now) size.entry) }
+fn plan_of(number: Option<&str>, size: Option<&str>) -> Option<Option<GenPlan>>
+    ensures { result ≡ plan_of (option_map (λ v. v.now) number.entry) (option_map (λ v. v.now) size.entry) }
 {
     match (number, size) {
         (None, None) => Some(None),

@@ -13,8 +13,8 @@ use Rattle.snapshot_text.specs.declared.line.Line.{Line}
 use Rattle.snapshot_text.specs.declared.line.Line.TheVariants.{Head, Object, Slot, Root, End}
 use Rattle.snapshot_text.specs.declared.stage.Stage.{Stage}
 use Rattle.snapshot_text.specs.declared.stage.Stage.TheVariants.{Empty, Begun, InObject, InRoots, Ended}
-use Rattle.snapshot_text.specs.Table.{Reading, nothing_read, whole_object, open_objects, objects_read, may_add, with_object, may_fill, with_slot}
-use Rattle.snapshot_text.specs.Table.{take_slot, may_root, with_root, ended, is_empty, is_before_roots, is_under_way, is_ended, take_line}
+use Rattle.snapshot_text.specs.Table.{Reading, nothing_read, whole_object, open_objects, objects_read, may_add, after_object_line, may_fill, after_slot_line}
+use Rattle.snapshot_text.specs.Table.{take_slot, may_root, after_root_line, closed_reading, is_empty, is_before_roots, is_under_way, is_ended, take_line}
 use Rattle.snapshot_text.specs.Table.{take_said}
 use Rattle.snapshot_text.specs.Dangling.{object_ids}
 use Rattle.snapshot_text.specs.Bounds.{IsWithin, IsBounded}
@@ -40,7 +40,7 @@ keeps_objects r s is same count greatest slots roots within = record {
 taken_where : (condition : Bool) (r s : Reading) → cond condition (Some r) None ≡ Some s → (condition ≡ true) × (r ≡ s)
 taken_where condition r s is = cond_some condition r s is
 
-object_bounded : (r : Reading) (id slots : ℕ) (kind : List ℕ) → may_add r id slots kind ≡ true → IsBounded r → IsBounded (with_object r id slots kind)
+object_bounded : (r : Reading) (id slots : ℕ) (kind : List ℕ) → may_add r id slots kind ≡ true → IsBounded r → IsBounded (after_object_line r id slots kind)
 unfolding may_add
 object_bounded r id slots kind may is =
     let a =
@@ -71,7 +71,7 @@ slot_bounded : (r : Reading) (slot to : ℕ) (stage : Stage) (s : Reading) → r
 slot_bounded r slot to Empty s at taken is = absurd (none-some s taken)
 slot_bounded r slot to Begun s at taken is = absurd (none-some s taken)
 slot_bounded r slot to (InObject o) s at taken is =
-    let parts = taken_where (may_fill o slot) (record r { stage = InObject (with_slot o slot to) }) s taken in
+    let parts = taken_where (may_fill o slot) (record r { stage = InObject (after_slot_line o slot to) }) s taken in
     let may = and_parts _ _ parts.0 in
     let below : slot < o.slots = ltb-true slot o.slots may.0 in
     let above : length o.filled ≤ slot = leb-true (length o.filled) slot may.1 in
@@ -83,12 +83,12 @@ slot_bounded r slot to (InObject o) s at taken is =
       length-replicate {A = Option ℕ} (slot - length o.filled) None,
     ) in
     let same : object_ids (objects_read r) ≡ object_ids (r.objects ++ whole_object o ∷ []) = ap (λ (t : Stage). object_ids (r.objects ++ open_objects t)) at in
-    let now : object_ids (r.objects ++ whole_object (with_slot o slot to) ∷ []) ≡ object_ids (r.objects ++ whole_object o ∷ []) =
-    map-append (λ (o : ObjectView). o.id) r.objects (whole_object (with_slot o slot to) ∷ []) ∙ sym (map-append (λ (o : ObjectView). o.id) r.objects (whole_object o ∷ [])) in
-    let counted : length (r.objects ++ whole_object (with_slot o slot to) ∷ []) ≡ length (objects_read r) =
-    length-append r.objects (whole_object (with_slot o slot to) ∷ []) ∙ sym (length-append r.objects (whole_object o ∷ [])) ∙ ap (λ (t : Stage). length (r.objects ++ open_objects t)) (sym at) in
+    let now : object_ids (r.objects ++ whole_object (after_slot_line o slot to) ∷ []) ≡ object_ids (r.objects ++ whole_object o ∷ []) =
+    map-append (λ (o : ObjectView). o.id) r.objects (whole_object (after_slot_line o slot to) ∷ []) ∙ sym (map-append (λ (o : ObjectView). o.id) r.objects (whole_object o ∷ [])) in
+    let counted : length (r.objects ++ whole_object (after_slot_line o slot to) ∷ []) ≡ length (objects_read r) =
+    length-append r.objects (whole_object (after_slot_line o slot to) ∷ []) ∙ sym (length-append r.objects (whole_object o ∷ [])) ∙ ap (λ (t : Stage). length (r.objects ++ open_objects t)) (sym at) in
     subst IsBounded parts.1
-    (keeps_objects r (record r { stage = InObject (with_slot o slot to) }) is (now ∙ sym same) counted refl refl is.few_roots (omega arith))
+    (keeps_objects r (record r { stage = InObject (after_slot_line o slot to) }) is (now ∙ sym same) counted refl refl is.few_roots (omega arith))
 slot_bounded r slot to InRoots s at taken is = absurd (none-some s taken)
 slot_bounded r slot to Ended s at taken is = absurd (none-some s taken)
 
@@ -115,18 +115,18 @@ bounded_more r Head s taken is =
     let parts = taken_where (is_empty r.stage) (record r { stage = Begun }) s taken in
     subst IsBounded parts.1 (head_bounded r r.stage refl parts.0 is)
 bounded_more r (Object id slots kind) s taken is =
-    let parts = taken_where (may_add r id slots kind) (with_object r id slots kind) s taken in
+    let parts = taken_where (may_add r id slots kind) (after_object_line r id slots kind) s taken in
     subst IsBounded parts.1 (object_bounded r id slots kind parts.0 is)
 bounded_more r (Slot slot to) s taken is = slot_bounded r slot to r.stage s refl taken is
 bounded_more r (Root to name) s taken is =
-    let parts = taken_where (may_root r name) (with_root r name to) s taken in
+    let parts = taken_where (may_root r name) (after_root_line r name to) s taken in
     let few = may_root-few r name parts.0 in
     subst IsBounded parts.1
-    (keeps_objects r (with_root r name to) is (ap object_ids (closed_ids r)) (ap length (closed_ids r)) refl refl (omega (arith, few, length-append r.roots ((name, to) ∷ []))) tt)
+    (keeps_objects r (after_root_line r name to) is (ap object_ids (closed_ids r)) (ap length (closed_ids r)) refl refl (omega (arith, few, length-append r.roots ((name, to) ∷ []))) tt)
 bounded_more r End s taken is =
-    let parts = taken_where (is_under_way r.stage) (ended r) s taken in
+    let parts = taken_where (is_under_way r.stage) (closed_reading r) s taken in
     subst IsBounded parts.1
-    (keeps_objects r (ended r) is (ap object_ids (closed_ids r)) (ap length (closed_ids r)) refl refl is.few_roots tt)
+    (keeps_objects r (closed_reading r) is (ap object_ids (closed_ids r)) (ap length (closed_ids r)) refl refl is.few_roots tt)
 
 -- the same where a line may say nothing
 pub bounded_said : (r : Reading) (said : Option Line) (s : Reading) → Some s ≡ take_said r said → IsBounded r → IsBounded s

@@ -17,8 +17,8 @@ use Rattle.graph_meaning.proofs.Membership.{All-has_id}
 use Rattle.snapshot_text.specs.declared.dangling.DanglingReference.{DanglingReference}
 use Rattle.snapshot_text.specs.declared.line.Line.{Line}
 use Rattle.snapshot_text.specs.declared.line.Line.TheVariants.{Head, Object, Slot, End}
-use Rattle.snapshot_text.specs.Text.{lines_of, lines_within, object_lines, root_line, slot_line, slot_lines}
-use Rattle.snapshot_text.specs.Dangling.{first_of, target_in, dangling_at, dangling_from, Passes, Finds}
+use Rattle.snapshot_text.specs.Text.{lines_of, lines_within, lines_of_object, line_of_root, slot_line, lines_of_slots}
+use Rattle.snapshot_text.specs.Dangling.{first_of, target_in, dangling_at, dangling_from, Passes, FindsDangling}
 
 -- what stands from a place on
 pub drop_at : {X : Type 0} (xs : List X) (i : ℕ) (x : X) → slice_get xs i ≡ Some x → drop i xs ≡ x ∷ drop (i + 1) xs
@@ -81,21 +81,23 @@ dangling-here ids line l lines found is = ap (λ (o : Option (ℕ × ℕ)). firs
 
 module _ (ids : List ℕ) (line : ℕ) where
   pub at_slot : (slots : List (Option ℕ)) (place : ℕ) (held : Option ℕ) (rest : List Line) → slice_get slots place ≡ Some held
-      → dangling_from ids line (slot_lines place (drop place slots) ++ rest) ≡ dangling_from ids line (slot_line place held ++ (slot_lines (place + 1) (drop (place + 1) slots) ++ rest))
+      → dangling_from ids line (lines_of_slots place (drop place slots) ++ rest) ≡ dangling_from ids line (slot_line place held ++ (lines_of_slots (place + 1) (drop (place + 1) slots) ++ rest))
   at_slot slots place held rest is =
-      ap (λ (xs : List (Option ℕ)). dangling_from ids line (slot_lines place xs ++ rest)) (drop_at slots place held is)
-      ∙ ap (dangling_from ids line) (append_assoc (slot_line place held) (slot_lines (place + 1) (drop (place + 1) slots)) rest)
+      ap (λ (xs : List (Option ℕ)). dangling_from ids line (lines_of_slots place xs ++ rest)) (drop_at slots place held is)
+      ∙ ap (dangling_from ids line) (append_assoc (slot_line place held) (lines_of_slots (place + 1) (drop (place + 1) slots)) rest)
 
   pub at_object : (objects : List ObjectView) (place : ℕ) (o : ObjectView) (rest : List Line) → slice_get objects place ≡ Some o
-      → dangling_from ids line (flat_map object_lines (drop place objects) ++ rest) ≡ dangling_from ids (line + 1) (slot_lines 0 o.slots ++ (flat_map object_lines (drop (place + 1) objects) ++ rest))
+      →
+      dangling_from ids line (flat_map lines_of_object (drop place objects) ++ rest)
+      ≡ dangling_from ids (line + 1) (lines_of_slots 0 o.slots ++ (flat_map lines_of_object (drop (place + 1) objects) ++ rest))
   at_object objects place o rest is =
-      ap (λ (xs : List ObjectView). dangling_from ids line (flat_map object_lines xs ++ rest)) (drop_at objects place o is)
-      ∙ ap (dangling_from ids line) (append_assoc (object_lines o) (flat_map object_lines (drop (place + 1) objects)) rest)
-      ∙ dangling-nothing ids line (Object o.id (length o.slots) o.kind) (slot_lines 0 o.slots ++ (flat_map object_lines (drop (place + 1) objects) ++ rest)) refl
+      ap (λ (xs : List ObjectView). dangling_from ids line (flat_map lines_of_object xs ++ rest)) (drop_at objects place o is)
+      ∙ ap (dangling_from ids line) (append_assoc (lines_of_object o) (flat_map lines_of_object (drop (place + 1) objects)) rest)
+      ∙ dangling-nothing ids line (Object o.id (length o.slots) o.kind) (lines_of_slots 0 o.slots ++ (flat_map lines_of_object (drop (place + 1) objects) ++ rest)) refl
 
   pub at_root : (roots : List (List ℕ × ℕ)) (place : ℕ) (r : List ℕ × ℕ) → slice_get roots place ≡ Some r
-      → dangling_from ids line (map root_line (drop place roots) ++ End ∷ []) ≡ dangling_from ids line (root_line r ∷ (map root_line (drop (place + 1) roots) ++ End ∷ []))
-  at_root roots place r is = ap (λ (xs : List (List ℕ × ℕ)). dangling_from ids line (map root_line xs ++ End ∷ [])) (drop_at roots place r is)
+      → dangling_from ids line (map line_of_root (drop place roots) ++ End ∷ []) ≡ dangling_from ids line (line_of_root r ∷ (map line_of_root (drop (place + 1) roots) ++ End ∷ []))
+  at_root roots place r is = ap (λ (xs : List (List ℕ × ℕ)). dangling_from ids line (map line_of_root xs ++ End ∷ [])) (drop_at roots place r is)
 
 -- ---- the answers
 
@@ -107,13 +109,13 @@ passes_slot ids line to (Ok next) found is place rest =
 passes_slot ids line to (Err d) found is place rest = dangling-here ids line (Slot place to) rest (d.line, d.to) found
 
 -- from the objects on
-pub in_view : (ids : List ℕ) (v : HeapView) → dangling_from ids 1 (lines_of v) ≡ dangling_from ids 2 (flat_map object_lines v.objects ++ (map root_line v.roots ++ End ∷ []))
+pub in_view : (ids : List ℕ) (v : HeapView) → dangling_from ids 1 (lines_of v) ≡ dangling_from ids 2 (flat_map lines_of_object v.objects ++ (map line_of_root v.roots ++ End ∷ []))
 in_view ids v =
     dangling-nothing ids 1 Head (lines_within v.objects v.roots ++ End ∷ []) refl
-    ∙ ap (dangling_from ids 2) (append_assoc (flat_map object_lines v.objects) (map root_line v.roots) (End ∷ []))
+    ∙ ap (dangling_from ids 2) (append_assoc (flat_map lines_of_object v.objects) (map line_of_root v.roots) (End ∷ []))
 
 pub finds_in_roots : (ids : List ℕ) (v : HeapView) (line : ℕ) (r : Result ⊤ DanglingReference) →
-    ((rest : List Line) → dangling_from ids 2 (flat_map object_lines v.objects ++ rest) ≡ dangling_from ids line rest)
-    → Finds r (dangling_from ids line (map root_line v.roots ++ End ∷ [])) → Finds r (dangling_from ids 1 (lines_of v))
-finds_in_roots ids v line (Ok all) passed found = in_view ids v ∙ passed (map root_line v.roots ++ End ∷ []) ∙ found
-finds_in_roots ids v line (Err d) passed found = in_view ids v ∙ passed (map root_line v.roots ++ End ∷ []) ∙ found
+    ((rest : List Line) → dangling_from ids 2 (flat_map lines_of_object v.objects ++ rest) ≡ dangling_from ids line rest)
+    → FindsDangling r (dangling_from ids line (map line_of_root v.roots ++ End ∷ [])) → FindsDangling r (dangling_from ids 1 (lines_of v))
+finds_in_roots ids v line (Ok all) passed found = in_view ids v ∙ passed (map line_of_root v.roots ++ End ∷ []) ∙ found
+finds_in_roots ids v line (Err d) passed found = in_view ids v ∙ passed (map line_of_root v.roots ++ End ∷ []) ∙ found

@@ -27,11 +27,11 @@ use Rattle.snapshot_text.specs.declared.stage.Stage.{Stage}
 use Rattle.snapshot_text.specs.declared.stage.Stage.TheVariants.{Empty, Begun, InObject, InRoots, Ended}
 use Rattle.snapshot_text.specs.Bounds.{IsWithin, IsBounded}
 use Rattle.snapshot_text.specs.Dangling.{object_ids, target_in, dangling_at, dangling_from, first_of, first_dangling}
-use Rattle.snapshot_text.specs.Formed.{IsWellFormed, LawfulIsWellFormed, kinds_of}
+use Rattle.snapshot_text.specs.Formed.{IsWellFormed, LawfulIsWellFormed, kind_names}
 use Rattle.snapshot_text.specs.Reading.{Refusal, unless_dangling, view_read}
 use Rattle.snapshot_text.specs.Table.{Reading, nothing_read, whole_object, open_objects, objects_read, is_empty, is_ended, is_under_way, may_add}
-use Rattle.snapshot_text.specs.Table.{with_object, may_fill, with_slot, take_slot, last_name, may_root, with_root, ended, take_line}
-use Rattle.snapshot_text.specs.Text.{lines_of, lines_within, object_lines, slot_lines, root_line}
+use Rattle.snapshot_text.specs.Table.{after_object_line, may_fill, after_slot_line, take_slot, last_name, may_root, after_root_line, closed_reading, take_line}
+use Rattle.snapshot_text.specs.Text.{lines_of, lines_within, lines_of_object, lines_of_slots, line_of_root}
 use Rattle.snapshot_text.proofs.Bounded.{bounded_nothing, bounded_more, ended_objects, ended_few, ended_rising}
 use Rattle.snapshot_text.proofs.Legal.{Legal, IsLegalObject, legal_nothing, legal_more}
 use Rattle.snapshot_text.proofs.Texts.{IsSaid, by_reading_text}
@@ -132,7 +132,7 @@ slot_keeps : (r : Reading) (slot to : ℕ) (stage : Stage) (s : Reading) → r.s
 slot_keeps r slot to Empty s at taken counted names = absurd (none-some s taken)
 slot_keeps r slot to Begun s at taken counted names = absurd (none-some s taken)
 slot_keeps r slot to (InObject o) s at taken counted names =
-    let parts = cond_some (may_fill o slot) (record r { stage = InObject (with_slot o slot to) }) s taken in
+    let parts = cond_some (may_fill o slot) (record r { stage = InObject (after_slot_line o slot to) }) s taken in
     let same : r.slots ≡ slot_total r.objects + o.slots = counted ∙ ap (λ (t : Stage). slot_total r.objects + open_count t) at in
     subst (λ (x : Reading). (x.slots ≡ slot_total x.objects + open_count x.stage) × IsStrictlySortedBy name_cmp (keys_of x.roots)) parts.1 (same, names)
 slot_keeps r slot to InRoots s at taken counted names = absurd (none-some s taken)
@@ -149,17 +149,17 @@ counts_more r Head s taken keeps =
     subst (λ (x : Reading). (x.slots ≡ slot_total x.objects + open_count x.stage) × IsStrictlySortedBy name_cmp (keys_of x.roots)) parts.1
     (keeps.counted ∙ ap (λ n. slot_total r.objects + n) (empty_count r.stage parts.0), keeps.names)
 counts_more r (Object id slots kind) s taken keeps =
-    let parts = cond_some (may_add r id slots kind) (with_object r id slots kind) s taken in
+    let parts = cond_some (may_add r id slots kind) (after_object_line r id slots kind) s taken in
     subst (λ (x : Reading). (x.slots ≡ slot_total x.objects + open_count x.stage) × IsStrictlySortedBy name_cmp (keys_of x.roots)) parts.1
     (ap (λ n. n + slots) (sym (total r keeps)), keeps.names)
 counts_more r (Slot slot to) s taken keeps = slot_keeps r slot to r.stage s refl taken keeps.counted keeps.names
 counts_more r (Root to name) s taken keeps =
-    let parts = cond_some (may_root r name) (with_root r name to) s taken in
+    let parts = cond_some (may_root r name) (after_root_line r name to) s taken in
     let keys : keys_of (r.roots ++ (name, to) ∷ []) ≡ keys_of r.roots ++ name ∷ [] = map-append (λ (e : List ℕ × ℕ). e.0) r.roots ((name, to) ∷ []) in
     subst (λ (x : Reading). (x.slots ≡ slot_total x.objects + open_count x.stage) × IsStrictlySortedBy name_cmp (keys_of x.roots)) parts.1
     (omega (arith, total r keeps), subst (IsStrictlySortedBy name_cmp) (sym keys) (sorted_more r.roots name keeps.names (above_of r name parts.0)).0)
 counts_more r End s taken keeps =
-    let parts = cond_some (is_under_way r.stage) (ended r) s taken in
+    let parts = cond_some (is_under_way r.stage) (closed_reading r) s taken in
     subst (λ (x : Reading). (x.slots ≡ slot_total x.objects + open_count x.stage) × IsStrictlySortedBy name_cmp (keys_of x.roots)) parts.1
     (omega (arith, total r keeps), keeps.names)
 
@@ -206,26 +206,26 @@ All-parts Q [] ys all = (All-nil Q, all)
 All-parts Q (x ∷ xs) ys all =
     let later = All-parts Q xs ys (All-tail Q x (xs ++ ys) all) in (All-cons Q x xs (All-head Q x (xs ++ ys) all) later.0, later.1)
 
-slots_refer : (ids : List ℕ) (slot : ℕ) (slots : List (Option ℕ)) → All (λ l. Refers ids (target_in l)) (slot_lines slot slots) → All (Refers ids) slots
+slots_refer : (ids : List ℕ) (slot : ℕ) (slots : List (Option ℕ)) → All (λ l. Refers ids (target_in l)) (lines_of_slots slot slots) → All (Refers ids) slots
 slots_refer ids slot [] all = All-nil _
 slots_refer ids slot (None ∷ slots) all = All-cons (Refers ids) None slots tt (slots_refer ids (slot + 1) slots all)
 slots_refer ids slot (Some to ∷ slots) all =
-    All-cons (Refers ids) (Some to) slots (All-head (λ l. Refers ids (target_in l)) (Slot slot to) (slot_lines (slot + 1) slots) all)
-    (slots_refer ids (slot + 1) slots (All-tail (λ l. Refers ids (target_in l)) (Slot slot to) (slot_lines (slot + 1) slots) all))
+    All-cons (Refers ids) (Some to) slots (All-head (λ l. Refers ids (target_in l)) (Slot slot to) (lines_of_slots (slot + 1) slots) all)
+    (slots_refer ids (slot + 1) slots (All-tail (λ l. Refers ids (target_in l)) (Slot slot to) (lines_of_slots (slot + 1) slots) all))
 
-objects_refer : (ids : List ℕ) (objects : List ObjectView) → All (λ l. Refers ids (target_in l)) (flat_map object_lines objects) → All (λ (o : ObjectView). All (Refers ids) o.slots) objects
+objects_refer : (ids : List ℕ) (objects : List ObjectView) → All (λ l. Refers ids (target_in l)) (flat_map lines_of_object objects) → All (λ (o : ObjectView). All (Refers ids) o.slots) objects
 objects_refer ids [] all = All-nil _
 objects_refer ids (o ∷ objects) all =
-    let parts = All-parts (λ l. Refers ids (target_in l)) (object_lines o) (flat_map object_lines objects) all in
+    let parts = All-parts (λ l. Refers ids (target_in l)) (lines_of_object o) (flat_map lines_of_object objects) all in
     All-cons (λ (o : ObjectView). All (Refers ids) o.slots) o objects
-    (slots_refer ids 0 o.slots (All-tail (λ l. Refers ids (target_in l)) (Object o.id (length o.slots) o.kind) (slot_lines 0 o.slots) parts.0))
+    (slots_refer ids 0 o.slots (All-tail (λ l. Refers ids (target_in l)) (Object o.id (length o.slots) o.kind) (lines_of_slots 0 o.slots) parts.0))
     (objects_refer ids objects parts.1)
 
-roots_refer : (ids : List ℕ) (roots : List (List ℕ × ℕ)) → All (λ l. Refers ids (target_in l)) (map root_line roots) → All (λ (r : List ℕ × ℕ). IsTrue (has_id ids r.1)) roots
+roots_refer : (ids : List ℕ) (roots : List (List ℕ × ℕ)) → All (λ l. Refers ids (target_in l)) (map line_of_root roots) → All (λ (r : List ℕ × ℕ). IsTrue (has_id ids r.1)) roots
 roots_refer ids [] all = All-nil _
 roots_refer ids (r ∷ roots) all =
-    All-cons (λ (r : List ℕ × ℕ). IsTrue (has_id ids r.1)) r roots (All-head (λ l. Refers ids (target_in l)) (root_line r) (map root_line roots) all)
-    (roots_refer ids roots (All-tail (λ l. Refers ids (target_in l)) (root_line r) (map root_line roots) all))
+    All-cons (λ (r : List ℕ × ℕ). IsTrue (has_id ids r.1)) r roots (All-head (λ l. Refers ids (target_in l)) (line_of_root r) (map line_of_root roots) all)
+    (roots_refer ids roots (All-tail (λ l. Refers ids (target_in l)) (line_of_root r) (map line_of_root roots) all))
 
 -- ---- the view
 
@@ -241,14 +241,14 @@ formed r keeps end none =
     let ids : List ℕ = object_ids r.objects in
     let all = All-tail (λ l. Refers ids (target_in l)) Head (lines_within r.objects r.roots ++ End ∷ []) (none_dangles ids 1 (lines_of (view_read r)) none) in
     let within = (All-parts (λ l. Refers ids (target_in l)) (lines_within r.objects r.roots) (End ∷ []) all).0 in
-    let parts = All-parts (λ l. Refers ids (target_in l)) (flat_map object_lines r.objects) (map root_line r.roots) within in
+    let parts = All-parts (λ l. Refers ids (target_in l)) (flat_map lines_of_object r.objects) (map line_of_root r.roots) within in
     let closed : objects_read r ≡ r.objects = ended_objects r r.stage refl end in
     let counted : r.slots ≡ slot_total r.objects + 0 = keeps.counted ∙ ap (λ n. slot_total r.objects + n) (ended_count r.stage end) in
     record {
       few_objects = ended_few r end keeps.bounded;
       few_slots = omega (arith, counted, keeps.bounded.few_slots);
       few_roots = keeps.bounded.few_roots;
-      few_kinds = subst (λ (ks : List (List ℕ)). length ks ≤ MOST_KINDS) (keeps.legal.kinds ∙ ap kinds_of closed) keeps.legal.few_kinds;
+      few_kinds = subst (λ (ks : List (List ℕ)). length ks ≤ MOST_KINDS) (keeps.legal.kinds ∙ ap kind_names closed) keeps.legal.few_kinds;
       objects = subst (All IsLegalObject) closed keeps.legal.objects;
       root_names = keeps.legal.roots;
       ids = ended_rising r end keeps.bounded;

@@ -10,7 +10,7 @@ use Rattle.trace_run.specs.Lines.{is_whole}
 use Rattle.snapshot_text.specs.declared.refusal.SnapWhy.TheVariants.{BadLine, Unended}
 use Rattle.snapshot_text.specs.Lines.{line_in}
 use Rattle.snapshot_text.specs.Table.{Reading, is_ended, take_said}
-use Rattle.snapshot_text.specs.Reading.{refused, view_read, unless_dangling, at_end, after_line, meaning_from, meaning_of}
+use Rattle.snapshot_text.specs.Reading.{refusal_at, view_read, unless_dangling, at_end, after_line, meaning_from, meaning_of}
 use Rattle.snapshot_text.specs.Dangling.{first_dangling}
 
 pub whole_line : (line : List ℕ) → is_whole (line ++ 10 ∷ []) ≡ true
@@ -41,7 +41,7 @@ meaning-end lines r [] none = ap (meaning_from lines r) pieces-nil
 meaning-end lines r (b ∷ rest) none = absurd (omega arith)
 
 -- bytes without a newline are left
-pub meaning-rest : (lines : ℕ) (r : Reading) (rest : List ℕ) → HasNoNewline rest → 0 < length rest → meaning_from lines r (pieces rest) ≡ refused (lines + 1) Unended
+pub meaning-rest : (lines : ℕ) (r : Reading) (rest : List ℕ) → HasNoNewline rest → 0 < length rest → meaning_from lines r (pieces rest) ≡ refusal_at (lines + 1) Unended
 unfolding meaning_from
 meaning-rest lines r rest none there =
     ap (meaning_from lines r) (pieces-last rest none there) ∙ cond-false (is_whole rest) _ _ (not_whole rest none)
@@ -49,7 +49,7 @@ meaning-rest lines r rest none there =
 -- ---- the same, where these bytes are what is left of others
 
 module _ (bytes : List ℕ) (lines : ℕ) (r : Reading) (rest : List ℕ) (left : meaning_from lines r (pieces rest) ≡ meaning_of bytes) where
-  pub line_breaks : (n : ℕ) → IsFirstNewline rest n → None ≡ take_said r (line_in (take n rest)) → meaning_of bytes ≡ refused (lines + 1) BadLine
+  pub line_breaks : (n : ℕ) → IsFirstNewline rest n → None ≡ take_said r (line_in (take n rest)) → meaning_of bytes ≡ refusal_at (lines + 1) BadLine
   line_breaks n is none =
       sym left ∙ meaning-line lines r rest n is
       ∙ ap (λ (o : Option Reading). after_line (lines + 1) o (λ next. meaning_from (lines + 1) next (pieces (drop (n + 1) rest)))) (sym none)
@@ -60,10 +60,10 @@ module _ (bytes : List ℕ) (lines : ℕ) (r : Reading) (rest : List ℕ) (left 
       (sym left ∙ meaning-line lines r rest n is
       ∙ ap (λ (o : Option Reading). after_line (lines + 1) o (λ next. meaning_from (lines + 1) next (pieces (drop (n + 1) rest)))) (sym taken))
 
-  pub bytes_left : HasNoNewline rest → 0 < length rest → meaning_of bytes ≡ refused (lines + 1) Unended
+  pub bytes_left : HasNoNewline rest → 0 < length rest → meaning_of bytes ≡ refusal_at (lines + 1) Unended
   bytes_left none there = sym left ∙ meaning-rest lines r rest none there
 
-  pub not_ended : length rest ≡ 0 → is_ended r.stage ≡ false → meaning_of bytes ≡ refused (lines + 1) Unended
+  pub not_ended : length rest ≡ 0 → is_ended r.stage ≡ false → meaning_of bytes ≡ refusal_at (lines + 1) Unended
   not_ended none not_so = sym left ∙ meaning-end lines r rest none ∙ cond-false (is_ended r.stage) _ _ not_so
 
   pub is_whole_text : length rest ≡ 0 → is_ended r.stage ≡ true →

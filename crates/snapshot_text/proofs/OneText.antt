@@ -6,7 +6,7 @@ use Rattle.snapshot_text.specs.declared.refusal.SnapWhy.{SnapWhy}
 use Rattle.snapshot_text.specs.declared.refusal.SnapWhy.TheVariants.{TooLong, BadLine, Unended, Dangling}
 use Rattle.snapshot_text.specs.Dangling.{first_dangling}
 use Rattle.snapshot_text.specs.Laws.{StandsByText, WrittenIsReadBack, TextTellsView, DanglesInText}
-use Rattle.snapshot_text.specs.Reading.{IsLawful, StandsFor, Refusal, refused, unless_dangling, meaning_of}
+use Rattle.snapshot_text.specs.Reading.{IsLawful, StandsFor, Refusal, refusal_at, unless_dangling, meaning_of}
 use Rattle.snapshot_text.specs.Text.{snapshot_text}
 use Rattle.snapshot_text.proofs.Texts.{by_text}
 
@@ -55,10 +55,10 @@ is_dangling BadLine = false
 is_dangling Unended = false
 is_dangling (Dangling id) = true
 
-other_refusal : {A : Type 0} (at line id : ℕ) (why : SnapWhy) → is_dangling why ≡ false → ◌≡◌ {A = Result HeapView Refusal} (refused at why) (refused line (Dangling id)) → A
+other_refusal : {A : Type 0} (at line id : ℕ) (why : SnapWhy) → is_dangling why ≡ false → ◌≡◌ {A = Result HeapView Refusal} (refusal_at at why) (refusal_at line (Dangling id)) → A
 other_refusal at line id why other is = absurd (false≢true (sym other ∙ ap (λ found. is_dangling (refusal_in found).why) is))
 
-dangles : (bytes : List ℕ) (line id : ℕ) (v : HeapView) (found : Option (ℕ × ℕ)) → first_dangling v ≡ found → bytes ≡ snapshot_text v → unless_dangling v found ≡ refused line (Dangling id)
+dangles : (bytes : List ℕ) (line id : ℕ) (v : HeapView) (found : Option (ℕ × ℕ)) → first_dangling v ≡ found → bytes ≡ snapshot_text v → unless_dangling v found ≡ refusal_at line (Dangling id)
     → (v : HeapView) × (bytes ≡ snapshot_text v) × (first_dangling v ≡ Some (line, id))
 dangles bytes line id v None at same is = absurd (cc)
 dangles bytes line id v (Some d) at same is =
@@ -68,6 +68,6 @@ dangles bytes line id v (Some d) at same is =
 
 pub dangles_in_text : DanglesInText
 dangles_in_text bytes line id =
-    by_text bytes (λ found. found ≡ refused line (Dangling id) → (v : HeapView) × (bytes ≡ snapshot_text v) × (first_dangling v ≡ Some (line, id)))
+    by_text bytes (λ found. found ≡ refusal_at line (Dangling id) → (v : HeapView) × (bytes ≡ snapshot_text v) × (first_dangling v ≡ Some (line, id)))
     (λ at. other_refusal at line id BadLine refl) (λ at. other_refusal at line id Unended refl)
     (λ v same is. dangles bytes line id v (first_dangling v) refl same is)

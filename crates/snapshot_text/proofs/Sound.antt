@@ -12,25 +12,25 @@ use Rattle.snapshot_text.specs.declared.line.Line.TheVariants.{Head, Object, Slo
 use Rattle.snapshot_text.specs.declared.stage.OpenObject.{OpenObject}
 use Rattle.snapshot_text.specs.declared.stage.Stage.{Stage}
 use Rattle.snapshot_text.specs.declared.stage.Stage.TheVariants.{Empty, Begun, InObject, InRoots, Ended}
-use Rattle.snapshot_text.specs.Text.{slot_lines, object_lines, root_line, lines_within}
+use Rattle.snapshot_text.specs.Text.{lines_of_slots, lines_of_object, line_of_root, lines_within}
 use Rattle.snapshot_text.specs.Table.{Reading, whole_object, open_objects, objects_read, is_empty, is_before_roots, is_under_way, may_add}
-use Rattle.snapshot_text.specs.Table.{with_object, may_fill, with_slot, take_slot, may_root, with_root, ended, take_line}
+use Rattle.snapshot_text.specs.Table.{after_object_line, may_fill, after_slot_line, take_slot, may_root, after_root_line, closed_reading, take_line}
 use Rattle.snapshot_text.specs.Taken.{open_lines, AreLinesAt, AreLines}
 use Rattle.snapshot_text.proofs.Writing.{slot_lines-append}
 
 -- empty slots have no line
-empty_lines : (slot n : ℕ) → slot_lines slot (replicate n None) ≡ []
+empty_lines : (slot n : ℕ) → lines_of_slots slot (replicate n None) ≡ []
 empty_lines slot zero = refl
 empty_lines slot (suc n) = empty_lines (slot + 1) n
 
-whole_lines : (o : OpenObject) → length o.filled ≤ o.slots → object_lines (whole_object o) ≡ open_lines o
+whole_lines : (o : OpenObject) → length o.filled ≤ o.slots → lines_of_object (whole_object o) ≡ open_lines o
 whole_lines o within =
     let count : length (o.filled ++ replicate (o.slots - length o.filled) None) ≡ o.slots =
     omega (arith, length-append o.filled (replicate (o.slots - length o.filled) None), length-replicate {A = Option ℕ} (o.slots - length o.filled) None) in
-    let slots : slot_lines 0 (o.filled ++ replicate (o.slots - length o.filled) None) ≡ slot_lines 0 o.filled =
+    let slots : lines_of_slots 0 (o.filled ++ replicate (o.slots - length o.filled) None) ≡ lines_of_slots 0 o.filled =
     slot_lines-append 0 o.filled (replicate (o.slots - length o.filled) None)
-    ∙ ap (λ (ls : List Line). slot_lines 0 o.filled ++ ls) (empty_lines (0 + length o.filled) (o.slots - length o.filled)) ∙ append-nil (slot_lines 0 o.filled) in
-    ap (λ n. Object o.id n o.kind ∷ slot_lines 0 (o.filled ++ replicate (o.slots - length o.filled) None)) count ∙ ap (λ (ls : List Line). Object o.id o.slots o.kind ∷ ls) slots
+    ∙ ap (λ (ls : List Line). lines_of_slots 0 o.filled ++ ls) (empty_lines (0 + length o.filled) (o.slots - length o.filled)) ∙ append-nil (lines_of_slots 0 o.filled) in
+    ap (λ n. Object o.id n o.kind ∷ lines_of_slots 0 (o.filled ++ replicate (o.slots - length o.filled) None)) count ∙ ap (λ (ls : List Line). Object o.id o.slots o.kind ∷ ls) slots
 
 -- the same lines, where nothing is open any longer
 closed : (stage : Stage) (objects : List ObjectView) (roots : List (List ℕ × ℕ)) (lines : List Line) → is_under_way stage ≡ true →
@@ -39,10 +39,10 @@ closed Empty objects roots lines way are = absurd (false≢true way)
 closed Begun objects roots lines way are =
     are.0 ∙ sym (ap (λ (xs : List ObjectView). Head ∷ lines_within (xs ++ []) roots) are.1 ∙ ap (λ (rs : List (List ℕ × ℕ)). Head ∷ lines_within [] rs) are.2)
 closed (InObject o) objects roots lines way are =
-    let more : flat_map object_lines (objects ++ whole_object o ∷ []) ≡ flat_map object_lines objects ++ open_lines o =
-    flat_map-append object_lines objects (whole_object o ∷ [])
-    ∙ ap (λ (ls : List Line). flat_map object_lines objects ++ ls) (append-nil (object_lines (whole_object o)) ∙ whole_lines o are.1) in
-    are.0 ∙ ap (λ (ls : List Line). Head ∷ ls) (sym more ∙ sym (append-nil (flat_map object_lines (objects ++ whole_object o ∷ []))))
+    let more : flat_map lines_of_object (objects ++ whole_object o ∷ []) ≡ flat_map lines_of_object objects ++ open_lines o =
+    flat_map-append lines_of_object objects (whole_object o ∷ [])
+    ∙ ap (λ (ls : List Line). flat_map lines_of_object objects ++ ls) (append-nil (lines_of_object (whole_object o)) ∙ whole_lines o are.1) in
+    are.0 ∙ ap (λ (ls : List Line). Head ∷ ls) (sym more ∙ sym (append-nil (flat_map lines_of_object (objects ++ whole_object o ∷ []))))
     ∙ ap (λ (rs : List (List ℕ × ℕ)). Head ∷ lines_within (objects ++ whole_object o ∷ []) rs) (sym are.2)
 closed InRoots objects roots lines way are = are ∙ ap (λ (xs : List ObjectView). Head ∷ lines_within xs roots) (sym (append-nil objects))
 closed Ended objects roots lines way are = absurd (false≢true way)
@@ -69,13 +69,13 @@ head_line r InRoots lines empty are = absurd (false≢true empty)
 head_line r Ended lines empty are = absurd (false≢true empty)
 
 object_line : (r : Reading) (id slots : ℕ) (kind : List ℕ) (lines : List Line) → is_before_roots r.stage ≡ true → AreLines r lines →
-    AreLines (with_object r id slots kind) (lines ++ Object id slots kind ∷ [])
+    AreLines (after_object_line r id slots kind) (lines ++ Object id slots kind ∷ [])
 object_line r id slots kind lines before are =
     let none = no_roots r.stage r.objects r.roots lines before are in
     let all = closed r.stage r.objects r.roots lines (under_way r.stage before) are in (
       ap (λ (ls : List Line). ls ++ Object id slots kind ∷ [])
           (all ∙ ap (λ (rs : List (List ℕ × ℕ)). Head ∷ lines_within (objects_read r) rs) none
-          ∙ ap (λ (ls : List Line). Head ∷ ls) (append-nil (flat_map object_lines (objects_read r)))),
+          ∙ ap (λ (ls : List Line). Head ∷ ls) (append-nil (flat_map lines_of_object (objects_read r)))),
       omega arith,
       none,
     )
@@ -85,24 +85,24 @@ slot_taken : (r : Reading) (slot to : ℕ) (stage : Stage) (s : Reading) (lines 
 slot_taken r slot to Empty s lines taken are = absurd (none-some s taken)
 slot_taken r slot to Begun s lines taken are = absurd (none-some s taken)
 slot_taken r slot to (InObject o) s lines taken are =
-    let parts = cond_some (may_fill o slot) (record r { stage = InObject (with_slot o slot to) }) s taken in
+    let parts = cond_some (may_fill o slot) (record r { stage = InObject (after_slot_line o slot to) }) s taken in
     let may = and_parts (ltb slot o.slots) (leb (length o.filled) slot) parts.0 in
     let above : length o.filled ≤ slot = leb-true (length o.filled) slot may.1 in
     let front : List (Option ℕ) = o.filled ++ replicate (slot - length o.filled) None in
     let count : length front ≡ slot = omega (arith, length-append o.filled (replicate (slot - length o.filled) None), length-replicate {A = Option ℕ} (slot - length o.filled) None) in
-    let here : slot_lines 0 front ≡ slot_lines 0 o.filled =
+    let here : lines_of_slots 0 front ≡ lines_of_slots 0 o.filled =
     slot_lines-append 0 o.filled (replicate (slot - length o.filled) None)
-    ∙ ap (λ (ls : List Line). slot_lines 0 o.filled ++ ls) (empty_lines (0 + length o.filled) (slot - length o.filled)) ∙ append-nil (slot_lines 0 o.filled) in
+    ∙ ap (λ (ls : List Line). lines_of_slots 0 o.filled ++ ls) (empty_lines (0 + length o.filled) (slot - length o.filled)) ∙ append-nil (lines_of_slots 0 o.filled) in
     let place : 0 + length front ≡ slot = omega (arith, count) in
-    let grown : slot_lines 0 (front ++ Some to ∷ []) ≡ slot_lines 0 o.filled ++ Slot slot to ∷ [] =
-    slot_lines-append 0 front (Some to ∷ []) ∙ ap (λ (ls : List Line). ls ++ slot_lines (0 + length front) (Some to ∷ [])) here
-    ∙ ap (λ n. slot_lines 0 o.filled ++ slot_lines n (Some to ∷ [])) place in
+    let grown : lines_of_slots 0 (front ++ Some to ∷ []) ≡ lines_of_slots 0 o.filled ++ Slot slot to ∷ [] =
+    slot_lines-append 0 front (Some to ∷ []) ∙ ap (λ (ls : List Line). ls ++ lines_of_slots (0 + length front) (Some to ∷ [])) here
+    ∙ ap (λ n. lines_of_slots 0 o.filled ++ lines_of_slots n (Some to ∷ [])) place in
     let below = ltb-true slot o.slots may.0 in
     subst (λ (x : Reading). AreLines x (lines ++ Slot slot to ∷ [])) parts.1 (
       ap (λ (ls : List Line). ls ++ Slot slot to ∷ []) are.0
           ∙ ap (λ (ls : List Line). Head ∷ ls)
-          (append_assoc (flat_map object_lines r.objects) (open_lines o) (Slot slot to ∷ [])
-          ∙ ap (λ (ls : List Line). flat_map object_lines r.objects ++ Object o.id o.slots o.kind ∷ ls) (sym grown)),
+          (append_assoc (flat_map lines_of_object r.objects) (open_lines o) (Slot slot to ∷ [])
+          ∙ ap (λ (ls : List Line). flat_map lines_of_object r.objects ++ Object o.id o.slots o.kind ∷ ls) (sym grown)),
       omega (arith, below, count, length-append front (Some to ∷ [])),
       are.2,
     )
@@ -124,17 +124,17 @@ line_is_next r Head s lines taken are =
     let parts = cond_some (is_empty r.stage) (record r { stage = Begun }) s taken in
     subst (λ (x : Reading). AreLines x (lines ++ Head ∷ [])) parts.1 (head_line r r.stage lines parts.0 are)
 line_is_next r (Object id slots kind) s lines taken are =
-    let parts = cond_some (may_add r id slots kind) (with_object r id slots kind) s taken in
+    let parts = cond_some (may_add r id slots kind) (after_object_line r id slots kind) s taken in
     subst (λ (x : Reading). AreLines x (lines ++ Object id slots kind ∷ [])) parts.1 (object_line r id slots kind lines (before_of r id slots kind parts.0) are)
 line_is_next r (Slot slot to) s lines taken are = slot_taken r slot to r.stage s lines taken are
 line_is_next r (Root to name) s lines taken are =
-    let parts = cond_some (may_root r name) (with_root r name to) s taken in
+    let parts = cond_some (may_root r name) (after_root_line r name to) s taken in
     let all = closed r.stage r.objects r.roots lines (way_of r name parts.0) are in
     subst (λ (x : Reading). AreLines x (lines ++ Root to name ∷ [])) parts.1
     (ap (λ (ls : List Line). ls ++ Root to name ∷ []) all
-    ∙ ap (λ (ls : List Line). Head ∷ ls) (append_assoc (flat_map object_lines (objects_read r)) (map root_line r.roots) (Root to name ∷ [])
-    ∙ ap (λ (ls : List Line). flat_map object_lines (objects_read r) ++ ls) (sym (map-append root_line r.roots ((name, to) ∷ [])))))
+    ∙ ap (λ (ls : List Line). Head ∷ ls) (append_assoc (flat_map lines_of_object (objects_read r)) (map line_of_root r.roots) (Root to name ∷ [])
+    ∙ ap (λ (ls : List Line). flat_map lines_of_object (objects_read r) ++ ls) (sym (map-append line_of_root r.roots ((name, to) ∷ [])))))
 line_is_next r End s lines taken are =
-    let parts = cond_some (is_under_way r.stage) (ended r) s taken in
+    let parts = cond_some (is_under_way r.stage) (closed_reading r) s taken in
     let all = closed r.stage r.objects r.roots lines parts.0 are in
     subst (λ (x : Reading). AreLines x (lines ++ End ∷ [])) parts.1 (ap (λ (ls : List Line). ls ++ End ∷ []) all)

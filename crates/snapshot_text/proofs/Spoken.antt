@@ -14,7 +14,7 @@ use Rattle.heap_base.specs.Names.{is_name}
 use Rattle.trace_reader.specs.Meaning.{only_if}
 use Rattle.snapshot_text.specs.declared.line.Line.{Line}
 use Rattle.snapshot_text.specs.declared.line.Line.TheVariants.{Head, Object, Slot, Root, End}
-use Rattle.snapshot_text.specs.Lines.{line_text, line_in, text_in, words_in, said_by, object_in, slot_in, root_in, numbered, number_in, id_from, first_word, ◌>>=◌}
+use Rattle.snapshot_text.specs.Lines.{line_text, line_in, text_in, words_in, said_by, object_line_in, slot_line_in, root_line_in, number_first, number_in, id_from, first_word, ◌>>=◌}
 use Rattle.snapshot_text.specs.Formed.{IsId, IsName}
 use Rattle.snapshot_text.proofs.Numbers.{number_in-is}
 
@@ -53,8 +53,8 @@ first_word-is text word rest is =
     ∙ ap (λ b. before_first is_space text ++ (b ∷ after_first is_space text)) space
     ∙ ap (λ (p : List ℕ × List ℕ). p.0 ++ (32 ∷ p.1)) parts.1
 
-numbered-is : (text : List ℕ) (found : ℕ × List ℕ) → numbered text ≡ Some found → text ≡ decimal found.0 ++ (codes " " ++ found.1)
-unfolding numbered
+numbered-is : (text : List ℕ) (found : ℕ × List ℕ) → number_first text ≡ Some found → text ≡ decimal found.0 ++ (codes " " ++ found.1)
+unfolding number_first
 numbered-is text found is =
     bind_some (first_word text) (λ split. number_in split.0 >>= (λ n. Some (n, split.1))) found is (λ split at more.
     bind_some (number_in split.0) (λ n. Some (n, split.1)) found more (λ n number pair.
@@ -77,17 +77,19 @@ record ObjectParts (text : List ℕ) (l : Line) : Type 0 where
   second : ℕ × List ℕ
   id : ℕ
   kind : List ℕ
-  numbers : numbered text ≡ Some first
-  slots : numbered first.1 ≡ Some second
+  numbers : number_first text ≡ Some first
+  slots : number_first first.1 ≡ Some second
   is_id : id_from first.0 ≡ Some id
   is_kind : only_if is_name second.1 ≡ Some kind
   line : Object id second.0 kind ≡ l
 
-object_parts : (text : List ℕ) (l : Line) → object_in text ≡ Some l → ObjectParts text l
-unfolding object_in
+object_parts : (text : List ℕ) (l : Line) → object_line_in text ≡ Some l → ObjectParts text l
+unfolding object_line_in
 object_parts text l is =
-    bind_some (numbered text) (λ first. numbered first.1 >>= (λ second. id_from first.0 >>= (λ id. only_if is_name second.1 >>= (λ kind. Some (Object id second.0 kind))))) l is (λ first a more.
-    bind_some (numbered first.1) (λ second. id_from first.0 >>= (λ id. only_if is_name second.1 >>= (λ kind. Some (Object id second.0 kind)))) l more (λ second b more.
+    bind_some (number_first text)
+    (λ first. number_first first.1 >>= (λ second. id_from first.0 >>= (λ id. only_if is_name second.1 >>= (λ kind. Some (Object id second.0 kind)))))
+    l is (λ first a more.
+    bind_some (number_first first.1) (λ second. id_from first.0 >>= (λ id. only_if is_name second.1 >>= (λ kind. Some (Object id second.0 kind)))) l more (λ second b more.
     bind_some (id_from first.0) (λ id. only_if is_name second.1 >>= (λ kind. Some (Object id second.0 kind))) l more (λ id c more.
     bind_some (only_if is_name second.1) (λ kind. Some (Object id second.0 kind)) l more (λ kind d last. record {
       first = first;
@@ -101,7 +103,7 @@ object_parts text l is =
       line = same_Some (Object id second.0 kind) l last;
     }))))
 
-object_in-is : (text : List ℕ) (l : Line) → object_in text ≡ Some l → codes "object " ++ text ≡ line_text l
+object_in-is : (text : List ℕ) (l : Line) → object_line_in text ≡ Some l → codes "object " ++ text ≡ line_text l
 object_in-is text l is =
     let p = object_parts text l is in
     ap (λ (t : List ℕ). codes "object " ++ t) (numbered-is text p.first p.numbers
@@ -111,10 +113,10 @@ object_in-is text l is =
     ∙ six (codes "object ") (decimal p.id) (codes " ") (decimal p.second.0) (codes " ") p.kind
     ∙ ap line_text p.line
 
-slot_in-is : (text : List ℕ) (l : Line) → slot_in text ≡ Some l → codes "slot " ++ text ≡ line_text l
-unfolding slot_in
+slot_in-is : (text : List ℕ) (l : Line) → slot_line_in text ≡ Some l → codes "slot " ++ text ≡ line_text l
+unfolding slot_line_in
 slot_in-is text l is =
-    bind_some (numbered text) (λ first. number_in first.1 >>= (λ n. id_from n >>= (λ to. Some (Slot first.0 to)))) l is (λ first a more.
+    bind_some (number_first text) (λ first. number_in first.1 >>= (λ n. id_from n >>= (λ to. Some (Slot first.0 to)))) l is (λ first a more.
     bind_some (number_in first.1) (λ n. id_from n >>= (λ to. Some (Slot first.0 to))) l more (λ n b more.
     bind_some (id_from n) (λ to. Some (Slot first.0 to)) l more (λ to c last.
     ap (λ (t : List ℕ). codes "slot " ++ t) (numbered-is text first a
@@ -122,10 +124,10 @@ slot_in-is text l is =
     ∙ four (codes "slot ") (decimal first.0) (codes " ") (decimal to)
     ∙ ap line_text (same_Some (Slot first.0 to) l last))))
 
-root_in-is : (text : List ℕ) (l : Line) → root_in text ≡ Some l → codes "root " ++ text ≡ line_text l
-unfolding root_in
+root_in-is : (text : List ℕ) (l : Line) → root_line_in text ≡ Some l → codes "root " ++ text ≡ line_text l
+unfolding root_line_in
 root_in-is text l is =
-    bind_some (numbered text) (λ first. id_from first.0 >>= (λ to. only_if is_name first.1 >>= (λ name. Some (Root to name)))) l is (λ first a more.
+    bind_some (number_first text) (λ first. id_from first.0 >>= (λ to. only_if is_name first.1 >>= (λ name. Some (Root to name)))) l is (λ first a more.
     bind_some (id_from first.0) (λ to. only_if is_name first.1 >>= (λ name. Some (Root to name))) l more (λ to b more.
     bind_some (only_if is_name first.1) (λ name. Some (Root to name)) l more (λ name c last.
     ap (λ (t : List ℕ). codes "root " ++ t) (numbered-is text first a
@@ -141,11 +143,11 @@ equal xs ys is = (bytes_eq-Decides xs ys).0 is
 
 said_by-is : (word rest : List ℕ) (l : Line) → said_by word rest ≡ Some l → word ++ (codes " " ++ rest) ≡ line_text l
 said_by-is word rest l is =
-    branch (bytes_eq word (codes "object")) (object_in rest) _ (Some l) is
+    branch (bytes_eq word (codes "object")) (object_line_in rest) _ (Some l) is
     (λ same said. ap (λ (w : List ℕ). w ++ (codes " " ++ rest)) (equal word (codes "object") same) ∙ object_in-is rest l said)
-    (λ is. branch (bytes_eq word (codes "slot")) (slot_in rest) _ (Some l) is
+    (λ is. branch (bytes_eq word (codes "slot")) (slot_line_in rest) _ (Some l) is
     (λ same said. ap (λ (w : List ℕ). w ++ (codes " " ++ rest)) (equal word (codes "slot") same) ∙ slot_in-is rest l said)
-    (λ is. branch (bytes_eq word (codes "root")) (root_in rest) None (Some l) is
+    (λ is. branch (bytes_eq word (codes "root")) (root_line_in rest) None (Some l) is
     (λ same said. ap (λ (w : List ℕ). w ++ (codes " " ++ rest)) (equal word (codes "root") same) ∙ root_in-is rest l said)
     (λ none. absurd (none-some l none))))
 
@@ -171,8 +173,8 @@ line_in-is line l is =
 
 -- ---- its ids and its name
 
-numbered-below : (text : List ℕ) (found : ℕ × List ℕ) → numbered text ≡ Some found → found.0 < 2 ^ 32
-unfolding numbered
+numbered-below : (text : List ℕ) (found : ℕ × List ℕ) → number_first text ≡ Some found → found.0 < 2 ^ 32
+unfolding number_first
 numbered-below text found is =
     bind_some (first_word text) (λ split. number_in split.0 >>= (λ n. Some (n, split.1))) found is (λ split at more.
     bind_some (number_in split.0) (λ n. Some (n, split.1)) found more (λ n number pair.
@@ -199,32 +201,32 @@ IsLegal (Slot slot to) = IsId to
 IsLegal (Root to name) = IsId to × IsTrue (is_name name)
 IsLegal End = ⊤
 
-object_in-legal : (text : List ℕ) (l : Line) → object_in text ≡ Some l → IsLegal l
+object_in-legal : (text : List ℕ) (l : Line) → object_line_in text ≡ Some l → IsLegal l
 object_in-legal text l is =
     let p = object_parts text l is in
     subst IsLegal p.line (id_from-IsId p.first.0 p.id (numbered-below text p.first p.numbers) p.is_id, kept_name p.second.1 p.kind p.is_kind)
 
-slot_in-legal : (text : List ℕ) (l : Line) → slot_in text ≡ Some l → IsLegal l
-unfolding slot_in
+slot_in-legal : (text : List ℕ) (l : Line) → slot_line_in text ≡ Some l → IsLegal l
+unfolding slot_line_in
 slot_in-legal text l is =
-    bind_some (numbered text) (λ first. number_in first.1 >>= (λ n. id_from n >>= (λ to. Some (Slot first.0 to)))) l is (λ first a more.
+    bind_some (number_first text) (λ first. number_in first.1 >>= (λ n. id_from n >>= (λ to. Some (Slot first.0 to)))) l is (λ first a more.
     bind_some (number_in first.1) (λ n. id_from n >>= (λ to. Some (Slot first.0 to))) l more (λ n b more.
     bind_some (id_from n) (λ to. Some (Slot first.0 to)) l more (λ to c last.
     subst IsLegal (same_Some (Slot first.0 to) l last) (id_from-IsId n to (number_in-is first.1 n b).1 c))))
 
-root_in-legal : (text : List ℕ) (l : Line) → root_in text ≡ Some l → IsLegal l
-unfolding root_in
+root_in-legal : (text : List ℕ) (l : Line) → root_line_in text ≡ Some l → IsLegal l
+unfolding root_line_in
 root_in-legal text l is =
-    bind_some (numbered text) (λ first. id_from first.0 >>= (λ to. only_if is_name first.1 >>= (λ name. Some (Root to name)))) l is (λ first a more.
+    bind_some (number_first text) (λ first. id_from first.0 >>= (λ to. only_if is_name first.1 >>= (λ name. Some (Root to name)))) l is (λ first a more.
     bind_some (id_from first.0) (λ to. only_if is_name first.1 >>= (λ name. Some (Root to name))) l more (λ to b more.
     bind_some (only_if is_name first.1) (λ name. Some (Root to name)) l more (λ name c last.
     subst IsLegal (same_Some (Root to name) l last) (id_from-IsId first.0 to (numbered-below text first a) b, kept_name first.1 name c))))
 
 said_by-legal : (word rest : List ℕ) (l : Line) → said_by word rest ≡ Some l → IsLegal l
 said_by-legal word rest l is =
-    branch (bytes_eq word (codes "object")) (object_in rest) _ (Some l) is (λ same said. object_in-legal rest l said)
-    (λ is. branch (bytes_eq word (codes "slot")) (slot_in rest) _ (Some l) is (λ same said. slot_in-legal rest l said)
-    (λ is. branch (bytes_eq word (codes "root")) (root_in rest) None (Some l) is (λ same said. root_in-legal rest l said)
+    branch (bytes_eq word (codes "object")) (object_line_in rest) _ (Some l) is (λ same said. object_in-legal rest l said)
+    (λ is. branch (bytes_eq word (codes "slot")) (slot_line_in rest) _ (Some l) is (λ same said. slot_in-legal rest l said)
+    (λ is. branch (bytes_eq word (codes "root")) (root_line_in rest) None (Some l) is (λ same said. root_in-legal rest l said)
     (λ none. absurd (none-some l none))))
 
 text_in-legal : (text : List ℕ) (l : Line) → text_in text ≡ Some l → IsLegal l

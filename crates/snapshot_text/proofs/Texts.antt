@@ -21,7 +21,7 @@ use Rattle.snapshot_text.specs.Text.{lines_of, snapshot_text}
 use Rattle.snapshot_text.specs.Table.{Reading, nothing_read, is_ended, take_line, take_said}
 use Rattle.snapshot_text.specs.Taken.{AreLines, AreLinesAt}
 use Rattle.snapshot_text.specs.Dangling.{first_dangling}
-use Rattle.snapshot_text.specs.Reading.{Refusal, refused, view_read, unless_dangling, at_end, after_line, meaning_from, meaning_of}
+use Rattle.snapshot_text.specs.Reading.{Refusal, refusal_at, view_read, unless_dangling, at_end, after_line, meaning_from, meaning_of}
 use Rattle.snapshot_text.proofs.Meanings.{whole_line, meaning-end, meaning-rest}
 use Rattle.snapshot_text.proofs.Sound.{line_is_next}
 use Rattle.snapshot_text.proofs.Spoken.{line_in-is}
@@ -65,13 +65,13 @@ IsSaid l = (line : List ℕ) × (line_in line ≡ Some l)
 -- What holds of the two refusals of a line, and of what the text of a view leads to, holds of what the bytes lead to. J is what each line keeps.
 module _ (whole : List ℕ) (J : Reading → Type 0)
     (keeps : (r : Reading) (l : Line) (s : Reading) → IsSaid l → take_line r l ≡ Some s → J r → J s) (P : Result HeapView Refusal → Type 0)
-    (bad : (line : ℕ) → P (refused line BadLine)) (unended : (line : ℕ) → P (refused line Unended))
+    (bad : (line : ℕ) → P (refusal_at line BadLine)) (unended : (line : ℕ) → P (refusal_at line Unended))
     (text : (r : Reading) → J r → is_ended r.stage ≡ true → whole ≡ snapshot_text (view_read r) → P (unless_dangling (view_read r) (first_dangling (view_read r))))
   where
     end : (lines : ℕ) (r : Reading) (taken : List Line) → J r → AreLines r taken → whole ≡ flat_map line_bytes taken → P (at_end lines r)
     unfolding snapshot_text
     end lines r taken so are same =
-        cond_both (is_ended r.stage) (unless_dangling (view_read r) (first_dangling (view_read r))) (refused (lines + 1) Unended) P
+        cond_both (is_ended r.stage) (unless_dangling (view_read r) (first_dangling (view_read r))) (refusal_at (lines + 1) Unended) P
         (λ ended. text r so ended (same ∙ ap (flat_map line_bytes) (ended_lines r.stage r.objects r.roots taken ended are)))
         (λ going. unended (lines + 1))
 
@@ -115,11 +115,11 @@ module _ (whole : List ℕ) (J : Reading → Type 0)
 
 pub by_reading_text : (bytes : List ℕ) (J : Reading → Type 0) → J nothing_read →
     ((r : Reading) (l : Line) (s : Reading) → IsSaid l → take_line r l ≡ Some s → J r → J s) → (P : Result HeapView Refusal → Type 0) →
-    ((line : ℕ) → P (refused line BadLine)) → ((line : ℕ) → P (refused line Unended))
+    ((line : ℕ) → P (refusal_at line BadLine)) → ((line : ℕ) → P (refusal_at line Unended))
     → ((r : Reading) → J r → is_ended r.stage ≡ true → bytes ≡ snapshot_text (view_read r) → P (unless_dangling (view_read r) (first_dangling (view_read r)))) → P (meaning_of bytes)
 by_reading_text bytes J start keeps P bad unended text = from bytes J keeps P bad unended text (length bytes) 0 nothing_read [] bytes (omega arith) start (refl, refl, refl) refl
 
-pub by_text : (bytes : List ℕ) (P : Result HeapView Refusal → Type 0) → ((line : ℕ) → P (refused line BadLine)) →
-    ((line : ℕ) → P (refused line Unended)) → ((v : HeapView) → bytes ≡ snapshot_text v → P (unless_dangling v (first_dangling v))) →
+pub by_text : (bytes : List ℕ) (P : Result HeapView Refusal → Type 0) → ((line : ℕ) → P (refusal_at line BadLine)) →
+    ((line : ℕ) → P (refusal_at line Unended)) → ((v : HeapView) → bytes ≡ snapshot_text v → P (unless_dangling v (first_dangling v))) →
     P (meaning_of bytes)
 by_text bytes P bad unended text = by_reading_text bytes (λ r. Unit {0}) tt (λ r l s said taken so. tt) P bad unended (λ r so ended same. text (view_read r) same)

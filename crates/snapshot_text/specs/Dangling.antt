@@ -45,6 +45,6 @@ abbrev pub Passes : Result ℕ DanglingReference → Option (ℕ × ℕ) → (�
 Passes (Ok next) found later = found ≡ later next
 Passes (Err d) found later = found ≡ Some (d.line, d.to)
 
-abbrev pub Finds : Result ⊤ DanglingReference → Option (ℕ × ℕ) → Type 0
-Finds (Ok all) found = found ≡ None
-Finds (Err d) found = found ≡ Some (d.line, d.to)
+abbrev pub FindsDangling : Result ⊤ DanglingReference → Option (ℕ × ℕ) → Type 0
+FindsDangling (Ok all) found = found ≡ None
+FindsDangling (Err d) found = found ≡ Some (d.line, d.to)

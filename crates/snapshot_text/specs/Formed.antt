@@ -22,8 +22,8 @@ abbrev pub IsName : List ℕ → Type 0
 IsName name = IsTrue (is_name name) × IsTrue (is_utf8 name)
 
 -- the names of the types, in the order in which they first come
-abbrev pub kinds_of : List ObjectView → List (List ℕ)
-kinds_of objects = fold (λ kinds o. with_kind kinds o.kind) [] objects
+abbrev pub kind_names : List ObjectView → List (List ℕ)
+kind_names objects = fold (λ kinds o. with_kind kinds o.kind) [] objects
 
 -- The limits are kept; ids, types and names are such as a heap may have; ids and the names of roots rise; and whatever a
 -- slot or a root holds is an object of the view.
@@ -31,7 +31,7 @@ pub record IsWellFormed (v : HeapView) : Type 0 where
   pub few_objects : length v.objects ≤ MOST_OBJECTS
   pub few_slots : sum_by (λ o. length o.slots) v.objects ≤ MOST_SLOTS
   pub few_roots : length v.roots ≤ MOST_ROOTS
-  pub few_kinds : length (kinds_of v.objects) ≤ MOST_KINDS
+  pub few_kinds : length (kind_names v.objects) ≤ MOST_KINDS
   pub objects : All (λ o. IsId o.id × IsName o.kind) v.objects
   pub root_names : All (λ r. IsName r.0) v.roots
   pub ids : AllPairs (λ x y. x < y) (object_ids v.objects)

@@ -3,7 +3,7 @@ use Rattle.std.specs.Prelude.{◌≡◌, ℕ, List, Some}
 use Rattle.graph_meaning.specs.declared.views.HeapView.{HeapView}
 use Rattle.snapshot_text.specs.declared.refusal.SnapWhy.TheVariants.{Dangling}
 use Rattle.snapshot_text.specs.Dangling.{first_dangling}
-use Rattle.snapshot_text.specs.Reading.{IsLawful, StandsFor, meaning_of, refused}
+use Rattle.snapshot_text.specs.Reading.{IsLawful, StandsFor, meaning_of, refusal_at}
 use Rattle.snapshot_text.specs.Text.{snapshot_text}
 
 -- Bytes that stand for a view are its text: a view has one text at most.
@@ -21,4 +21,4 @@ TextTellsView = (v w : HeapView) → IsLawful v → IsLawful w → snapshot_text
 -- Bytes in which an id dangles are the text of a view too, and its line is counted in them.
 abbrev pub DanglesInText : Type 0
 DanglesInText =
-    (bytes : List ℕ) (line id : ℕ) → meaning_of bytes ≡ refused line (Dangling id) → (v : HeapView) × (bytes ≡ snapshot_text v) × (first_dangling v ≡ Some (line, id))
+    (bytes : List ℕ) (line id : ℕ) → meaning_of bytes ≡ refusal_at line (Dangling id) → (v : HeapView) × (bytes ≡ snapshot_text v) × (first_dangling v ≡ Some (line, id))

@@ -45,30 +45,30 @@ None >>= f = None
 (Some x) >>= f = f x
 
 -- a number that is the first word, and what stands behind it
-unfoldable pub numbered : List ℕ → Option (ℕ × List ℕ)
-numbered text = do
+unfoldable pub number_first : List ℕ → Option (ℕ × List ℕ)
+number_first text = do
   split ← first_word text
   n ← number_in split.0
   Some (n, split.1)
 
-unfoldable pub object_in : List ℕ → Option Line
-object_in text = do
-  first ← numbered text
-  second ← numbered first.1
+unfoldable pub object_line_in : List ℕ → Option Line
+object_line_in text = do
+  first ← number_first text
+  second ← number_first first.1
   id ← id_from first.0
   kind ← only_if is_name second.1
   Some (Object id second.0 kind)
 
-unfoldable pub slot_in : List ℕ → Option Line
-slot_in text = do
-  first ← numbered text
+unfoldable pub slot_line_in : List ℕ → Option Line
+slot_line_in text = do
+  first ← number_first text
   n ← number_in first.1
   to ← id_from n
   Some (Slot first.0 to)
 
-unfoldable pub root_in : List ℕ → Option Line
-root_in text = do
-  first ← numbered text
+unfoldable pub root_line_in : List ℕ → Option Line
+root_line_in text = do
+  first ← number_first text
   to ← id_from first.0
   name ← only_if is_name first.1
   Some (Root to name)
@@ -76,9 +76,9 @@ root_in text = do
 -- what a line says, by its first word
 abbrev pub said_by : List ℕ → List ℕ → Option Line
 said_by word rest =
-    if bytes_eq word (codes "object") then object_in rest
-    else (if bytes_eq word (codes "slot") then slot_in rest
-    else (if bytes_eq word (codes "root") then root_in rest else None))
+    if bytes_eq word (codes "object") then object_line_in rest
+    else (if bytes_eq word (codes "slot") then slot_line_in rest
+    else (if bytes_eq word (codes "root") then root_line_in rest else None))
 
 unfoldable pub words_in : List ℕ → Option Line
 words_in text = first_word text >>= (λ split. said_by split.0 split.1)

@@ -72,8 +72,8 @@ may_add r id slots kind =
     is_before_roots r.stage && nat_lt r.greatest id && nat_lt (length (objects_read r)) MOST_OBJECTS && nat_le (r.slots + slots) MOST_SLOTS &&
     (is_seen r.kinds kind || nat_lt (length r.kinds) MOST_KINDS)
 
-abbrev pub with_object : Reading → ℕ → ℕ → List ℕ → Reading
-with_object r id slots kind = record {
+abbrev pub after_object_line : Reading → ℕ → ℕ → List ℕ → Reading
+after_object_line r id slots kind = record {
   stage = InObject (record { id = id; slots = slots; kind = kind; filled = [] });
   objects = objects_read r;
   roots = r.roots;
@@ -87,11 +87,11 @@ abbrev pub may_fill : OpenObject → ℕ → Bool
 may_fill o slot = nat_lt slot o.slots && nat_le (length o.filled) slot
 
 -- the slots between it and the last that was named are empty
-abbrev pub with_slot : OpenObject → ℕ → ℕ → OpenObject
-with_slot o slot to = record o { filled = o.filled ++ replicate (slot - length o.filled) None ++ Some to ∷ [] }
+abbrev pub after_slot_line : OpenObject → ℕ → ℕ → OpenObject
+after_slot_line o slot to = record o { filled = o.filled ++ replicate (slot - length o.filled) None ++ Some to ∷ [] }
 
 abbrev pub take_slot : Reading → ℕ → ℕ → Stage → Option Reading
-take_slot r slot to (InObject o) = reading_where (may_fill o slot) (record r { stage = InObject (with_slot o slot to) })
+take_slot r slot to (InObject o) = reading_where (may_fill o slot) (record r { stage = InObject (after_slot_line o slot to) })
 take_slot r slot to stage = None
 
 -- the name of the last root; no name is below it before the first
@@ -102,19 +102,19 @@ last_name roots = option_map_or (λ r. r.0) (slice_get roots (length roots - 1))
 unfoldable pub may_root : Reading → List ℕ → Bool
 may_root r name = is_under_way r.stage && is_lt (name_cmp (last_name r.roots) name) && nat_lt (length r.roots) MOST_ROOTS
 
-abbrev pub with_root : Reading → List ℕ → ℕ → Reading
-with_root r name to = record r { stage = InRoots; objects = objects_read r; roots = r.roots ++ (name, to) ∷ [] }
+abbrev pub after_root_line : Reading → List ℕ → ℕ → Reading
+after_root_line r name to = record r { stage = InRoots; objects = objects_read r; roots = r.roots ++ (name, to) ∷ [] }
 
-abbrev pub ended : Reading → Reading
-ended r = record r { stage = Ended; objects = objects_read r }
+abbrev pub closed_reading : Reading → Reading
+closed_reading r = record r { stage = Ended; objects = objects_read r }
 
 -- what has been read with a line more, unless the line may not stand there
 unfoldable pub take_line : Reading → Line → Option Reading
 take_line r Head = reading_where (is_empty r.stage) (record r { stage = Begun })
-take_line r (Object id slots kind) = reading_where (may_add r id slots kind) (with_object r id slots kind)
+take_line r (Object id slots kind) = reading_where (may_add r id slots kind) (after_object_line r id slots kind)
 take_line r (Slot slot to) = take_slot r slot to r.stage
-take_line r (Root to name) = reading_where (may_root r name) (with_root r name to)
-take_line r End = reading_where (is_under_way r.stage) (ended r)
+take_line r (Root to name) = reading_where (may_root r name) (after_root_line r name to)
+take_line r End = reading_where (is_under_way r.stage) (closed_reading r)
 
 -- a line that says nothing may stand nowhere
 abbrev pub take_said : Reading → Option Line → Option Reading

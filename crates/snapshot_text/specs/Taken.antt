@@ -7,18 +7,18 @@ use Rattle.snapshot_text.specs.declared.line.Line.TheVariants.{Head, Object, End
 use Rattle.snapshot_text.specs.declared.stage.OpenObject.{OpenObject}
 use Rattle.snapshot_text.specs.declared.stage.Stage.{Stage}
 use Rattle.snapshot_text.specs.declared.stage.Stage.TheVariants.{Empty, Begun, InObject, InRoots, Ended}
-use Rattle.snapshot_text.specs.Text.{slot_lines, object_lines, lines_within}
+use Rattle.snapshot_text.specs.Text.{lines_of_slots, lines_of_object, lines_within}
 use Rattle.snapshot_text.specs.Table.{Reading}
 
 -- the lines of an open object so far
 abbrev pub open_lines : OpenObject → List Line
-open_lines o = Object o.id o.slots o.kind ∷ slot_lines 0 o.filled
+open_lines o = Object o.id o.slots o.kind ∷ lines_of_slots 0 o.filled
 
 -- the lines that were read, by what stands last
 abbrev pub AreLinesAt : Stage → List ObjectView → List (List ℕ × ℕ) → List Line → Type 0
 AreLinesAt Empty objects roots lines = (lines ≡ []) × (objects ≡ []) × (roots ≡ [])
 AreLinesAt Begun objects roots lines = (lines ≡ Head ∷ []) × (objects ≡ []) × (roots ≡ [])
-AreLinesAt (InObject o) objects roots lines = (lines ≡ Head ∷ (flat_map object_lines objects ++ open_lines o)) × (length o.filled ≤ o.slots) × (roots ≡ [])
+AreLinesAt (InObject o) objects roots lines = (lines ≡ Head ∷ (flat_map lines_of_object objects ++ open_lines o)) × (length o.filled ≤ o.slots) × (roots ≡ [])
 AreLinesAt InRoots objects roots lines = lines ≡ Head ∷ lines_within objects roots
 AreLinesAt Ended objects roots lines = lines ≡ Head ∷ (lines_within objects roots ++ End ∷ [])
 

@@ -13,19 +13,19 @@ slot_line slot None = []
 slot_line slot (Some to) = Slot slot to ∷ []
 
 -- the lines of these slots, of which the first has this number
-abbrev pub slot_lines : ℕ → List (Option ℕ) → List Line
-slot_lines slot [] = []
-slot_lines slot (held ∷ slots) = slot_line slot held ++ slot_lines (slot + 1) slots
+abbrev pub lines_of_slots : ℕ → List (Option ℕ) → List Line
+lines_of_slots slot [] = []
+lines_of_slots slot (held ∷ slots) = slot_line slot held ++ lines_of_slots (slot + 1) slots
 
-abbrev pub object_lines : ObjectView → List Line
-object_lines o = Object o.id (length o.slots) o.kind ∷ slot_lines 0 o.slots
+abbrev pub lines_of_object : ObjectView → List Line
+lines_of_object o = Object o.id (length o.slots) o.kind ∷ lines_of_slots 0 o.slots
 
-abbrev pub root_line : List ℕ × ℕ → Line
-root_line r = Root r.1 r.0
+abbrev pub line_of_root : List ℕ × ℕ → Line
+line_of_root r = Root r.1 r.0
 
 -- the lines of the objects and of the roots
 abbrev pub lines_within : List ObjectView → List (List ℕ × ℕ) → List Line
-lines_within objects roots = flat_map object_lines objects ++ map root_line roots
+lines_within objects roots = flat_map lines_of_object objects ++ map line_of_root roots
 
 -- the lines of a view
 abbrev pub lines_of : HeapView → List Line

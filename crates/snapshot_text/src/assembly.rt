@@ -4,7 +4,7 @@ ghost use Rattle.heap_base.specs.declared.limits.TheConstants.{MOST_OBJECTS, MOS
 ghost use Rattle.std.specs.Ordering.{is_lt};
 ghost use Rattle.graph_meaning.specs.Heap.{name_cmp};
 ghost use Rattle.snapshot_text.specs.Lines.{line_in};
-ghost use Rattle.snapshot_text.specs.Table.{Reading, ended, is_before_roots, is_empty, is_ended, is_under_way, last_name, may_add, may_root, nothing_read, objects_read, reading_where, take_line, take_said, take_slot, with_object, with_root};
+ghost use Rattle.snapshot_text.specs.Table.{Reading, closed_reading, is_before_roots, is_empty, is_ended, is_under_way, last_name, may_add, may_root, nothing_read, objects_read, reading_where, take_line, take_said, take_slot, after_object_line, after_root_line};
 ghost use Rattle.snapshot_text.specs.Bounds.{IsBounded};
 
 use crate::line::{Line, line_in};
@@ -105,7 +105,7 @@ impl Assembly {
     #[tactic(auto, unfolding(crate::specs::Table::may_add))]
     fn take_object(&mut self, id: ObjId, slots: u32, kind: Name) -> Result<bool, OutOfMemory>
         requires bounded { IsBounded self.old }
-        ensures { IfOk result (λ taken. (if taken then Some self.new else None) ≡ reading_where (may_add self.old id slots kind) (with_object self.old id slots kind)) }
+        ensures { IfOk result (λ taken. (if taken then Some self.new else None) ≡ reading_where (may_add self.old id slots kind) (after_object_line self.old id slots kind)) }
     {
         if !self.may_add(id.number(), slots) {
             return Ok(false);
@@ -152,7 +152,7 @@ impl Assembly {
 
     fn take_root(&mut self, to: ObjId, name: Name) -> Result<bool, OutOfMemory>
         requires bounded { IsBounded self.old }
-        ensures { IfOk result (λ taken. (if taken then Some self.new else None) ≡ reading_where (may_root self.old name) (with_root self.old name to)) }
+        ensures { IfOk result (λ taken. (if taken then Some self.new else None) ≡ reading_where (may_root self.old name) (after_root_line self.old name to)) }
     {
         if !self.may_root(&name) {
             return Ok(false);
@@ -171,7 +171,7 @@ impl Assembly {
 
     fn take_end(&mut self) -> Result<bool, OutOfMemory>
         requires bounded { IsBounded self.old }
-        ensures { IfOk result (λ taken. (if taken then Some self.new else None) ≡ reading_where (is_under_way self.old.stage) (ended self.old)) }
+        ensures { IfOk result (λ taken. (if taken then Some self.new else None) ≡ reading_where (is_under_way self.old.stage) (closed_reading self.old)) }
     {
         if !self.is_under_way() {
             return Ok(false);

@@ -5,8 +5,8 @@ ghost use Rattle.heap_base.specs.declared.limits.TheConstants.{MOST_OBJECTS};
 ghost use Rattle.graph_meaning.specs.Reach.{has_id};
 ghost use Rattle.snapshot_text.specs.declared.line.Line.{Line};
 ghost use Rattle.snapshot_text.specs.declared.line.Line.TheVariants.{End};
-ghost use Rattle.snapshot_text.specs.Text.{lines_of, object_lines, root_line, slot_line, slot_lines};
-ghost use Rattle.snapshot_text.specs.Dangling.{Finds, Passes, dangling_at, dangling_from, first_dangling, object_ids};
+ghost use Rattle.snapshot_text.specs.Text.{lines_of, lines_of_object, line_of_root, slot_line, lines_of_slots};
+ghost use Rattle.snapshot_text.specs.Dangling.{FindsDangling, Passes, dangling_at, dangling_from, first_dangling, object_ids};
 ghost use Rattle.snapshot_text.specs.Reading.{Reads, unless_dangling};
 
 use crate::refusal::{SnapError, SnapWhy};
@@ -59,7 +59,7 @@ fn has_id(ids: &[u32], id: u32) -> bool
 fn dangling_in_view(ids: &[u32], view: &HeapView) -> Result<(), DanglingReference>
     requires few { length view.now.objects ≤ MOST_OBJECTS }
     requires rising { AllPairs (λ x y. x < y) ids.now }
-    ensures { Finds result (dangling_from ids.now 1 (lines_of view.now)) }
+    ensures { FindsDangling result (dangling_from ids.now 1 (lines_of view.now)) }
 {
     match dangling_in_objects(ids, 2, &view.objects) {
         Ok(line) => dangling_in_roots(ids, line, &view.roots),
@@ -77,7 +77,7 @@ fn dangling_in_objects(
     requires few { length objects.now ≤ MOST_OBJECTS }
     requires early { line ≤ 2 }
     requires rising { AllPairs (λ x y. x < y) ids.now }
-    ensures passes { (rest : List Line) → Passes result (dangling_from ids.now line (flat_map object_lines objects.now ++ rest)) (λ next. dangling_from ids.now next rest) }
+    ensures passes { (rest : List Line) → Passes result (dangling_from ids.now line (flat_map lines_of_object objects.now ++ rest)) (λ next. dangling_from ids.now next rest) }
     ensures bound { IfOk result (λ next. next ≤ 2 + MOST_OBJECTS * 2 ^ 32) }
 {
     let mut next = line;
@@ -93,7 +93,7 @@ fn dangling_in_objects(
 fn dangling_in_slots(ids: &[u32], line: u64, slots: &SlotList) -> Result<u64, DanglingReference>
     requires early { line ≤ 2 ^ 62 }
     requires rising { AllPairs (λ x y. x < y) ids.now }
-    ensures passes { (rest : List Line) → Passes result (dangling_from ids.now line (slot_lines 0 slots.now ++ rest)) (λ next. dangling_from ids.now next rest) }
+    ensures passes { (rest : List Line) → Passes result (dangling_from ids.now line (lines_of_slots 0 slots.now ++ rest)) (λ next. dangling_from ids.now next rest) }
     ensures bound { IfOk result (λ next. next < line + 2 ^ 32) }
 {
     let mut next = line;
@@ -135,7 +135,7 @@ fn dangling_at(ids: &[u32], line: u64, to: u32) -> Result<u64, DanglingReference
 fn dangling_in_roots(ids: &[u32], line: u64, roots: &RootList) -> Result<(), DanglingReference>
     requires early { line ≤ 2 ^ 62 }
     requires rising { AllPairs (λ x y. x < y) ids.now }
-    ensures { Finds result (dangling_from ids.now line (map root_line roots.now ++ End ∷ [])) }
+    ensures { FindsDangling result (dangling_from ids.now line (map line_of_root roots.now ++ End ∷ [])) }
 {
     let mut next = line;
     for place in 0..roots.len() {

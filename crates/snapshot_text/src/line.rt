@@ -1,6 +1,6 @@
 //! What a line of a snapshot says.
 ghost use Rattle.std.specs.Prelude.{◌≡◌, IfOk, option_map};
-ghost use Rattle.snapshot_text.specs.Lines.{line_in, number_in, numbered, object_in, root_in, said_by, slot_in, text_in, words_in};
+ghost use Rattle.snapshot_text.specs.Lines.{line_in, number_in, number_first, object_line_in, root_line_in, said_by, slot_line_in, text_in, words_in};
 
 use heap_base::{Name, ObjId, OutOfMemory};
 use itoa::Buffer;
@@ -57,21 +57,21 @@ fn said_by(alloc: Global, word: &str, rest: &str) -> Result<Option<Line>, OutOfM
     ensures { IfOk result (λ said. said ≡ said_by word.now rest.now) }
 {
     match word {
-        "object" => object_in(alloc, rest),
-        "slot" => Ok(slot_in(rest)),
-        "root" => root_in(alloc, rest),
+        "object" => object_line_in(alloc, rest),
+        "slot" => Ok(slot_line_in(rest)),
+        "root" => root_line_in(alloc, rest),
         _ => Ok(None),
     }
 }
 
-#[tactic(auto, unfolding(crate::specs::Lines::object_in))]
-fn object_in(alloc: Global, text: &str) -> Result<Option<Line>, OutOfMemory>
-    ensures { IfOk result (λ said. said ≡ object_in text.now) }
+#[tactic(auto, unfolding(crate::specs::Lines::object_line_in))]
+fn object_line_in(alloc: Global, text: &str) -> Result<Option<Line>, OutOfMemory>
+    ensures { IfOk result (λ said. said ≡ object_line_in text.now) }
 {
-    let Some((id, rest)) = numbered(text) else {
+    let Some((id, rest)) = number_first(text) else {
         return Ok(None);
     };
-    let Some((slots, kind)) = numbered(rest) else {
+    let Some((slots, kind)) = number_first(rest) else {
         return Ok(None);
     };
     let Some(id) = ObjId::of(id) else {
@@ -83,20 +83,20 @@ fn object_in(alloc: Global, text: &str) -> Result<Option<Line>, OutOfMemory>
     Ok(Some(Line::Object { id, slots, kind }))
 }
 
-#[tactic(auto, unfolding(crate::specs::Lines::slot_in))]
-fn slot_in(text: &str) -> Option<Line>
-    ensures { result ≡ slot_in text.now }
+#[tactic(auto, unfolding(crate::specs::Lines::slot_line_in))]
+fn slot_line_in(text: &str) -> Option<Line>
+    ensures { result ≡ slot_line_in text.now }
 {
-    let (slot, to) = numbered(text)?;
+    let (slot, to) = number_first(text)?;
     let to = ObjId::of(number_in(to)?)?;
     Some(Line::Slot { slot, to })
 }
 
-#[tactic(auto, unfolding(crate::specs::Lines::root_in))]
-fn root_in(alloc: Global, text: &str) -> Result<Option<Line>, OutOfMemory>
-    ensures { IfOk result (λ said. said ≡ root_in text.now) }
+#[tactic(auto, unfolding(crate::specs::Lines::root_line_in))]
+fn root_line_in(alloc: Global, text: &str) -> Result<Option<Line>, OutOfMemory>
+    ensures { IfOk result (λ said. said ≡ root_line_in text.now) }
 {
-    let Some((to, name)) = numbered(text) else {
+    let Some((to, name)) = number_first(text) else {
         return Ok(None);
     };
     let Some(to) = ObjId::of(to) else {
@@ -109,9 +109,9 @@ fn root_in(alloc: Global, text: &str) -> Result<Option<Line>, OutOfMemory>
 }
 
 // A number that is the first word, and what stands behind it.
-#[tactic(auto, unfolding(crate::specs::Lines::first_word, crate::specs::Lines::numbered))]
-fn numbered(text: &str) -> Option<(u32, &str)>
-    ensures { option_map (λ found. (found.0, found.1.now)) result ≡ numbered text.now }
+#[tactic(auto, unfolding(crate::specs::Lines::first_word, crate::specs::Lines::number_first))]
+fn number_first(text: &str) -> Option<(u32, &str)>
+    ensures { option_map (λ found. (found.0, found.1.now)) result ≡ number_first text.now }
 {
     let (word, rest) = text.split_once(' ')?;
     Some((number_in(word)?, rest))

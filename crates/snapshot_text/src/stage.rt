@@ -1,5 +1,5 @@
 ghost use Rattle.std.specs.Prelude.{◌≡◌, ◌-◌, ◌≤◌, ◌++◌, None, length, replicate, if◌then◌else◌, IfOk, OnOk};
-ghost use Rattle.snapshot_text.specs.Table.{may_fill, whole_object, with_slot};
+ghost use Rattle.snapshot_text.specs.Table.{may_fill, whole_object, after_slot_line};
 
 use graph_meaning::{ObjectView, SlotList};
 use heap_base::{Name, ObjId, OutOfMemory};
@@ -31,7 +31,7 @@ pub enum Stage {
 impl OpenObject {
     /// Names a slot, where it is one of the object's and above the last that was named.
     pub(crate) fn name_slot(&mut self, slot: u32, to: ObjId) -> Result<bool, OutOfMemory>
-        ensures { IfOk result (λ named. (named ≡ may_fill self.old slot) × (self.new ≡ (if named then with_slot self.old slot to else self.old))) }
+        ensures { IfOk result (λ named. (named ≡ may_fill self.old slot) × (self.new ≡ (if named then after_slot_line self.old slot to else self.old))) }
     {
         if slot >= self.slots || slot < self.filled.len() {
             return Ok(false);

@@ -4,7 +4,7 @@ ghost use Rattle.std.specs.List.{flat_map};
 ghost use Rattle.snapshot_text.specs.declared.line.Line.TheVariants.{Object, Root, Slot};
 ghost use Rattle.snapshot_text.specs.Lines.{line_bytes};
 ghost use Rattle.snapshot_text.specs.Reading.{IsLawful, StandsFor};
-ghost use Rattle.snapshot_text.specs.Text.{object_lines, root_line, slot_line, slot_lines, snapshot_text};
+ghost use Rattle.snapshot_text.specs.Text.{lines_of_object, line_of_root, slot_line, lines_of_slots, snapshot_text};
 
 use graph_meaning::{HeapView, ObjectList, ObjectView, RootList, SlotList};
 use heap_base::{Name, OutOfMemory};
@@ -32,7 +32,7 @@ fn put_view(text: &mut Vec<u8>, view: &HeapView) -> Result<(), OutOfMemory>
 }
 
 fn put_objects(text: &mut Vec<u8>, objects: &ObjectList) -> Result<(), OutOfMemory>
-    ensures { OnOk result (text.new.items ≡ text.old.items ++ flat_map line_bytes (flat_map object_lines objects.now)) }
+    ensures { OnOk result (text.new.items ≡ text.old.items ++ flat_map line_bytes (flat_map lines_of_object objects.now)) }
 {
     for place in 0..objects.len() {
         put_object(text, objects.at(place))?;
@@ -41,7 +41,7 @@ fn put_objects(text: &mut Vec<u8>, objects: &ObjectList) -> Result<(), OutOfMemo
 }
 
 fn put_object(text: &mut Vec<u8>, object: &ObjectView) -> Result<(), OutOfMemory>
-    ensures { OnOk result (text.new.items ≡ text.old.items ++ flat_map line_bytes (object_lines object.now)) }
+    ensures { OnOk result (text.new.items ≡ text.old.items ++ flat_map line_bytes (lines_of_object object.now)) }
 {
     put_object_line(text, object)?;
     put_slots(text, &object.slots)
@@ -59,7 +59,7 @@ fn put_object_line(text: &mut Vec<u8>, object: &ObjectView) -> Result<(), OutOfM
 }
 
 fn put_slots(text: &mut Vec<u8>, slots: &SlotList) -> Result<(), OutOfMemory>
-    ensures { OnOk result (text.new.items ≡ text.old.items ++ flat_map line_bytes (slot_lines 0 slots.now)) }
+    ensures { OnOk result (text.new.items ≡ text.old.items ++ flat_map line_bytes (lines_of_slots 0 slots.now)) }
 {
     for place in 0..slots.len() {
         put_slot(text, place, *slots.at(place))?;
@@ -87,7 +87,7 @@ fn put_slot_line(text: &mut Vec<u8>, slot: u32, to: u32) -> Result<(), OutOfMemo
 }
 
 fn put_roots(text: &mut Vec<u8>, roots: &RootList) -> Result<(), OutOfMemory>
-    ensures { OnOk result (text.new.items ≡ text.old.items ++ flat_map line_bytes (map root_line roots.now)) }
+    ensures { OnOk result (text.new.items ≡ text.old.items ++ flat_map line_bytes (map line_of_root roots.now)) }
 {
     for place in 0..roots.len() {
         let root = roots.at(place);

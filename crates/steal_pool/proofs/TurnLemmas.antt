@@ -11,7 +11,7 @@ use Rattle.steal_pool.specs.Hands.{one}
 use Rattle.steal_pool.specs.Jobs.{Meaning, AllFit, Puts}
 use Rattle.steal_pool.specs.Lanes.{own_hand, HasTakenFew}
 use Rattle.steal_pool.specs.Queues.{Waiting}
-use Rattle.steal_pool.specs.Searches.{Sources, sources, total_taken, FindsTask, FindsNone, Offers}
+use Rattle.steal_pool.specs.Searches.{TaskSources, sources, total_taken, FindsTask, FindsNone, Offers}
 use Rattle.steal_pool.specs.Victims.{AreSameButTook, AreOnTerms, total_took, total_bound}
 use Rattle.steal_pool.specs.Workers.{most_left, CanWork, Advances}
 use Rattle.steal_pool.proofs.Elements.{all-front}
@@ -51,20 +51,20 @@ pub all_append : {X : Type 0} (P : X → Type 0) (xs ys : List X) → AllByRecur
 all_append P [] ys a b = b
 all_append P (x ∷ xs) ys a b = (a.0, all_append P xs ys a.1 b)
 
-pub offers_fit : (a b : Sources) → Offers a b → AllFit (own_hand a.lane).fit a.queue.tasks → AllFit (own_hand b.lane).fit b.queue.tasks
+pub offers_fit : (a b : TaskSources) → Offers a b → AllFit (own_hand a.lane).fit a.queue.tasks → AllFit (own_hand b.lane).fit b.queue.tasks
 offers_fit a b o f =
     let same : (own_hand b.lane).fit ≡ (own_hand a.lane).fit = ap (λ (v : Hand). v.fit) o.hand in
     subst (λ fit. AllFit fit b.queue.tasks) (sym same) (all-front (Contains (own_hand a.lane).fit) o.moved b.queue.tasks (subst (AllFit (own_hand a.lane).fit) o.tasks f)).1
 
 -- what was offered is what the queue lost and the deque got
-offers_sum : (a b : Sources) → Offers a b → (h : Task → ℕ)
+offers_sum : (a b : TaskSources) → Offers a b → (h : Task → ℕ)
     → total h (own_hand b.lane).put + total h b.queue.tasks ≡ total h (own_hand a.lane).put + total h a.queue.tasks
 offers_sum a b o h =
     let p = ap (λ (v : Hand). total h v.put) o.hand ∙ total-append h (own_hand a.lane).put o.moved in
     let q = ap (total h) o.tasks ∙ total-append h o.moved b.queue.tasks in
     omega arith
 
-pub offers_bound : (a b : Sources) → Offers a b → total one (own_hand a.lane).put + total one a.queue.tasks ≤ (own_hand a.lane).bound
+pub offers_bound : (a b : TaskSources) → Offers a b → total one (own_hand a.lane).put + total one a.queue.tasks ≤ (own_hand a.lane).bound
     → total one (own_hand b.lane).put + total one b.queue.tasks ≤ (own_hand b.lane).bound
 offers_bound a b o l =
     let s = offers_sum a b o one in
@@ -72,7 +72,7 @@ offers_bound a b o l =
     omega arith
 
 -- Tasks went among a worker's sources, and its job did nothing meanwhile.
-record Moves (a b : Sources) : Type 0 where
+record Moves (a b : TaskSources) : Type 0 where
   sum : (h : Task → ℕ) → total h b.queue.tasks + total h (own_hand b.lane).put + total_taken h a ≡ total h a.queue.tasks + total h (own_hand a.lane).put + total_taken h b
   room : b.queue.room ≡ a.queue.room
   hand : own_hand b.lane ≡ record (own_hand a.lane) { put = (own_hand b.lane).put; took = (own_hand b.lane).took }
@@ -80,7 +80,7 @@ record Moves (a b : Sources) : Type 0 where
   others : AreSameButTook a.others b.others
 
 module _ {J S : Type 0} (M : Meaning J S) (s : S) where
-  idle_went : (j : J) (a b : Sources) → Moves a b → Advances M s (j, a) (j, b)
+  idle_went : (j : J) (a b : TaskSources) → Moves a b → Advances M s (j, a) (j, b)
   idle_went j a b m =
       record {
         done = [];
@@ -97,11 +97,11 @@ module _ {J S : Type 0} (M : Meaning J S) (s : S) where
         others = m.others;
       }
 
-  pub went_none : (j : J) (a : Sources) → Advances M s (j, a) (j, a)
+  pub went_none : (j : J) (a : TaskSources) → Advances M s (j, a) (j, a)
   went_none j a =
       idle_went j a a (record { sum = λ h. refl; room = refl; hand = refl; deque = refl; others = all_same_from a.others a.others (all_untouched a.others) })
 
-  pub went_on : (x y z : J × Sources) → Advances M s x y → Advances M s y z → Advances M s x z
+  pub went_on : (x y z : J × TaskSources) → Advances M s x y → Advances M s y z → Advances M s x z
   went_on x y z a b =
       record {
         done = a.done ++ b.done;
@@ -119,7 +119,7 @@ module _ {J S : Type 0} (M : Meaning J S) (s : S) where
       }
 
   -- a worker whose job did nothing meanwhile may go on
-  still_can : (j : J) (a b : Sources) → CanWork M s j a → (own_hand b.lane).fit ≡ (own_hand a.lane).fit → AreOnTerms (M.fit j s) b.others → AllFit (M.fit j s) b.queue.tasks
+  still_can : (j : J) (a b : TaskSources) → CanWork M s j a → (own_hand b.lane).fit ≡ (own_hand a.lane).fit → AreOnTerms (M.fit j s) b.others → AllFit (M.fit j s) b.queue.tasks
       → M.room j ≤ b.queue.spare → total one (own_hand b.lane).put + total one b.queue.tasks + M.room j ≤ (own_hand b.lane).bound
       → most_left (M.room j) b ≤ M.turns j + total_taken one b → CanWork M s j b
   still_can j a b c same others waiting spare bound turns =
@@ -127,7 +127,7 @@ module _ {J S : Type 0} (M : Meaning J S) (s : S) where
 
   -- ---- a turn that finds no task
 
-  pub none_can : (j : J) (a b : Sources) → CanWork M s j a → FindsNone a b → CanWork M s j b
+  pub none_can : (j : J) (a b : TaskSources) → CanWork M s j a → FindsNone a b → CanWork M s j b
   none_can j a b c f =
       let same = all_same_from a.others b.others f.others in
       let put : total one (own_hand b.lane).put ≡ total one (own_hand a.lane).put = ap (λ (v : Hand). total one v.put) f.hand in
@@ -143,7 +143,7 @@ module _ {J S : Type 0} (M : Meaning J S) (s : S) where
       still_can j a b c (ap (λ (v : Hand). v.fit) f.hand) (terms_same (M.fit j s) a.others b.others same c.others)
       (subst (λ (q : Waiting). AllFit (M.fit j s) q.tasks) (sym f.queue) c.waiting) (omega arith) (omega arith) (omega arith)
 
-  pub none_went : (j : J) (a b : Sources) → FindsNone a b → Advances M s (j, a) (j, b)
+  pub none_went : (j : J) (a b : TaskSources) → FindsNone a b → Advances M s (j, a) (j, b)
   none_went j a b f =
       idle_went j a b (record {
         sum = λ h. (
@@ -158,13 +158,13 @@ module _ {J S : Type 0} (M : Meaning J S) (s : S) where
         others = all_same_from a.others b.others f.others;
       })
 
-  pub none_few : (a b : Sources) → FindsNone a b → HasTakenFew a.lane → HasTakenFew b.lane
+  pub none_few : (a b : TaskSources) → FindsNone a b → HasTakenFew a.lane → HasTakenFew b.lane
   none_few a b f l =
       let put : total one (own_hand b.lane).put ≡ total one (own_hand a.lane).put = ap (λ (v : Hand). total one v.put) f.hand in
       let took : total one (own_hand b.lane).took ≡ total one (own_hand a.lane).took = ap (λ (v : Hand). total one v.took) f.hand in
       omega arith
 
-  pub none_left : (r : ℕ) (a b : Sources) → FindsNone a b → most_left r b - total_taken one b ≤ most_left r a - total_taken one a
+  pub none_left : (r : ℕ) (a b : TaskSources) → FindsNone a b → most_left r b - total_taken one b ≤ most_left r a - total_taken one a
   none_left r a b f =
       let put : total one (own_hand b.lane).put ≡ total one (own_hand a.lane).put = ap (λ (v : Hand). total one v.put) f.hand in
       let took : total one (own_hand b.lane).took ≡ total one (own_hand a.lane).took = ap (λ (v : Hand). total one v.took) f.hand in
@@ -176,7 +176,7 @@ module _ {J S : Type 0} (M : Meaning J S) (s : S) where
   -- ---- a turn that does a task
 
   -- the job has a turn for a task that was found
-  pub turn_left : (j : J) (a b : Sources) (t : Task) → CanWork M s j a → HasTakenFew a.lane → FindsTask a t b → 0 < M.turns j
+  pub turn_left : (j : J) (a b : TaskSources) (t : Task) → CanWork M s j a → HasTakenFew a.lane → FindsTask a t b → 0 < M.turns j
   turn_left j a b t c l f =
       let few = f.few l in
       let put : total one (own_hand b.lane).put ≡ total one (own_hand a.lane).put = ap (λ (v : Hand). total one v.put) f.hand in
@@ -187,7 +187,7 @@ module _ {J S : Type 0} (M : Meaning J S) (s : S) where
       omega arith
 
   -- the job k did the task that was found, and its puts wait in the queue q
-  pub record DoesTask (j : J) (b : Sources) (t : Task) (k : J) (q : Waiting) : Type 0 where
+  pub record DoesTask (j : J) (b : TaskSources) (t : Task) (k : J) (q : Waiting) : Type 0 where
     pub puts : Puts M s (record { job = j; task = t; outbox = b.queue.tasks }) (k, q.tasks)
     pub spare : length q.tasks + q.spare ≡ length b.queue.tasks + b.queue.spare
     pub room : q.room ≡ b.queue.room
@@ -195,7 +195,7 @@ module _ {J S : Type 0} (M : Meaning J S) (s : S) where
     pub same_fit : M.fit k s ≡ M.fit j s
     pub turns : M.turns j ≤ M.turns k + 1
 
-  pub done_can : (j k : J) (a b : Sources) (t : Task) (q : Waiting) → CanWork M s j a → FindsTask a t b → DoesTask j b t k q
+  pub done_can : (j k : J) (a b : TaskSources) (t : Task) (q : Waiting) → CanWork M s j a → FindsTask a t b → DoesTask j b t k q
       → CanWork M s k (sources q b.lane b.others)
   done_can j k a b t q c f d =
       let put : total one (own_hand b.lane).put ≡ total one (own_hand a.lane).put = ap (λ (v : Hand). total one v.put) f.hand in
@@ -225,7 +225,7 @@ module _ {J S : Type 0} (M : Meaning J S) (s : S) where
         turns = omega arith;
       }
 
-  pub done_went : (j k : J) (a b : Sources) (t : Task) (q : Waiting) → CanWork M s j a → FindsTask a t b → DoesTask j b t k q
+  pub done_went : (j k : J) (a b : TaskSources) (t : Task) (q : Waiting) → CanWork M s j a → FindsTask a t b → DoesTask j b t k q
       → Advances M s (j, a) (k, sources q b.lane b.others)
   done_went j k a b t q c f d =
       record {
@@ -247,7 +247,7 @@ module _ {J S : Type 0} (M : Meaning J S) (s : S) where
         others = f.others;
       }
 
-  pub done_left : (j k : J) (a b : Sources) (t : Task) (q : Waiting) → HasTakenFew a.lane → FindsTask a t b → DoesTask j b t k q
+  pub done_left : (j k : J) (a b : TaskSources) (t : Task) (q : Waiting) → HasTakenFew a.lane → FindsTask a t b → DoesTask j b t k q
       → most_left (M.room k) (sources q b.lane b.others) - total_taken one (sources q b.lane b.others) + 1 ≤ most_left (M.room j) a - total_taken one a
   done_left j k a b t q l f d =
       let few = f.few l in
@@ -262,7 +262,7 @@ module _ {J S : Type 0} (M : Meaning J S) (s : S) where
 
   -- ---- tasks that were offered
 
-  pub offered_can : (k : J) (a b : Sources) → CanWork M s k a → Offers a b → CanWork M s k b
+  pub offered_can : (k : J) (a b : TaskSources) → CanWork M s k a → Offers a b → CanWork M s k b
   offered_can k a b c o =
       let sum = offers_sum a b o one in
       let bound : (own_hand b.lane).bound ≡ (own_hand a.lane).bound = ap (λ (v : Hand). v.bound) o.hand in
@@ -276,7 +276,7 @@ module _ {J S : Type 0} (M : Meaning J S) (s : S) where
       let waiting = (all-front (Contains (M.fit k s)) o.moved b.queue.tasks (subst (AllFit (M.fit k s)) o.tasks c.waiting)).1 in
       still_can k a b c (ap (λ (v : Hand). v.fit) o.hand) (subst (AreOnTerms (M.fit k s)) (sym o.others) c.others) waiting (omega arith) (omega arith) (omega arith)
 
-  pub offered_went : (k : J) (a b : Sources) → Offers a b → Advances M s (k, a) (k, b)
+  pub offered_went : (k : J) (a b : TaskSources) → Offers a b → Advances M s (k, a) (k, b)
   offered_went k a b o =
       idle_went k a b (record {
         sum = λ h. (let u = offers_sum a b o h in let t = ap (λ (v : Hand). total h v.took) o.hand in let e = ap (total_took h) o.others in omega arith);
@@ -286,13 +286,13 @@ module _ {J S : Type 0} (M : Meaning J S) (s : S) where
         others = subst (AreSameButTook a.others) (sym o.others) (all_same_from a.others a.others (all_untouched a.others));
       })
 
-  pub offered_few : (a b : Sources) → Offers a b → HasTakenFew a.lane → HasTakenFew b.lane
+  pub offered_few : (a b : TaskSources) → Offers a b → HasTakenFew a.lane → HasTakenFew b.lane
   offered_few a b o l =
       let p = ap (λ (v : Hand). total one v.put) o.hand ∙ total-append one (own_hand a.lane).put o.moved in
       let t = ap (λ (v : Hand). total one v.took) o.hand in
       omega arith
 
-  pub offered_left : (r : ℕ) (a b : Sources) → Offers a b → most_left r b - total_taken one b ≤ most_left r a - total_taken one a
+  pub offered_left : (r : ℕ) (a b : TaskSources) → Offers a b → most_left r b - total_taken one b ≤ most_left r a - total_taken one a
   offered_left r a b o =
       let sum = offers_sum a b o one in
       let t = ap (λ (v : Hand). total one v.took) o.hand in

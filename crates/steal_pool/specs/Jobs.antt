@@ -26,14 +26,14 @@ abbrev pub AllFit : List Task → List Task → Type 0
 AllFit fit ts = AllByRecursion (Contains fit) ts
 
 -- A job that is to do a task, and the tasks that are in its outbox.
-pub record Turn (J : Type 0) : Type 0 where
+pub record TaskTurn (J : Type 0) : Type 0 where
   pub job : J
   pub task : Task
   pub outbox : List Task
 
 -- Of a turn, and of the job and its outbox behind it: the job put tasks behind those that were there, all fit, and its
 -- room fell by their number or more.
-pub record Puts {J S : Type 0} (M : Meaning J S) (s : S) (turn : Turn J) (new : J × List Task) : Type 0 where
+pub record Puts {J S : Type 0} (M : Meaning J S) (s : S) (turn : TaskTurn J) (new : J × List Task) : Type 0 where
   pub put : List Task
   pub tasks : new.1 ≡ turn.outbox ++ put
   pub works : M.works s turn.job turn.task (record { job = new.0; put = put })

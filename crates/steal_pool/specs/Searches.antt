@@ -14,20 +14,20 @@ use Rattle.steal_pool.specs.Steps.{IsEmptied, with_put}
 use Rattle.steal_pool.specs.Victims.{AreUntouched, AreSameButTook, AreOnTerms, total_took}
 
 -- a worker's queue, its deque and the others' deques
-pub record Sources : Type 0 where
+pub record TaskSources : Type 0 where
   pub queue : Waiting
   pub lane : Lane
   pub others : List Victim
 
-abbrev pub sources : Waiting → Lane → List Victim → Sources
+abbrev pub sources : Waiting → Lane → List Victim → TaskSources
 sources q l rs = record { queue = q; lane = l; others = rs }
 
 -- the weights of all that the worker's hands took
-abbrev pub total_taken : (Task → ℕ) → Sources → ℕ
+abbrev pub total_taken : (Task → ℕ) → TaskSources → ℕ
 total_taken h a = total h (own_hand a.lane).took + total_took h a.others
 
 -- the task came from one of them, and the rest stayed
-pub record FindsTask (a : Sources) (t : Task) (b : Sources) : Type 0 where
+pub record FindsTask (a : TaskSources) (t : Task) (b : TaskSources) : Type 0 where
   pub sum : (h : Task → ℕ) → h t + total h b.queue.tasks + total_taken h a ≡ total h a.queue.tasks + total_taken h b
   pub fewer : total one b.queue.tasks ≤ total one a.queue.tasks
   pub is_fit : (fit : List Task) → AllFit fit a.queue.tasks → (own_hand a.lane).fit ≡ fit → AreOnTerms fit a.others → Contains fit t
@@ -39,7 +39,7 @@ pub record FindsTask (a : Sources) (t : Task) (b : Sources) : Type 0 where
   pub others : AreSameButTook a.others b.others
 
 -- no task was found: none waits, and the worker's own deque was empty
-pub record FindsNone (a b : Sources) : Type 0 where
+pub record FindsNone (a b : TaskSources) : Type 0 where
   pub none : a.queue.tasks ≡ []
   pub emptied : IsEmptied (own_hand a.lane)
   pub queue : b.queue ≡ a.queue
@@ -48,7 +48,7 @@ pub record FindsNone (a b : Sources) : Type 0 where
   pub others : AreUntouched a.others b.others
 
 -- the first tasks of the queue went to the deque
-pub record Offers (a b : Sources) : Type 0 where
+pub record Offers (a b : TaskSources) : Type 0 where
   pub moved : List Task
   pub tasks : a.queue.tasks ≡ moved ++ b.queue.tasks
   pub queue : b.queue ≡ record a.queue { tasks = b.queue.tasks }

@@ -7,17 +7,17 @@ use Rattle.steal_pool.specs.declared.place.Place.{Place}
 use Rattle.steal_pool.specs.Hands.{one}
 use Rattle.steal_pool.specs.Jobs.{Meaning, Does, AllFit}
 use Rattle.steal_pool.specs.Lanes.{own_hand}
-use Rattle.steal_pool.specs.Searches.{Sources, sources, total_taken}
+use Rattle.steal_pool.specs.Searches.{TaskSources, sources, total_taken}
 use Rattle.steal_pool.specs.Steps.{IsEmptied}
 use Rattle.steal_pool.specs.Victims.{AreOnTerms, AreSameButTook, total_bound}
 
 -- how many tasks the worker may still come by, and those that it took
-abbrev pub most_left : ℕ → Sources → ℕ
+abbrev pub most_left : ℕ → TaskSources → ℕ
 most_left room a = total one a.queue.tasks + room + total one (own_hand a.lane).put + total_bound a.others
 
 -- A worker with this job and these sources may go on: all hands are on the job's terms, what waits is fit, there is
 -- room for all that the job may put, and the job's turns are enough for all tasks that the worker may come by.
-pub record CanWork {J S : Type 0} (M : Meaning J S) (s : S) (job : J) (a : Sources) : Type 0 where
+pub record CanWork {J S : Type 0} (M : Meaning J S) (s : S) (job : J) (a : TaskSources) : Type 0 where
   pub ready : M.ready job s
   pub terms : (own_hand a.lane).fit ≡ M.fit job s
   pub others : AreOnTerms (M.fit job s) a.others
@@ -28,7 +28,7 @@ pub record CanWork {J S : Type 0} (M : Meaning J S) (s : S) (job : J) (a : Sourc
 
 -- The job and its sources, before and after some turns. What the worker came by is what it did, what still waits, and
 -- what it offered.
-pub record Advances {J S : Type 0} (M : Meaning J S) (s : S) (x y : J × Sources) : Type 0 where
+pub record Advances {J S : Type 0} (M : Meaning J S) (s : S) (x y : J × TaskSources) : Type 0 where
   pub done : List Task
   pub put : List Task
   pub does : Does (M.works s) x.0 done (record { job = y.0; put = put })
@@ -45,8 +45,8 @@ pub record Advances {J S : Type 0} (M : Meaning J S) (s : S) (x y : J × Sources
 
 -- ---- the same of a place
 
-abbrev pub sources_of : {J : Type 0} → Place J → Sources
-sources_of p = sources p.queue p.lane p.others.items
+abbrev pub task_sources_of : {J : Type 0} → Place J → TaskSources
+task_sources_of p = sources p.queue p.lane p.others.items
 
 -- the room of the job, where one is there
 abbrev pub room_in : {J S : Type 0} → Meaning J S → Option J → ℕ
@@ -55,12 +55,12 @@ room_in M (Some j) = M.room j
 
 -- how many more tasks the worker of the place may do
 abbrev pub tasks_left : {J S : Type 0} → Meaning J S → Place J → ℕ
-tasks_left M p = most_left (room_in M p.job) (sources_of p) - total_taken one (sources_of p)
+tasks_left M p = most_left (room_in M p.job) (task_sources_of p) - total_taken one (task_sources_of p)
 
 pub record CanStart {J S : Type 0} (M : Meaning J S) (s : S) (p : Place J) : Type 0 where
   pub job : J
   pub is : p.job ≡ Some job
-  pub can : CanWork M s job (sources_of p)
+  pub can : CanWork M s job (task_sources_of p)
 
 -- the place p became q by turns of its worker, which may go on
 pub record EndsWork {J S : Type 0} (M : Meaning J S) (s : S) (p q : Place J) : Type 0 where
@@ -68,8 +68,8 @@ pub record EndsWork {J S : Type 0} (M : Meaning J S) (s : S) (p q : Place J) : T
   pub new : J
   pub was : p.job ≡ Some old
   pub is : q.job ≡ Some new
-  pub went : Advances M s (old, sources_of p) (new, sources_of q)
-  pub can : CanWork M s new (sources_of q)
+  pub went : Advances M s (old, task_sources_of p) (new, task_sources_of q)
+  pub can : CanWork M s new (task_sources_of q)
   pub spare : q.spare ≡ p.spare
   pub space : vec_capacity q.others ≡ vec_capacity p.others
 

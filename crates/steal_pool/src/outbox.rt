@@ -1,5 +1,5 @@
 ghost use Rattle.std.specs.Prelude.{◌≡◌, ◌+◌, ◌<◌, [], ◌∷◌, ◌++◌, length, IfOk};
-ghost use Rattle.steal_pool.specs.Outboxes.{Held, empty_outbox};
+ghost use Rattle.steal_pool.specs.Outboxes.{HeldTasks, empty_outbox};
 
 use heap_base::{OutOfMemory, Task};
 use std::alloc::Global;
@@ -15,9 +15,9 @@ pub struct Outbox {
 
 impl Model for Outbox {
     ghost use Rattle.std.specs.Prelude.{◌≤◌, vec_capacity, length};
-    ghost use Rattle.steal_pool.specs.Outboxes.{Held};
+    ghost use Rattle.steal_pool.specs.Outboxes.{HeldTasks};
 
-    ghost Value = { Held };
+    ghost Value = { HeldTasks };
 
     ghost view = { λ o. record { tasks = o.items.items; room = o.room } };
 

@@ -9,10 +9,10 @@ use Rattle.graph_meaning.specs.Collecting.{object_without, with_only, after_swee
 use Rattle.graph_meaning.proofs.HeapLemmas.{is_live-with_only}
 use Rattle.graph_meaning.proofs.Membership.{length-filter_le, filter_itself}
 use Rattle.graph_meaning.proofs.Rising.{ids-with_only}
-use Rattle.object_table.specs.Placed.{Placed, kept_ids, IsPlaced}
+use Rattle.object_table.specs.Placed.{PlacedTable, kept_ids, IsPlaced}
 use Rattle.assert_registry.specs.Assertions.{Assertions, live_part}
 use Rattle.region_log.specs.Regions.{RegionTable, table_with_ids}
-use Rattle.sweep.specs.Parts.{Parts, assertions_on, regions_with, ArePartsOf, AreTraced, SweepsHeap}
+use Rattle.sweep.specs.Parts.{PartsOfHeap, assertions_on, regions_with, ArePartsOf, AreTracedIds, SweepsHeap}
 
 -- what is so of each object in a cell is so of those that are kept
 kept_among : (P : ℕ → Type 0) (cells : List (Option ℕ)) (kept : List Bool) → ((cell id : ℕ) → get_or cells cell None ≡ Some id → P id) → (id : ℕ) → has_id (kept_ids cells kept) id ≡ true → P id
@@ -27,7 +27,7 @@ kept_among P (Some x ∷ cells) (true ∷ kept) each id has =
     (or_cases _ _ has)
 
 -- live are then those that are kept
-pub live_is_kept : (p : Placed) (kept : List Bool) → IsPlaced p → (id : ℕ) → is_live (with_only (kept_ids p.cells kept) p.table) id ≡ has_id (kept_ids p.cells kept) id
+pub live_is_kept : (p : PlacedTable) (kept : List Bool) → IsPlaced p → (id : ℕ) → is_live (with_only (kept_ids p.cells kept) p.table) id ≡ has_id (kept_ids p.cells kept) id
 live_is_kept p kept placed id =
     is_live-with_only (kept_ids p.cells kept) p.table id ∙ go (has_id (kept_ids p.cells kept) id) refl
   where
@@ -60,7 +60,7 @@ length-with_only kept t =
 
 -- ---- the sweep of a heap
 
-module _ (h : Heap) (kept : List ℕ) (traced : AreTraced h kept) where
+module _ (h : Heap) (kept : List ℕ) (traced : AreTracedIds h kept) where
   same_ids : has_id kept ≡ has_id (traced_ids h)
   same_ids = λ i id. traced id i
 
@@ -79,7 +79,7 @@ module _ (h : Heap) (kept : List ℕ) (traced : AreTraced h kept) where
       sym (length-map (with_only (traced_ids h) h.table).objects (λ (o : Object). o.id))
       ∙ ap length (ids-with_only (traced_ids h) h.table ∙ traced_themselves)
 
-  pub sweeps : (before after : Parts) (freed : ℕ) → ArePartsOf h before → after.placed.table ≡ with_only kept before.placed.table →
+  pub sweeps : (before after : PartsOfHeap) (freed : ℕ) → ArePartsOf h before → after.placed.table ≡ with_only kept before.placed.table →
       after.assertions ≡ assertions_on kept before.assertions → after.regions ≡ regions_with kept before.regions →
       freed ≡ length before.placed.table.objects - length after.placed.table.objects → SweepsHeap h after freed
   unfolding after_sweep

@@ -2,7 +2,7 @@ ghost use Rattle.std.specs.Prelude.{◌≡◌, ◌-◌, length};
 ghost use Rattle.graph_meaning.specs.Heap.{Heap};
 ghost use Rattle.graph_meaning.specs.Collecting.{with_only};
 ghost use Rattle.object_table.specs.Placed.{kept_ids, KeepsCells, LeadsToKept};
-ghost use Rattle.sweep.specs.Parts.{assertions_on, regions_with, ArePartsOf, AreTraced, SweepsHeap};
+ghost use Rattle.sweep.specs.Parts.{assertions_on, regions_with, ArePartsOf, AreTracedIds, SweepsHeap};
 
 use assert_registry::AssertRegistry;
 use object_table::ObjectTable;
@@ -27,7 +27,7 @@ pub fn sweep(
     ensures freed { result ≡ length table.old.table.objects - length table.new.table.objects }
 
     // It is the sweep of every heap that these are parts of, where its traced objects are those that are kept.
-    ensures heap { (h : Heap) → AreTraced h (kept_ids table.old.cells kept.now) →
+    ensures heap { (h : Heap) → AreTracedIds h (kept_ids table.old.cells kept.now) →
         ArePartsOf h (record { placed = table.old; assertions = registry.old; regions = regions.old }) →
         SweepsHeap h (record { placed = table.new; assertions = registry.new; regions = regions.new }) result }
 {

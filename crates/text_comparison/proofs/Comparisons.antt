@@ -6,7 +6,7 @@ use Rattle.std.specs.Io.KnownBytes.{Consumes, IsAtEnd}
 use Rattle.std.proofs.KnownBytes.{Consumes-nil, Consumes-trans}
 use Rattle.std.proofs.lemmas.List.{append_assoc, append-nil, length-append}
 use Rattle.text_comparison.specs.Differences.{IsFirstDifference}
-use Rattle.text_comparison.specs.Comparing.{ComparisonState, DiffersWithin, GivesNext, HasCompared, IsEqualSoFar, Tells, comparison_of, bytes_ahead}
+use Rattle.text_comparison.specs.Comparing.{ComparisonState, DiffersWithin, GivesNext, HasCompared, IsEqualSoFar, TellsDifference, comparison_of, bytes_ahead}
 use Rattle.text_comparison.specs.declared.outcome.Compared.{Compared}
 use Rattle.text_comparison.specs.declared.outcome.Compared.TheVariants.{Equal, Differs}
 
@@ -117,7 +117,7 @@ module _ {start left : Option (List ℕ)} {s : ComparisonState} {text : List ℕ
       )
 
       -- at the end of the text a byte is left
-      pub tells-more : (other : ℕ) → GivesNext (bytes_ahead s.pending left) (bytes_ahead pending' left') (Some other) → Tells start text (Differs n)
+      pub tells-more : (other : ℕ) → GivesNext (bytes_ahead s.pending left) (bytes_ahead pending' left') (Some other) → TellsDifference start text (Differs n)
       tells-more other gives =
           of-all ((text ++ other ∷ []) ++ pending') (λ bytes. IsFirstDifference bytes text n) start left' (took-one other gives)
           (λ behind _.
@@ -126,7 +126,7 @@ module _ {start left : Option (List ℕ)} {s : ComparisonState} {text : List ℕ
           (differ-behind text (other ∷ pending' ++ behind) [] n (omega (arith, is, equal.place)) (λ same. no-byte other same))))
 
     -- or none
-    pub tells-equal : GivesNext (bytes_ahead s.pending left) (bytes_ahead pending' left') None → Tells start text Equal
+    pub tells-equal : GivesNext (bytes_ahead s.pending left) (bytes_ahead pending' left') None → TellsDifference start text Equal
     tells-equal gives = of-all text (λ bytes. bytes ≡ text) start left' (took-none gives) (λ rest at. no-rest gives rest at)
 
   -- the next byte is that of the text, and was counted
@@ -141,7 +141,7 @@ module _ {start left : Option (List ℕ)} {s : ComparisonState} {text : List ℕ
 
 -- what differs from a text differs from it, also where nothing follows
 pub tells-differs : (start left : Option (List ℕ)) (s : ComparisonState) (text : List ℕ) (compared : Compared) →
-    HasCompared (comparison_of start left s) text (Ok compared) → compared ≢ Equal → Tells start text compared
+    HasCompared (comparison_of start left s) text (Ok compared) → compared ≢ Equal → TellsDifference start text compared
 tells-differs start left s text Equal has other = absurd (other refl)
 tells-differs start left s text (Differs n) (within, differ) other = go start differ
   where

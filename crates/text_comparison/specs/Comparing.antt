@@ -53,6 +53,6 @@ HasCompared c text (Ok (Differs n)) = DiffersWithin c.start text n
 HasCompared c text (Err e) = ⊤
 
 -- What is known of the whole text and of all bytes of the source, where it tells them.
-abbrev pub Tells : Option (List ℕ) → List ℕ → Compared → Type 0
-Tells start text Equal = IfSome start (λ bytes. bytes ≡ text)
-Tells start text (Differs n) = IfSome start (λ bytes. IsFirstDifference bytes text n)
+abbrev pub TellsDifference : Option (List ℕ) → List ℕ → Compared → Type 0
+TellsDifference start text Equal = IfSome start (λ bytes. bytes ≡ text)
+TellsDifference start text (Differs n) = IfSome start (λ bytes. IsFirstDifference bytes text n)

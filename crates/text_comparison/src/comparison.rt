@@ -1,7 +1,7 @@
 //! A comparison that is under way.
 ghost use Rattle.std.specs.Prelude.{◌≡◌, ◌≢◌, ◌≤◌, ◌+◌, ◌-◌, ◌^◌, ◌++◌, ℕ, List, Option, Err, IfOk, OnOk, OnErr};
 ghost use Rattle.heap_base.specs.Causes.{HasCause, Rose};
-ghost use Rattle.text_comparison.specs.Comparing.{IsEqualSoFar, HasCompared, Tells, comparison_of, fresh_comparison, GivesNext, bytes_ahead};
+ghost use Rattle.text_comparison.specs.Comparing.{IsEqualSoFar, HasCompared, TellsDifference, comparison_of, fresh_comparison, GivesNext, bytes_ahead};
 ghost use Rattle.text_comparison.specs.declared.outcome.CompareError.TheVariants.{ReadFault, TooLong};
 
 use crate::outcome::{CompareError, Compared};
@@ -62,7 +62,7 @@ impl Comparison {
         source: &mut B,
         text: &[u8],
     ) -> Result<Compared, CompareError>
-        ensures tells { (start : Option (List ℕ)) (before : List ℕ) → IsEqualSoFar (comparison_of start (B.left source.old) self.old) before → IfOk result (Tells start (before ++ text.now)) }
+        ensures tells { (start : Option (List ℕ)) (before : List ℕ) → IsEqualSoFar (comparison_of start (B.left source.old) self.old) before → IfOk result (TellsDifference start (before ++ text.now)) }
         ensures later { B.faults source.old ≤ B.faults source.new }
         ensures cause { result ≡ Err ReadFault → Rose (B.faults source.old) (B.faults source.new) }
         ensures too_long { result ≡ Err TooLong → 2 ^ 64 - 2 ≤ self.new.place }
@@ -75,7 +75,7 @@ impl Comparison {
 
     // Ends the text, which was equal so far: whether the source has more.
     fn finish<B: Source>(&mut self, source: &mut B) -> Result<Compared, CompareError>
-        ensures tells { (start : Option (List ℕ)) (text : List ℕ) → IsEqualSoFar (comparison_of start (B.left source.old) self.old) text → IfOk result (Tells start text) }
+        ensures tells { (start : Option (List ℕ)) (text : List ℕ) → IsEqualSoFar (comparison_of start (B.left source.old) self.old) text → IfOk result (TellsDifference start text) }
         ensures later { B.faults source.old ≤ B.faults source.new }
         ensures cause { result ≡ Err ReadFault → Rose (B.faults source.old) (B.faults source.new) }
         ensures told { result ≢ Err TooLong }

@@ -11,7 +11,7 @@ use Rattle.graph_meaning.specs.Collecting.{Rules, collection_of, after_collectio
 use Rattle.trace_reader.specs.Meaning.{Item}
 use Rattle.run_meaning.specs.Run.{RunRules, collection_rules}
 use Rattle.trace_run.specs.declared.taken.Taken.{Taken}
-use Rattle.trace_run.specs.Program.{Takes, goes_on, report_by}
+use Rattle.trace_run.specs.Program.{TakesEvent, goes_on, report_by}
 use Rattle.audit_program.specs.Audits.{AuditState, IsDue, audit_meaning, audit_report, behind_next, next_of}
 use Rattle.audit_core.specs.Audit.{Audit, after_next, first_audit}
 use Rattle.trace_audit.specs.Auditors.{IsCollected, auditor_state}
@@ -47,18 +47,18 @@ stands-behind rules old new c is collected =
 -- what it made due is its effect
 pub takes-due : (rules : RunRules) (old new : Audit) (c : Collection) (made : Result Taken OutOfMemory) → old.rules ≡ collection_rules rules →
     IsCollected old (Ok c) new → IfOk made (IsDue rules.react c) →
-    IfOk made (λ taken. Takes (audit_meaning.takes (auditor_state rules old) Collect) (Ok taken) (auditor_state rules new))
+    IfOk made (λ taken. TakesEvent (audit_meaning.takes (auditor_state rules old) Collect) (Ok taken) (auditor_state rules new))
 takes-due rules old new c made is collected due =
     let s = auditor_state rules old in
     let next : IfOk made (IsDue rules.react (next_of s)) = subst (λ (x : Collection). IfOk made (IsDue rules.react x)) (found-next rules old new c is collected) due in
-    subst (λ (t : AuditState). IfOk made (λ taken. Takes (audit_meaning.takes s Collect) (Ok taken) t)) (sym (stands-behind rules old new c is collected)) (effects.takes-due s made next)
+    subst (λ (t : AuditState). IfOk made (λ taken. TakesEvent (audit_meaning.takes s Collect) (Ok taken) t)) (sym (stands-behind rules old new c is collected)) (effects.takes-due s made next)
 
 -- a collection is taken as the event that is one
 pub takes-collect : (rules : RunRules) (old new : Audit) (e : Event) (taken : Taken) → e ≡ Collect →
-    Takes (audit_meaning.takes (auditor_state rules old) Collect) (Ok taken) (auditor_state rules new) →
-    Takes (audit_meaning.takes (auditor_state rules old) e) (Ok taken) (auditor_state rules new)
+    TakesEvent (audit_meaning.takes (auditor_state rules old) Collect) (Ok taken) (auditor_state rules new) →
+    TakesEvent (audit_meaning.takes (auditor_state rules old) e) (Ok taken) (auditor_state rules new)
 takes-collect rules old new e taken is takes =
-    subst (λ (x : Event). Takes (audit_meaning.takes (auditor_state rules old) x) (Ok taken) (auditor_state rules new)) (sym is) takes
+    subst (λ (x : Event). TakesEvent (audit_meaning.takes (auditor_state rules old) x) (Ok taken) (auditor_state rules new)) (sym is) takes
 
 -- ---- operations
 

@@ -3,8 +3,8 @@ ghost use Rattle.std.specs.Prelude.{◌≡◌, ◌+◌, ◌<◌, ◌≤◌};
 ghost use Rattle.heap_base.specs.Streams.{stream_of};
 ghost use Rattle.heap_base.specs.declared.limits.TheConstants.{LONGEST_TRACE, MOST_WORKERS};
 ghost use Rattle.run_meaning.specs.Run.{is_force};
-ghost use Rattle.trace_run.specs.Outcome.{Ended, seen, trace_report};
-ghost use Rattle.trace_run.specs.Program.{Takes};
+ghost use Rattle.trace_run.specs.Outcome.{EndsAs, outside_of, trace_report};
+ghost use Rattle.trace_run.specs.Program.{TakesEvent};
 ghost use Rattle.audit_program.specs.Audits.{audit_meaning, audit_report, rules_by};
 ghost use Rattle.trace_audit.specs.Auditors.{MakesCollections, MayCollect};
 ghost use Rattle.trace_audit.specs.State.{state_in};
@@ -47,9 +47,9 @@ pub fn audit_trace<
     requires may_collect { MayCollect C.pre }
     requires collects { MakesCollections C.step }
     requires ready { L.ready reader.old }
-    ensures { let old = seen (stream_of S.left S.faults source.old) (stream_of K.held K.faults sink.old) in
-        let new = seen (stream_of S.left S.faults source.new) (stream_of K.held K.faults sink.new) in
-        Ended (trace_report LONGEST_TRACE (audit_report (rules_by audit.plan.paths audit.plan.react))) old new result }
+    ensures { let old = outside_of (stream_of S.left S.faults source.old) (stream_of K.held K.faults sink.old) in
+        let new = outside_of (stream_of S.left S.faults source.new) (stream_of K.held K.faults sink.new) in
+        EndsAs (trace_report LONGEST_TRACE (audit_report (rules_by audit.plan.paths audit.plan.react))) old new result }
 {
     let Audit { plan, mut collect } = audit;
     let alloc = plan.alloc;
@@ -67,7 +67,7 @@ pub fn audit_trace<
         requires few { program.now.auditor.collections < LONGEST_TRACE }
         requires may_collect { MayCollect C.pre }
         requires collects { MakesCollections C.step }
-        ensures takes { Takes (audit_meaning.takes (state_in program.entry.now) event.now) result (state_in program.exit.now) }
+        ensures takes { TakesEvent (audit_meaning.takes (state_in program.entry.now) event.now) result (state_in program.exit.now) }
         ensures few { program.exit.now.auditor.collections ≤ program.entry.now.auditor.collections + 1 }
     { take_event(program, event, &mut collect) };
     let run = TraceRun {

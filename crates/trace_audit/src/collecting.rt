@@ -3,7 +3,7 @@ ghost use Rattle.std.specs.Prelude.{◌≡◌, ◌+◌, ◌<◌, ◌≤◌, Ok, 
 ghost use Rattle.heap_base.specs.declared.limits.TheConstants.{LONGEST_TRACE};
 ghost use Rattle.graph_meaning.specs.declared.event.Event.TheVariants.{Collect};
 ghost use Rattle.run_meaning.specs.Run.{RunRules, collection_rules};
-ghost use Rattle.trace_run.specs.Program.{Takes};
+ghost use Rattle.trace_run.specs.Program.{TakesEvent};
 ghost use Rattle.audit_program.specs.Audits.{audit_meaning};
 ghost use Rattle.trace_audit.specs.Auditors.{MakesCollections, MayCollect, auditor_state};
 
@@ -25,7 +25,7 @@ pub fn make_collection<C: FnMut(&mut Auditor) -> Result<Collection, OutOfMemory>
     requires may_collect { MayCollect C.pre }
     requires collects { MakesCollections C.step }
     ensures takes { (rules : RunRules) → rules.react ≡ react → auditor.old.rules ≡ collection_rules rules →
-        IfOk result (λ taken. Takes (audit_meaning.takes (auditor_state rules auditor.old) Collect) (Ok taken) (auditor_state rules auditor.new)) }
+        IfOk result (λ taken. TakesEvent (audit_meaning.takes (auditor_state rules auditor.old) Collect) (Ok taken) (auditor_state rules auditor.new)) }
     ensures rules { auditor.new.rules ≡ auditor.old.rules }
     ensures few { auditor.new.collections ≤ auditor.old.collections + 1 }
 {

@@ -1,7 +1,7 @@
 //! What an event does to an audit.
 ghost use Rattle.std.specs.Prelude.{◌+◌, ◌<◌, ◌≤◌};
 ghost use Rattle.heap_base.specs.declared.limits.TheConstants.{LONGEST_TRACE};
-ghost use Rattle.trace_run.specs.Program.{Takes};
+ghost use Rattle.trace_run.specs.Program.{TakesEvent};
 ghost use Rattle.audit_program.specs.Audits.{audit_meaning};
 ghost use Rattle.trace_audit.specs.Auditors.{MakesCollections, MayCollect};
 ghost use Rattle.trace_audit.specs.State.{state_in};
@@ -22,7 +22,7 @@ pub fn take_event<C: FnMut(&mut Auditor) -> Result<Collection, OutOfMemory>>(
     requires few { audit.old.auditor.collections < LONGEST_TRACE }
     requires may_collect { MayCollect C.pre }
     requires collects { MakesCollections C.step }
-    ensures takes { Takes (audit_meaning.takes (state_in audit.old) event.now) result (state_in audit.new) }
+    ensures takes { TakesEvent (audit_meaning.takes (state_in audit.old) event.now) result (state_in audit.new) }
     ensures few { audit.new.auditor.collections ≤ audit.old.auditor.collections + 1 }
 {
     match event {

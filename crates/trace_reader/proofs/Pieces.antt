@@ -9,7 +9,7 @@ use Rattle.std.proofs.lemmas.List.Sums.{take_while-cons}
 use Rattle.heap_base.specs.declared.limits.TheConstants.{LONGEST_LINE}
 use Rattle.graph_meaning.specs.declared.refusal.Refusal.TheVariants.{LineTooLong, TraceTooLong}
 use Rattle.trace_reader.specs.Cuts.{HasNoNewline, HasTooLongLine, EndsPastLimit}
-use Rattle.trace_reader.specs.Cutter.{CutterState, GivesLine, IsDone, room}
+use Rattle.trace_reader.specs.Cutter.{CutterState, GivesLine, HasNoLineLeft, room}
 use Rattle.trace_reader.specs.Items.{pieces, in_front, line_of, item_of, items_from}
 use Rattle.trace_reader.specs.Meaning.{Item, refused, item_of_line}
 use Rattle.trace_reader.proofs.Newlines.{front_of_front}
@@ -158,7 +158,7 @@ module _ (old new : CutterState) (bytes : List ℕ) (n : ℕ) (gives : GivesLine
       ∙ ap (λ k. item_of_line new.line ∷ items_from old.limit k later) (sym gives.given)
 
 -- no item is left where no byte is
-pub items_from-done : (new : CutterState) (limit given : ℕ) (rest : List ℕ) → IsDone new → rest ≡ [] → items_from limit given (pieces (new.pending ++ rest)) ≡ []
+pub items_from-done : (new : CutterState) (limit given : ℕ) (rest : List ℕ) → HasNoLineLeft new → rest ≡ [] → items_from limit given (pieces (new.pending ++ rest)) ≡ []
 unfolding items_from pieces
 items_from-done new limit given rest done end =
     ap (λ bs. items_from limit given (pieces (bs ++ rest))) done.nothing_left ∙ ap (λ bs. items_from limit given (pieces bs)) end

@@ -66,7 +66,7 @@ pub record GivesNone (old new : CutterState) (bytes : List ℕ) : Type 0 where
   pub within : new.given ≤ new.limit
 
 -- The source's end was read, and no line is left.
-pub record IsDone (new : CutterState) : Type 0 where
+pub record HasNoLineLeft (new : CutterState) : Type 0 where
   pub nothing_left : new.pending ≡ []
   pub at_end : IsTrue new.at_end
   pub stopped : new.stopped ≡ None
@@ -90,7 +90,7 @@ pub record IsTraceTooLong (new : CutterState) : Type 0 where
 -- What a cutter that stood at no refusal answers over these bytes: those that it held, and those that it took.
 abbrev pub Cuts : CutterWithSource → CutterWithSource → List ℕ → Result (Option ℕ) CutError → Type 0
 Cuts old new bytes (Ok (Some number)) = GivesLine old.cutter new.cutter bytes number
-Cuts old new bytes (Ok None) = GivesNone old.cutter new.cutter bytes × IsDone new.cutter
+Cuts old new bytes (Ok None) = GivesNone old.cutter new.cutter bytes × HasNoLineLeft new.cutter
 Cuts old new bytes (Err ReadFault) = GivesNone old.cutter new.cutter bytes × WaitsForMore new.cutter × Rose old.source.faults new.source.faults
 Cuts old new bytes (Err LineTooLong) = GivesNone old.cutter new.cutter bytes × IsLineTooLong new.cutter
 Cuts old new bytes (Err TraceTooLong) = GivesNone old.cutter new.cutter bytes × IsTraceTooLong new.cutter
@@ -113,8 +113,8 @@ pub record StepsOn (old new : CutterWithSource) (result : Result (Option ℕ) Cu
   pub later : old.source.faults ≤ new.source.faults
 
 -- the answer to a line is what the line is, unless memory ran out
-abbrev pub Tells : Result (Option Event) Stop → Item → Type 0
-Tells (Ok None) item = item ≡ blank
-Tells (Ok (Some e)) item = item ≡ event e
-Tells (Err (Refused r)) item = item ≡ refused r
-Tells (Err OutOfMemory) item = ⊤
+abbrev pub TellsItem : Result (Option Event) Stop → Item → Type 0
+TellsItem (Ok None) item = item ≡ blank
+TellsItem (Ok (Some e)) item = item ≡ event e
+TellsItem (Err (Refused r)) item = item ≡ refused r
+TellsItem (Err OutOfMemory) item = ⊤

@@ -1,6 +1,6 @@
 ghost use Rattle.std.specs.Prelude.{◌≡◌, ⊤};
 ghost use Rattle.std.specs.List.{list_all};
-ghost use Rattle.trace_reader.specs.Cutter.{Tells};
+ghost use Rattle.trace_reader.specs.Cutter.{TellsItem};
 ghost use Rattle.trace_reader.specs.Meaning.{Gives, event_of_json, item_of_line, json_of, is_blank};
 ghost use Rattle.serde_json.specs.Read.{read};
 
@@ -37,7 +37,7 @@ impl LineReader {
     /// field that is missing or bad (`MissingField`, `BadField`).
     #[tactic(auto, unfolding(crate::specs::Meaning::item_of_line))]
     pub fn event_of(&mut self, line: &[u8]) -> Result<Option<Event>, Stop>
-        ensures { Tells result (item_of_line line.now) }
+        ensures { TellsItem result (item_of_line line.now) }
     {
         if is_blank_line(line) {
             return Ok(None);
@@ -63,7 +63,7 @@ impl EventReader for LineReader {
 
 /// What `LineReader::event_of` answers, for a line alone.
 pub fn event_of(alloc: Global, line: &[u8]) -> Result<Option<Event>, Stop>
-    ensures { Tells result (item_of_line line.now) }
+    ensures { TellsItem result (item_of_line line.now) }
 {
     LineReader::make(alloc).event_of(line)
 }

@@ -1,6 +1,6 @@
 ghost use Rattle.std.specs.Prelude.{◌≤◌};
 ghost use Rattle.trace_reader.specs.declared.reader.TheConstants.{MOST_AHEAD};
-ghost use Rattle.trace_reader.specs.Cutter.{Tells};
+ghost use Rattle.trace_reader.specs.Cutter.{TellsItem};
 ghost use Rattle.trace_reader.specs.Meaning.{item_of_line};
 
 use graph_meaning::{Event, Stop};
@@ -17,7 +17,7 @@ pub trait EventReader {
     fn event_of(&mut self, line: &[u8]) -> Result<Option<Event>, Stop>
         requires { ready self.old }
         ensures ready { ready self.new }
-        ensures tells { Tells result (item_of_line line.now) };
+        ensures tells { TellsItem result (item_of_line line.now) };
 
     /// It is shown the bytes behind the line that was read last, as far as they are there, and may read lines of them before their
     /// turn.

@@ -10,8 +10,8 @@ use Rattle.trace_reader.specs.Meaning.{Item}
 use Rattle.trace_reader.specs.Items.{items_of}
 use Rattle.trace_run.specs.Lines.{whole_lines}
 use Rattle.trace_run.specs.Program.{Report}
-use Rattle.trace_run.specs.Outcome.{Outside, TraceReport, trace_report, of_bytes, ReportsTrace, AppendsPartOfReport, Ended}
-use Rattle.trace_run.specs.Facts.{IsWhole, HasFacts, FactsFollow, NoReadFails, EqualReports}
+use Rattle.trace_run.specs.Outcome.{Outside, TraceReport, trace_report, of_bytes, ReportsTrace, AppendsPartOfReport, EndsAs}
+use Rattle.trace_run.specs.Facts.{IsWholeReport, HasFacts, FactsFollow, NoReadFails, EqualReports}
 
 -- the trace is that of the bytes that are told
 told : (left : Option (List ℕ)) (bytes trace : List ℕ) → left ≡ Some bytes → IfSome left (λ x. x ≡ trace) → trace ≡ bytes
@@ -27,7 +27,7 @@ at_end_of (Some x) (Some rest) bytes trace e same read =
     append_cancel_left trace rest [] (sym read ∙ left ∙ sym same ∙ sym (append-nil trace))
 
 whole_of : (report : TraceReport) (old new : Outside) (answer : Status) (bytes : List ℕ) → old.source.bytes ≡ Some bytes →
-    ReportsTrace report old new answer → IsWhole (of_bytes report bytes) old new answer
+    ReportsTrace report old new answer → IsWholeReport (of_bytes report bytes) old new answer
 whole_of report old new answer bytes e r =
     let same = told old.source.bytes bytes r.bytes e r.trace in
     record {
@@ -54,7 +54,7 @@ no_other : {first second answer : Status} → (answer ≡ first) ⊎ (answer ≡
 no_other either s not_first not_second is = ⊎_elim (λ first. not_first (sym is ∙ first)) (λ second. not_second (sym is ∙ second)) either
 
 -- a run that came to its end, whichever of the two it answers
-facts_at_end : (report : Report) (old new : Outside) (answer : Status) → (answer ≡ Clean) ⊎ (answer ≡ Violated) → IsWhole report old new answer → HasFacts report old new answer
+facts_at_end : (report : Report) (old new : Outside) (answer : Status) → (answer ≡ Clean) ⊎ (answer ≡ Violated) → IsWholeReport report old new answer → HasFacts report old new answer
 facts_at_end report old new answer ends w = record {
   whole = λ _. w;
   trace_fault = λ is. absurd (no_other ends TraceFault (λ x. cc) (λ x. cc) is);
@@ -83,7 +83,7 @@ module _ (report : Report) (old new : Outside) (answer : Status) (fails : (answe
   }
 
 facts_of : (report : TraceReport) (old new : Outside) (answer : Status) (bytes : List ℕ) → old.source.bytes ≡ Some bytes →
-    Ended report old new answer → HasFacts (of_bytes report bytes) old new answer
+    EndsAs report old new answer → HasFacts (of_bytes report bytes) old new answer
 facts_of report old new Clean bytes e r = facts_at_end (of_bytes report bytes) old new Clean (inl refl) (whole_of report old new Clean bytes e r)
 facts_of report old new Violated bytes e r =
     facts_at_end (of_bytes report bytes) old new Violated (inr refl) (whole_of report old new Violated bytes e r)
@@ -119,7 +119,7 @@ facts_of report old new NoMemory bytes e r =
 facts_of report old new Usage bytes e r = absurd r
 
 pub facts_follow : FactsFollow
-facts_follow report old new answer bytes e r = (facts_of report old new answer bytes e r, λ is. (subst (Ended report old new) is r).1)
+facts_follow report old new answer bytes e r = (facts_of report old new answer bytes e r, λ is. (subst (EndsAs report old new) is r).1)
 
 -- ---- no count of faults, no failed read
 
@@ -154,7 +154,7 @@ module _ (limit : ℕ) (of by : List Item → Report) (same : (items : List Item
     part = subst (λ (t : List ℕ). AppendsPart old.sink.bytes new.sink.bytes t) (text-equal r.bytes) r.part;
   }
 
-  pub ended-equal : (old new : Outside) (answer : Status) → Ended (trace_report limit of) old new answer → Ended (trace_report limit by) old new answer
+  pub ended-equal : (old new : Outside) (answer : Status) → EndsAs (trace_report limit of) old new answer → EndsAs (trace_report limit by) old new answer
   ended-equal old new Clean r = whole-equal old new Clean r
   ended-equal old new Violated r = whole-equal old new Violated r
   ended-equal old new TraceFault r = record {

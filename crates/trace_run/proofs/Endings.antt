@@ -19,8 +19,8 @@ use Rattle.trace_reader.specs.Meaning.{Item, item_of_line, refused}
 use Rattle.trace_reader.specs.Items.{pieces, items_from, items_of}
 use Rattle.trace_reader.specs.Cutter.{CutterState, StepsOn, Cuts, GivesNone, with_source}
 use Rattle.trace_run.specs.Lines.{whole_lines}
-use Rattle.trace_run.specs.Program.{Meaning, Ran, Report, end_of_trace, refused_line, takes_item, by_effect, ends_so, behind, run, report_on, report_by}
-use Rattle.trace_run.specs.Outcome.{Outside, sink_change, TraceReport, trace_report, of_bytes, IsTrace, ReportsTrace, Ended, AppendsPartOfReport}
+use Rattle.trace_run.specs.Program.{ProgramMeaning, RunResult, Report, end_of_trace, refused_line, takes_item, by_effect, ends_so, behind, run, report_on, report_by}
+use Rattle.trace_run.specs.Outcome.{Outside, sink_change, TraceReport, trace_report, of_bytes, IsTrace, ReportsTrace, EndsAs, AppendsPartOfReport}
 use Rattle.trace_run.specs.Turn.{EndsRun}
 use Rattle.report.proofs.Pieces.{AppendsPart-behind}
 use Rattle.trace_reader.proofs.Pieces.{items_from-append, items_from-given, items_from-line_too_long, items_from-trace_too_long}
@@ -32,9 +32,9 @@ pub Rose-earlier : (start before now : ℕ) → start ≤ before → Rose before
 Rose-earlier start before now le rose = omega arith
 
 -- a run that ends ends so where the same is to be reported
-pub EndsRun-at : (at_end : Bool) (sink sink' : Stream) (r r' : Ran) (status : Status) → r' ≡ r →
+pub EndsRun-at : (at_end : Bool) (sink sink' : Stream) (r r' : RunResult) (status : Status) → r' ≡ r →
     EndsRun at_end (sink_change sink sink') (report_on r) status → EndsRun at_end (sink_change sink sink') (report_on r') status
-EndsRun-at at_end sink sink' r r' status same ends = subst (λ (x : Ran). EndsRun at_end (sink_change sink sink') (report_on x) status) (sym same) ends
+EndsRun-at at_end sink sink' r r' status same ends = subst (λ (x : RunResult). EndsRun at_end (sink_change sink sink') (report_on x) status) (sym same) ends
 
 -- ---- the bytes of the trace
 
@@ -54,11 +54,12 @@ pub record RunOfAll (limit : ℕ) (start : Outside) (done : List (List ℕ)) (by
   pub trace : IsTrace start bytes
   pub items : items_of limit bytes ≡ items_so_far limit done ++ more
 
-module _ {State : Type 0} (p : Meaning State) (limit : ℕ) (first : State) (start now now' : Outside) (s : State) (n : ℕ) (done : List (List ℕ)) (text : List ℕ) (bytes : List ℕ) (more : List Item)
+module _ {State : Type 0} (p : ProgramMeaning State) (limit : ℕ) (first : State) (start now now' : Outside) (s : State) (n : ℕ)
+    (done : List (List ℕ)) (text : List ℕ) (bytes : List ℕ) (more : List Item)
     (before : Appends start.sink.bytes now.sink.bytes text)
     (ran : LeadsTo p first (items_so_far limit done) text s n)
     (all : RunOfAll limit start done bytes more) where
-  abbrev rest : Ran
+  abbrev rest : RunResult
   rest = run p s n more
 
   abbrev whole : Report
@@ -107,7 +108,7 @@ module _ {State : Type 0} (p : Meaning State) (limit : ℕ) (first : State) (sta
   }
 
   pub ended : (at_end : Bool) (status : Status) → start.sink.faults ≤ now.sink.faults → (IsTrue at_end → Consumes start.source.bytes now'.source.bytes bytes) →
-      EndsRun at_end (sink_change now.sink now'.sink) (report_on rest) status → Ended (trace_report limit (report_by p first)) start now' status
+      EndsRun at_end (sink_change now.sink now'.sink) (report_on rest) status → EndsAs (trace_report limit (report_by p first)) start now' status
   ended at_end Clean later end ends = reports at_end Clean end ends.0 ends.1 ends.2
   ended at_end Violated later end ends = reports at_end Violated end ends.0 ends.1 ends.2
   ended at_end TraceFault later end ends = record {
@@ -130,7 +131,7 @@ pub record Trace (limit : ℕ) (start now' : Outside) (c c' : CutterState) (took
   pub read : Consumes start.source.bytes now'.source.bytes (taken ++ took)
 
 trace_of :
-    {State : Type 0} (p : Meaning State) (limit : ℕ) (first : State) (start now now' : Outside) (c c' : CutterState) (s : State) (n : ℕ)
+    {State : Type 0} (p : ProgramMeaning State) (limit : ℕ) (first : State) (start now now' : Outside) (c c' : CutterState) (s : State) (n : ℕ)
     (took taken : List ℕ) (done : List (List ℕ)) (text : List ℕ) (result : Result (Option ℕ) CutError) →
     Progress p limit first start now c s n taken done text → StepsOn (with_source c now.source) (with_source c' now'.source) result took →
     Trace limit start now' c c' took taken done
@@ -157,14 +158,14 @@ trace_of p limit first start now now' c c' s n took taken done text result so_fa
 
 -- ---- the run ends with a status that the last step told
 
-run-none : {State : Type 0} (p : Meaning State) (limit : ℕ) (s : State) (n given : ℕ) → run p s n (items_from limit given (pieces [])) ≡ ends_so (end_of_trace (p.ends s))
+run-none : {State : Type 0} (p : ProgramMeaning State) (limit : ℕ) (s : State) (n given : ℕ) → run p s n (items_from limit given (pieces [])) ≡ ends_so (end_of_trace (p.ends s))
 unfolding items_from pieces
 run-none p limit s n given = run-nil p s n
 
 -- the trace was read to its end
-pub finished : {State : Type 0} (p : Meaning State) (limit : ℕ) (first : State) (start now now' : Outside) (c c' : CutterState) (s : State) (n : ℕ) (took : List ℕ) (status : Status) →
+pub finished : {State : Type 0} (p : ProgramMeaning State) (limit : ℕ) (first : State) (start now now' : Outside) (c c' : CutterState) (s : State) (n : ℕ) (took : List ℕ) (status : Status) →
     InProgress p limit first start now c s n → StepsOn (with_source c now.source) (with_source c' now'.source) (Ok None) took →
-    EndsRun true (sink_change now.sink now'.sink) (report_on (ends_so (end_of_trace (p.ends s)))) status → Ended (trace_report limit (report_by p first)) start now' status
+    EndsRun true (sink_change now.sink now'.sink) (report_on (ends_so (end_of_trace (p.ends s)))) status → EndsAs (trace_report limit (report_by p first)) start now' status
 finished p limit first start now now' c c' s n took status progress steps ends =
     let so_far = progress.so_far in
     let cut : Cuts (with_source c now.source) (with_source c' now'.source) (c.pending ++ took) (Ok None) = cuts_of c.stopped _ _ so_far.stopped steps.cuts in
@@ -180,11 +181,11 @@ finished p limit first start now now' c c' s n took status progress steps ends =
 
 -- the bytes that the cutter holds are refused, whatever follows them
 refused_cut :
-    {State : Type 0} (p : Meaning State) (limit : ℕ) (first : State) (start now now' : Outside) (c c' : CutterState) (s : State) (n : ℕ)
+    {State : Type 0} (p : ProgramMeaning State) (limit : ℕ) (first : State) (start now now' : Outside) (c c' : CutterState) (s : State) (n : ℕ)
     (took : List ℕ) (r : Refusal) (result : Result (Option ℕ) CutError) (status : Status) →
     InProgress p limit first start now c s n → StepsOn (with_source c now.source) (with_source c' now'.source) result took →
     ((rest : List ℕ) → (more : List Item) × (items_from limit c.given (pieces ((c.pending ++ took) ++ rest)) ≡ refused r ∷ more)) →
-    EndsRun false (sink_change now.sink now'.sink) (report_on (ends_so (refused_line (n + 1) r))) status → Ended (trace_report limit (report_by p first)) start now' status
+    EndsRun false (sink_change now.sink now'.sink) (report_on (ends_so (refused_line (n + 1) r))) status → EndsAs (trace_report limit (report_by p first)) start now' status
 refused_cut p limit first start now now' c c' s n took r result status progress steps refuses ends =
     let so_far = progress.so_far in
     let trace = trace_of p limit first start now now' c c' s n took progress.taken progress.done progress.text _ so_far steps in
@@ -196,10 +197,10 @@ refused_cut p limit first start now now' c c' s n took r result status progress 
     (EndsRun-at false now.sink now'.sink _ _ status last ends)
 
 -- the line that was given ends the run
-line_ends_by : {State : Type 0} (p : Meaning State) (limit : ℕ) (first : State) (start now now' : Outside) (c c' : CutterState) (s : State) (n number : ℕ) (took : List ℕ) (status : Status) →
+line_ends_by : {State : Type 0} (p : ProgramMeaning State) (limit : ℕ) (first : State) (start now now' : Outside) (c c' : CutterState) (s : State) (n number : ℕ) (took : List ℕ) (status : Status) →
     InProgress p limit first start now c s n → StepsOn (with_source c now.source) (with_source c' now'.source) (Ok (Some number)) took →
-    ((on : State → Ran) → EndsRun false (sink_change now.sink now'.sink) (report_on (by_effect (n + 1) (takes_item p s (item_of_line c'.line)) on)) status) →
-    Ended (trace_report limit (report_by p first)) start now' status
+    ((on : State → RunResult) → EndsRun false (sink_change now.sink now'.sink) (report_on (by_effect (n + 1) (takes_item p s (item_of_line c'.line)) on)) status) →
+    EndsAs (trace_report limit (report_by p first)) start now' status
 line_ends_by p limit first start now now' c c' s n number took status progress steps ends =
     let so_far = progress.so_far in
     let cut : Cuts (with_source c now.source) (with_source c' now'.source) (c.pending ++ took) (Ok (Some number)) = cuts_of c.stopped _ _ so_far.stopped steps.cuts in
@@ -214,10 +215,11 @@ line_ends_by p limit first start now now' c c' s n number took status progress s
     (λ t. absurd (false≢true t))
     (EndsRun-at false now.sink now'.sink _ _ status last (ends (λ next. run p next (n + 1) others)))
 
-pub line_ends : {State : Type 0} (p : Meaning State) (limit : ℕ) (first : State) (start now now' : Outside) (c c' : CutterState) (s : State) (n number : ℕ) (took line : List ℕ) (status : Status) →
+pub line_ends :
+    {State : Type 0} (p : ProgramMeaning State) (limit : ℕ) (first : State) (start now now' : Outside) (c c' : CutterState) (s : State) (n number : ℕ) (took line : List ℕ) (status : Status) →
     InProgress p limit first start now c s n → StepsOn (with_source c now.source) (with_source c' now'.source) (Ok (Some number)) took → line ≡ c'.line →
-    ((on : State → Ran) → EndsRun false (sink_change now.sink now'.sink) (report_on (by_effect (n + 1) (takes_item p s (item_of_line line)) on)) status) →
-    Ended (trace_report limit (report_by p first)) start now' status
+    ((on : State → RunResult) → EndsRun false (sink_change now.sink now'.sink) (report_on (by_effect (n + 1) (takes_item p s (item_of_line line)) on)) status) →
+    EndsAs (trace_report limit (report_by p first)) start now' status
 line_ends p limit first start now now' c c' s n number took line status progress steps e ends =
     line_ends_by p limit first start now now' c c' s n number took status progress steps
     (λ on. subst (λ (l : List ℕ). EndsRun false (sink_change now.sink now'.sink) (report_on (by_effect (n + 1) (takes_item p s (item_of_line l)) on)) status) e (ends on))
@@ -231,7 +233,7 @@ refused_there limit c c' bytes rest r same given pending (more, first) = (
       ∙ ap (λ t. items_from c'.limit c'.given (pieces (t ++ rest))) (sym pending) ∙ first,
 )
 
-module _ {State : Type 0} (p : Meaning State) (limit : ℕ) (first : State) (start now now' : Outside) (c c' : CutterState) (s : State) (n : ℕ) (took : List ℕ) (status : Status)
+module _ {State : Type 0} (p : ProgramMeaning State) (limit : ℕ) (first : State) (start now now' : Outside) (c c' : CutterState) (s : State) (n : ℕ) (took : List ℕ) (status : Status)
     (progress : InProgress p limit first start now c s n) where
   abbrev Refuses : CutError → Type 0
   Refuses e = StepsOn (with_source c now.source) (with_source c' now'.source) (Err e) took
@@ -240,7 +242,7 @@ module _ {State : Type 0} (p : Meaning State) (limit : ℕ) (first : State) (sta
   EndsThere r = EndsRun false (sink_change now.sink now'.sink) (report_on (ends_so (refused_line (n + 1) r))) status
 
   abbrev EndsAll : Type 0
-  EndsAll = Ended (trace_report limit (report_by p first)) start now' status
+  EndsAll = EndsAs (trace_report limit (report_by p first)) start now' status
 
   cut_at : (e : CutError) → Refuses e → Cuts (with_source c now.source) (with_source c' now'.source) (c.pending ++ took) (Err e)
   cut_at e steps = cuts_of c.stopped _ _ progress.so_far.stopped steps.cuts
@@ -266,9 +268,9 @@ module _ {State : Type 0} (p : Meaning State) (limit : ℕ) (first : State) (sta
 -- ---- a read that failed
 
 -- a read failed, and the run ends there
-pub cut_short : {State : Type 0} (p : Meaning State) (limit : ℕ) (first : State) (start now now' : Outside) (c c' : CutterState) (s : State) (n : ℕ) (took : List ℕ) →
+pub cut_short : {State : Type 0} (p : ProgramMeaning State) (limit : ℕ) (first : State) (start now now' : Outside) (c c' : CutterState) (s : State) (n : ℕ) (took : List ℕ) →
     InProgress p limit first start now c s n → StepsOn (with_source c now.source) (with_source c' now'.source) (Err cut_error.ReadFault) took → now'.sink ≡ now.sink →
-    Ended (trace_report limit (report_by p first)) start now' ReadFault
+    EndsAs (trace_report limit (report_by p first)) start now' ReadFault
 cut_short p limit first start now now' c c' s n took progress steps same =
     let so_far = progress.so_far in
     let done = progress.done in
@@ -296,14 +298,14 @@ cut_short p limit first start now now' c c' s n took progress steps same =
       },
     )
   where
-    at_end : (r : Ran) (text : List ℕ) → r ≡ behind text (ends_so (end_of_trace (p.ends s))) → IsTrue (report_on r).is_at_end
-    at_end r text e = ap (λ (x : Ran). (report_on x).is_at_end) e
+    at_end : (r : RunResult) (text : List ℕ) → r ≡ behind text (ends_so (end_of_trace (p.ends s))) → IsTrue (report_on r).is_at_end
+    at_end r text e = ap (λ (x : RunResult). (report_on x).is_at_end) e
 
-    part : (r : Ran) (text : List ℕ) → r ≡ behind text (ends_so (end_of_trace (p.ends s))) → (report_on r).part ≡ text
-    part r text e = ap (λ (x : Ran). x.texts) e ∙ append-nil text
+    part : (r : RunResult) (text : List ℕ) → r ≡ behind text (ends_so (end_of_trace (p.ends s))) → (report_on r).part ≡ text
+    part r text e = ap (λ (x : RunResult). x.texts) e ∙ append-nil text
 
 -- the program was out of memory before anything was written
-pub nothing_written : (report : TraceReport) (start now : Outside) → now.sink ≡ start.sink → Ended report start now NoMemory
+pub nothing_written : (report : TraceReport) (start now : Outside) → now.sink ≡ start.sink → EndsAs report start now NoMemory
 nothing_written report start now same =
     let (bytes, trace) = some_trace start.source.bytes in
     record {

@@ -12,7 +12,7 @@ use Rattle.trace_reader.specs.declared.error.CutError.{CutError}
 use Rattle.trace_reader.specs.Meaning.{Item, item_of_line}
 use Rattle.trace_reader.specs.Items.{pieces, items_from, item_of}
 use Rattle.trace_reader.specs.Cutter.{CutterState, fresh_cutter, IsNextPiece, GivesLine, StepsOn, Cuts, with_source}
-use Rattle.trace_run.specs.Program.{Meaning, goes_on, takes_item}
+use Rattle.trace_run.specs.Program.{ProgramMeaning, goes_on, takes_item}
 use Rattle.trace_run.specs.Outcome.{Outside}
 use Rattle.trace_run.proofs.Runs.{LeadsTo, LeadsTo-nil, LeadsTo-push}
 use Rattle.trace_run.proofs.Lines.{IsWholeLine}
@@ -23,7 +23,8 @@ abbrev pub items_so_far : ℕ → List (List ℕ) → List Item
 items_so_far limit done = items_from limit 0 done
 
 -- These bytes were taken since the start, these pieces of them were run, and this text was due and was written.
-pub record Progress {State : Type 0} (p : Meaning State) (limit : ℕ) (first : State) (start now : Outside) (c : CutterState) (s : State) (n : ℕ) (taken : List ℕ) (done : List (List ℕ)) (text : List ℕ) : Type 0 where
+pub record Progress {State : Type 0} (p : ProgramMeaning State) (limit : ℕ) (first : State) (start now : Outside) (c : CutterState) (s : State)
+    (n : ℕ) (taken : List ℕ) (done : List (List ℕ)) (text : List ℕ) : Type 0 where
   pub consumed : Consumes start.source.bytes now.source.bytes taken
   pub split : taken ≡ concat done ++ c.pending
   pub cut : (more : List ℕ) → (IsTrue c.at_end → more ≡ []) → pieces (taken ++ more) ≡ done ++ pieces (c.pending ++ more)
@@ -40,14 +41,14 @@ pub record Progress {State : Type 0} (p : Meaning State) (limit : ℕ) (first : 
   pub reads : start.source.faults ≤ now.source.faults
   pub writes : start.sink.faults ≤ now.sink.faults
 
-pub record InProgress {State : Type 0} (p : Meaning State) (limit : ℕ) (first : State) (start now : Outside) (c : CutterState) (s : State) (n : ℕ) : Type 0 where
+pub record InProgress {State : Type 0} (p : ProgramMeaning State) (limit : ℕ) (first : State) (start now : Outside) (c : CutterState) (s : State) (n : ℕ) : Type 0 where
   pub taken : List ℕ
   pub done : List (List ℕ)
   pub text : List ℕ
   pub so_far : Progress p limit first start now c s n taken done text
 
 -- at the beginning
-begins : {State : Type 0} (p : Meaning State) (limit : ℕ) (first : State) (start : Outside) → InProgress p limit first start start (fresh_cutter limit) first 0
+begins : {State : Type 0} (p : ProgramMeaning State) (limit : ℕ) (first : State) (start : Outside) → InProgress p limit first start start (fresh_cutter limit) first 0
 unfolding items_from
 begins p limit first start = record {
   taken = [];
@@ -72,12 +73,13 @@ begins p limit first start = record {
   };
 }
 
-pub begins_at : {State : Type 0} (p : Meaning State) (limit : ℕ) (first : State) (start : Outside) (c : CutterState) → c ≡ fresh_cutter limit → InProgress p limit first start start c first 0
+pub begins_at : {State : Type 0} (p : ProgramMeaning State) (limit : ℕ) (first : State) (start : Outside) (c : CutterState) → c ≡ fresh_cutter limit → InProgress p limit first start start c first 0
 begins_at p limit first start c e =
     subst (λ (x : CutterState). InProgress p limit first start start x first 0) (sym e) (begins p limit first start)
 
 -- fewer lines were read than a trace may have bytes, unless the limit is reached
-pub lines_within : {State : Type 0} (p : Meaning State) (limit : ℕ) (first : State) (start now : Outside) (c : CutterState) (s : State) (n : ℕ) → InProgress p limit first start now c s n → n ≤ limit
+pub lines_within : {State : Type 0} (p : ProgramMeaning State) (limit : ℕ) (first : State) (start now : Outside) (c : CutterState) (s : State) (n : ℕ) →
+    InProgress p limit first start now c s n → n ≤ limit
 lines_within p limit first start now c s n progress = omega (arith, progress.so_far.few_lines, progress.so_far.within)
 
 -- ---- one line more
@@ -136,7 +138,7 @@ end_for None after end = tt
 end_for (Some bytes) after end = end
 
 -- where the end has been read, the source is at its end
-pub end_now : {State : Type 0} (p : Meaning State) (limit : ℕ) (first : State) (start now now' : Outside) (c c' : CutterState) (s : State) (n : ℕ)
+pub end_now : {State : Type 0} (p : ProgramMeaning State) (limit : ℕ) (first : State) (start now now' : Outside) (c c' : CutterState) (s : State) (n : ℕ)
     (taken took : List ℕ) (done : List (List ℕ)) (text : List ℕ) (result : Result (Option ℕ) CutError) →
     Progress p limit first start now c s n taken done text → StepsOn (with_source c now.source) (with_source c' now'.source) result took →
     IsTrue c'.at_end → IfSome start.source.bytes (λ bytes. IsAtEnd now'.source.bytes)
@@ -148,7 +150,7 @@ piece_not_empty : (new : CutterState) (piece bytes : List ℕ) → IsNextPiece n
 piece_not_empty new piece bytes next =
     ⊎_elim (λ e. omega (arith, ap length e, length-append new.line (10 ∷ []))) (λ e. omega (arith, ap length e.0, e.1)) next.ended
 
-line_taken_by : {State : Type 0} (p : Meaning State) (limit : ℕ) (first : State) (start now now' : Outside) (c c' : CutterState) (s s' : State) (n number : ℕ) (took more : List ℕ) →
+line_taken_by : {State : Type 0} (p : ProgramMeaning State) (limit : ℕ) (first : State) (start now now' : Outside) (c c' : CutterState) (s s' : State) (n number : ℕ) (took more : List ℕ) →
     InProgress p limit first start now c s n → StepsOn (with_source c now.source) (with_source c' now'.source) (Ok (Some number)) took →
     GivesLine c c' (c.pending ++ took) number →
     takes_item p s (item_of_line c'.line) ≡ goes_on more s' → Appends now.sink.bytes now'.sink.bytes more → now.sink.faults ≤ now'.sink.faults →
@@ -189,7 +191,7 @@ line_taken_by p limit first start now now' c c' s s' n number took more progress
     }
 
 -- a line was given and taken, and the run goes on
-pub line_taken : {State : Type 0} (p : Meaning State) (limit : ℕ) (first : State) (start now now' : Outside) (c c' : CutterState) (s s' : State) (n number : ℕ) (took line more : List ℕ) →
+pub line_taken : {State : Type 0} (p : ProgramMeaning State) (limit : ℕ) (first : State) (start now now' : Outside) (c c' : CutterState) (s s' : State) (n number : ℕ) (took line more : List ℕ) →
     InProgress p limit first start now c s n → StepsOn (with_source c now.source) (with_source c' now'.source) (Ok (Some number)) took → line ≡ c'.line →
     takes_item p s (item_of_line line) ≡ goes_on more s' → Appends now.sink.bytes now'.sink.bytes more → now.sink.faults ≤ now'.sink.faults →
     InProgress p limit first start now' c' s' number
@@ -198,7 +200,7 @@ line_taken p limit first start now now' c c' s s' n number took line more progre
     line_taken_by p limit first start now now' c c' s s' n number took more progress steps cut (ap (λ (l : List ℕ). takes_item p s (item_of_line l)) (sym e) ∙ effect) written writes
 
 -- the line that was given is fewer than the limit in number
-pub line_within : {State : Type 0} (p : Meaning State) (limit : ℕ) (first : State) (start now : Outside) (source : Stream) (c c' : CutterState) (s : State) (n number : ℕ) (took : List ℕ) →
+pub line_within : {State : Type 0} (p : ProgramMeaning State) (limit : ℕ) (first : State) (start now : Outside) (source : Stream) (c c' : CutterState) (s : State) (n number : ℕ) (took : List ℕ) →
     InProgress p limit first start now c s n → StepsOn (with_source c now.source) (with_source c' source) (Ok (Some number)) took → (n < limit) × (n + 1 ≡ number)
 line_within p limit first start now source c c' s n number took progress steps =
     let so_far = progress.so_far in
@@ -206,7 +208,8 @@ line_within p limit first start now source c c' s n number took progress steps =
     (omega (arith, cut.given, cut.within, so_far.same_limit, so_far.few_lines, piece_not_empty _ _ _ cut.next), omega (arith, cut.number, so_far.lines))
 
 -- each line that is given leaves fewer bytes of the limit
-pub line_leaves_fewer : {State : Type 0} (p : Meaning State) (limit : ℕ) (first : State) (start now : Outside) (source : Stream) (c c' : CutterState) (s : State) (n number : ℕ) (took : List ℕ) →
+pub line_leaves_fewer :
+    {State : Type 0} (p : ProgramMeaning State) (limit : ℕ) (first : State) (start now : Outside) (source : Stream) (c c' : CutterState) (s : State) (n number : ℕ) (took : List ℕ) →
     InProgress p limit first start now c s n → StepsOn (with_source c now.source) (with_source c' source) (Ok (Some number)) took → limit - c'.given < limit - c.given
 line_leaves_fewer p limit first start now source c c' s n number took progress steps =
     let so_far = progress.so_far in

@@ -3,34 +3,34 @@ use Rattle.std.proofs.Common.{◌≡◌, ℕ, ◌+◌, List, [], ◌∷◌, ◌+
 use Rattle.std.proofs.lemmas.List.{append_assoc, append-nil}
 use Rattle.trace_reader.specs.Meaning.{Item, refused}
 use Rattle.graph_meaning.specs.declared.refusal.Refusal.{Refusal}
-use Rattle.trace_run.specs.Program.{Meaning, goes_on, takes_item, Ran, refused_line, end_of_trace, ends_so, behind, by_effect, run, report_on, last_text}
+use Rattle.trace_run.specs.Program.{ProgramMeaning, goes_on, takes_item, RunResult, refused_line, end_of_trace, ends_so, behind, by_effect, run, report_on, last_text}
 
-pub behind-twice : (x y : List ℕ) (r : Ran) → behind x (behind y r) ≡ behind (x ++ y) r
-behind-twice x y r = ap (λ (t : List ℕ). let ran : Ran = record { texts = t; ending = r.ending } in ran) (sym (append_assoc x y r.texts))
+pub behind-twice : (x y : List ℕ) (r : RunResult) → behind x (behind y r) ≡ behind (x ++ y) r
+behind-twice x y r = ap (λ (t : List ℕ). let ran : RunResult = record { texts = t; ending = r.ending } in ran) (sym (append_assoc x y r.texts))
 
 -- the run goes on from its first item
-pub run-takes : {State : Type 0} (p : Meaning State) (s : State) (lines : ℕ) (item : Item) (items : List Item) →
+pub run-takes : {State : Type 0} (p : ProgramMeaning State) (s : State) (lines : ℕ) (item : Item) (items : List Item) →
     run p s lines (item ∷ items) ≡ by_effect (lines + 1) (takes_item p s item) (λ next. run p next (lines + 1) items)
 unfolding run
 run-takes p s lines item items = refl
 
-pub run-nil : {State : Type 0} (p : Meaning State) (s : State) (lines : ℕ) → run p s lines [] ≡ ends_so (end_of_trace (p.ends s))
+pub run-nil : {State : Type 0} (p : ProgramMeaning State) (s : State) (lines : ℕ) → run p s lines [] ≡ ends_so (end_of_trace (p.ends s))
 unfolding run
 run-nil p s lines = refl
 
-pub run-refused : {State : Type 0} (p : Meaning State) (s : State) (lines : ℕ) (r : Refusal) (items : List Item) → run p s lines (refused r ∷ items) ≡ ends_so (refused_line (lines + 1) r)
+pub run-refused : {State : Type 0} (p : ProgramMeaning State) (s : State) (lines : ℕ) (r : Refusal) (items : List Item) → run p s lines (refused r ∷ items) ≡ ends_so (refused_line (lines + 1) r)
 unfolding run
 run-refused p s lines r items = refl
 
 -- These items lead from a state to another and make this text due: whatever follows them goes on from there.
-pub record LeadsTo {State : Type 0} (p : Meaning State) (s : State) (items : List Item) (text : List ℕ) (s' : State) (n : ℕ) : Type 0 where
+pub record LeadsTo {State : Type 0} (p : ProgramMeaning State) (s : State) (items : List Item) (text : List ℕ) (s' : State) (n : ℕ) : Type 0 where
   pub on : (more : List Item) → run p s 0 (items ++ more) ≡ behind text (run p s' n more)
 
-pub LeadsTo-nil : {State : Type 0} (p : Meaning State) (s : State) → LeadsTo p s [] [] s 0
+pub LeadsTo-nil : {State : Type 0} (p : ProgramMeaning State) (s : State) → LeadsTo p s [] [] s 0
 LeadsTo-nil p s = record { on = λ more. refl }
 
 -- one item more
-pub LeadsTo-push : {State : Type 0} (p : Meaning State) (s s' s'' : State) (items : List Item) (text more_text : List ℕ) (n : ℕ) (item : Item) →
+pub LeadsTo-push : {State : Type 0} (p : ProgramMeaning State) (s s' s'' : State) (items : List Item) (text more_text : List ℕ) (n : ℕ) (item : Item) →
     LeadsTo p s items text s' n → takes_item p s' item ≡ goes_on more_text s'' → LeadsTo p s (items ++ item ∷ []) (text ++ more_text) s'' (n + 1)
 LeadsTo-push p s s' s'' items text more_text n item leads is = record {
   on = λ more.
@@ -41,16 +41,16 @@ LeadsTo-push p s s' s'' items text more_text n item leads is = record {
 }
 
 -- where nothing follows, the run comes to its end
-pub run-leads_to : {State : Type 0} (p : Meaning State) (s s' : State) (items : List Item) (text : List ℕ) (n : ℕ) →
+pub run-leads_to : {State : Type 0} (p : ProgramMeaning State) (s s' : State) (items : List Item) (text : List ℕ) (n : ℕ) →
     LeadsTo p s items text s' n → run p s 0 items ≡ behind text (ends_so (end_of_trace (p.ends s')))
 run-leads_to p s s' items text n leads =
     ap (run p s 0) (sym (append-nil items)) ∙ leads.on [] ∙ ap (behind text) (run-nil p s' n)
 
 -- ---- the report
 
-pub report_on-text : (text : List ℕ) (r : Ran) → (report_on (behind text r)).text ≡ text ++ (report_on r).text
+pub report_on-text : (text : List ℕ) (r : RunResult) → (report_on (behind text r)).text ≡ text ++ (report_on r).text
 report_on-text text r = append_assoc text r.texts (last_text r.ending)
 
-pub report_on-behind : (text : List ℕ) (r : Ran) →
+pub report_on-behind : (text : List ℕ) (r : RunResult) →
     ((report_on (behind text r)).status ≡ (report_on r).status) × ((report_on (behind text r)).is_halted ≡ (report_on r).is_halted) × ((report_on (behind text r)).is_at_end ≡ (report_on r).is_at_end)
 report_on-behind text r = (refl, refl, refl)

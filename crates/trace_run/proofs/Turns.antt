@@ -9,7 +9,7 @@ use Rattle.graph_meaning.specs.declared.refusal.Refusal.{Refusal}
 use Rattle.trace_reader.specs.Meaning.{Item, refused}
 use Rattle.trace_run.specs.declared.taken.LastText.{LastText}
 use Rattle.trace_run.specs.declared.turn.Flow.{Flow}
-use Rattle.trace_run.specs.Program.{Meaning, Last, IsLast, Effect, halts, takes_item, Ran, halted, refused_line, by_effect, ends_so, behind, report_on}
+use Rattle.trace_run.specs.Program.{ProgramMeaning, Last, IsLast, Effect, halts, takes_item, RunResult, halted, refused_line, by_effect, ends_so, behind, report_on}
 use Rattle.trace_run.specs.Outcome.{sink_change}
 use Rattle.trace_run.specs.Turn.{EndsRun, TakesLine, line_effect}
 use Rattle.trace_run.proofs.Runs.{report_on-text}
@@ -20,7 +20,7 @@ pub Appends-as : (old new : Option (List ℕ)) (text text' : List ℕ) → text 
 Appends-as old new text text' p appended = subst (λ (t : List ℕ). Appends old new t) p appended
 
 -- a run that ends behind a text that was written
-EndsRun-behind : (at_end : Bool) (sink mid sink' : Stream) (front : List ℕ) (r : Ran) (status : Status) → Appends sink.bytes mid.bytes front →
+EndsRun-behind : (at_end : Bool) (sink mid sink' : Stream) (front : List ℕ) (r : RunResult) (status : Status) → Appends sink.bytes mid.bytes front →
     sink.faults ≤ mid.faults → EndsRun at_end (sink_change mid sink') (report_on r) status → EndsRun at_end (sink_change sink sink') (report_on (behind front r)) status
 EndsRun-behind at_end sink mid sink' front r Clean before later ends = (ends.0, ends.1, Appends-as _ _ _ _ (sym (report_on-text front r)) (Appends-trans _ _ _ _ _ before ends.2))
 EndsRun-behind at_end sink mid sink' front r Violated before later ends = (ends.0, ends.1, Appends-as _ _ _ _ (sym (report_on-text front r)) (Appends-trans _ _ _ _ _ before ends.2))
@@ -36,20 +36,20 @@ EndsRun-behind at_end sink mid sink' front r Usage before later ends = absurd en
 pub ends-halted : {State : Type 0} (effect : Effect State) (line : ℕ) (sink mid sink' : Stream) (text : List ℕ) (last : Last) (found : LastText) (status : Status) →
     effect ≡ halts text last → IsLast last found →
     Appends sink.bytes mid.bytes text → sink.faults ≤ mid.faults → ((d : Last) → IsLast d found → EndsRun false (sink_change mid sink') (report_on (ends_so (halted d))) status) →
-    (on : State → Ran) → EndsRun false (sink_change sink sink') (report_on (by_effect line effect on)) status
+    (on : State → RunResult) → EndsRun false (sink_change sink sink') (report_on (by_effect line effect on)) status
 ends-halted {State} effect line sink mid sink' text last found status is same before later ends on =
     subst (λ (e : Effect State). EndsRun false (sink_change sink sink') (report_on (by_effect line e on)) status) (sym is)
     (EndsRun-behind false sink mid sink' text (ends_so (halted last)) status before later (ends last same))
 
 -- a line is taken as one with an equal item is
-pub TakesLine-at : {State : Type 0} (m : Meaning State) (s after : State) (lines : ℕ) (item item' : Item) (sink sink' : Stream) (flow : Flow) →
+pub TakesLine-at : {State : Type 0} (m : ProgramMeaning State) (s after : State) (lines : ℕ) (item item' : Item) (sink sink' : Stream) (flow : Flow) →
     item' ≡ item → TakesLine (line_effect (takes_item m s item) lines after) (sink_change sink sink') flow → TakesLine (line_effect (takes_item m s item') lines after) (sink_change sink sink') flow
 TakesLine-at m s after lines item item' sink sink' flow same takes =
     subst (λ (i : Item). TakesLine (line_effect (takes_item m s i) lines after) (sink_change sink sink') flow) (sym same) takes
 
 -- an item that is a refusal
-pub ends-refused_item : {State : Type 0} (m : Meaning State) (s : State) (item : Item) (r : Refusal) (line : ℕ) (sink sink' : Stream) (status : Status) → item ≡ refused r →
+pub ends-refused_item : {State : Type 0} (m : ProgramMeaning State) (s : State) (item : Item) (r : Refusal) (line : ℕ) (sink sink' : Stream) (status : Status) → item ≡ refused r →
     EndsRun false (sink_change sink sink') (report_on (ends_so (refused_line line r))) status →
-    (on : State → Ran) → EndsRun false (sink_change sink sink') (report_on (by_effect line (takes_item m s item) on)) status
+    (on : State → RunResult) → EndsRun false (sink_change sink sink') (report_on (by_effect line (takes_item m s item) on)) status
 ends-refused_item m s item r line sink sink' status same ends on =
     subst (λ (i : Item). EndsRun false (sink_change sink sink') (report_on (by_effect line (takes_item m s i) on)) status) (sym same) ends

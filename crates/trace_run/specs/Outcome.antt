@@ -17,8 +17,8 @@ pub record Outside : Type 0 where
   pub source : Stream
   pub sink : Stream
 
-abbrev pub seen : Stream → Stream → Outside
-seen source sink = record { source = source; sink = sink }
+abbrev pub outside_of : Stream → Stream → Outside
+outside_of source sink = record { source = source; sink = sink }
 
 -- the same sink, and a source that tells these bytes and of which no read has failed
 abbrev pub reading : List ℕ → Outside → Outside
@@ -82,14 +82,14 @@ pub record AppendsPartOfReport (report : TraceReport) (old new : Outside) : Type
 
 -- What stands after a run, by its status. A failure is answered only where the count of faults of the object that it
 -- speaks of rose in the call.
-abbrev pub Ended : TraceReport → Outside → Outside → Status → Type 0
-Ended report old new Clean = ReportsTrace report old new Clean
-Ended report old new Violated = ReportsTrace report old new Violated
-Ended report old new TraceFault = RefusesLine report old new
-Ended report old new ReadFault = Rose old.source.faults new.source.faults × IsCutShort report old new
-Ended report old new WriteFault = Rose old.sink.faults new.sink.faults × AppendsPartOfReport report old new
-Ended report old new NoMemory = AppendsPartOfReport report old new
-Ended report old new Usage = ⊥
+abbrev pub EndsAs : TraceReport → Outside → Outside → Status → Type 0
+EndsAs report old new Clean = ReportsTrace report old new Clean
+EndsAs report old new Violated = ReportsTrace report old new Violated
+EndsAs report old new TraceFault = RefusesLine report old new
+EndsAs report old new ReadFault = Rose old.source.faults new.source.faults × IsCutShort report old new
+EndsAs report old new WriteFault = Rose old.sink.faults new.sink.faults × AppendsPartOfReport report old new
+EndsAs report old new NoMemory = AppendsPartOfReport report old new
+EndsAs report old new Usage = ⊥
 
 -- One text was written and this status is answered; or the sink failed in it, and a beginning of it was appended.
 abbrev pub WritesOnce : List ℕ → Status → SinkChange → Status → Type 0

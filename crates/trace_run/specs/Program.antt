@@ -33,12 +33,12 @@ pub data Effect (State : Type 0) : Type 0 where
 -- What a program means.
 -- takes: what an event leads to in a state
 -- ends: the last text where the trace ends in a state
-pub record Meaning (State : Type 0) : Type 0 where
+pub record ProgramMeaning (State : Type 0) : Type 0 where
   pub takes : State → Event → Effect State
   pub ends : State → Last
 
 -- a line with no operation changes nothing, and one that is no event is refused
-abbrev pub takes_item : {State : Type 0} → Meaning State → State → Item → Effect State
+abbrev pub takes_item : {State : Type 0} → ProgramMeaning State → State → Item → Effect State
 takes_item p s blank = goes_on [] s
 takes_item p s (event e) = p.takes s e
 takes_item p s (refused r) = refuses r
@@ -54,11 +54,11 @@ due_text (Text text) = text.items
 due_text (Lines c) = collection_text c
 
 -- the answer to an event is its effect, unless the program is out of memory
-abbrev pub Takes : {State : Type 0} → Effect State → Result Taken Stop → State → Type 0
-Takes effect (Ok (GoesOn due)) after = effect ≡ goes_on (due_text due) after
-Takes effect (Ok (Halts due found)) after = (last : Last) × (effect ≡ halts (due_text due) last) × IsLast last found
-Takes effect (Err (Refused r)) after = effect ≡ refuses r
-Takes effect (Err OutOfMemory) after = ⊤
+abbrev pub TakesEvent : {State : Type 0} → Effect State → Result Taken Stop → State → Type 0
+TakesEvent effect (Ok (GoesOn due)) after = effect ≡ goes_on (due_text due) after
+TakesEvent effect (Ok (Halts due found)) after = (last : Last) × (effect ≡ halts (due_text due) last) × IsLast last found
+TakesEvent effect (Err (Refused r)) after = effect ≡ refuses r
+TakesEvent effect (Err OutOfMemory) after = ⊤
 
 -- ---- what takes its events, by what each call asks and by what it does
 
@@ -67,9 +67,9 @@ abbrev pub MayTake : {P T : Type 0} → (P → ℕ) → (T → MutBor P → Bor 
 MayTake {P} {T} events pre = (t : T) (p : MutBor P) (e : Bor Event) → events p.now < LONGEST_TRACE → pre t p e
 
 -- each event is taken as the program means it
-abbrev pub TakesEvents : {State P T : Type 0} → Meaning State → (P → State) → (T → MutBor P → Bor Event → Result Taken Stop → MutBor P → T → Type 0) → Type 0
+abbrev pub TakesEvents : {State P T : Type 0} → ProgramMeaning State → (P → State) → (T → MutBor P → Bor Event → Result Taken Stop → MutBor P → T → Type 0) → Type 0
 TakesEvents {State} {P} {T} m state step =
-    (t : T) (p : MutBor P) (e : Bor Event) (taken : Result Taken Stop) (p' : MutBor P) (t' : T) → step t p e taken p' t' → Takes (m.takes (state p.now) e.now) taken (state p'.now)
+    (t : T) (p : MutBor P) (e : Bor Event) (taken : Result Taken Stop) (p' : MutBor P) (t' : T) → step t p e taken p' t' → TakesEvent (m.takes (state p.now) e.now) taken (state p'.now)
 
 -- and is counted once at most
 abbrev pub CountsEvents : {P T : Type 0} → (P → ℕ) → (T → MutBor P → Bor Event → Result Taken Stop → MutBor P → T → Type 0) → Type 0
@@ -86,26 +86,26 @@ pub data Ending : Type 0 where
   halted : Last → Ending
 
 -- The texts that the items made due, and how the run ended.
-pub record Ran : Type 0 where
+pub record RunResult : Type 0 where
   pub texts : List ℕ
   pub ending : Ending
 
 -- the run that ends so at once
-abbrev pub ends_so : Ending → Ran
+abbrev pub ends_so : Ending → RunResult
 ends_so ending = record { texts = []; ending = ending }
 
 -- the run with this text before its own
-abbrev pub behind : List ℕ → Ran → Ran
+abbrev pub behind : List ℕ → RunResult → RunResult
 behind text ran = record { texts = text ++ ran.texts; ending = ran.ending }
 
 -- the run that goes on from an effect, or ends with it at this line
-abbrev pub by_effect : {State : Type 0} → ℕ → Effect State → (State → Ran) → Ran
+abbrev pub by_effect : {State : Type 0} → ℕ → Effect State → (State → RunResult) → RunResult
 by_effect line (goes_on text s) on = behind text (on s)
 by_effect line (refuses r) on = ends_so (refused_line line r)
 by_effect line (halts text last) on = behind text (ends_so (halted last))
 
 -- The run of these items from a state, where so many lines stand before them.
-unfoldable pub run : {State : Type 0} → Meaning State → State → ℕ → List Item → Ran
+unfoldable pub run : {State : Type 0} → ProgramMeaning State → State → ℕ → List Item → RunResult
 run p s lines [] = ends_so (end_of_trace (p.ends s))
 run p s lines (item ∷ items) = by_effect (lines + 1) (takes_item p s item) (λ next. run p next (lines + 1) items)
 
@@ -143,7 +143,7 @@ pub record Report : Type 0 where
   pub is_halted : Bool
   pub is_at_end : Bool
 
-abbrev pub report_on : Ran → Report
+abbrev pub report_on : RunResult → Report
 report_on ran = record {
   text = ran.texts ++ last_text ran.ending;
   part = ran.texts;
@@ -153,5 +153,5 @@ report_on ran = record {
 }
 
 -- the report of a program that begins a trace in this state
-abbrev pub report_by : {State : Type 0} → Meaning State → State → List Item → Report
+abbrev pub report_by : {State : Type 0} → ProgramMeaning State → State → List Item → Report
 report_by p s items = report_on (run p s 0 items)

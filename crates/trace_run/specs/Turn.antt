@@ -8,7 +8,7 @@ use Rattle.heap_base.specs.declared.status.Status.TheVariants.{Clean, Violated, 
 use Rattle.report.specs.declared.writing.WriteError.{WriteError}
 use Rattle.report.specs.declared.writing.WriteError.TheVariants.{WriteFailed, OutOfMemory}
 use Rattle.trace_run.specs.Outcome.{SinkChange}
-use Rattle.trace_run.specs.Program.{Effect, goes_on, Ran, Report, report_on, by_effect}
+use Rattle.trace_run.specs.Program.{Effect, goes_on, RunResult, Report, report_on, by_effect}
 use Rattle.trace_run.specs.declared.turn.Flow.{Flow}
 use Rattle.trace_run.specs.declared.turn.Flow.TheVariants.{GoesOn, Ends}
 
@@ -41,4 +41,4 @@ line_effect effect lines after = record { effect = effect; lines = lines; after 
 abbrev pub TakesLine : {State : Type 0} → LineEffect State → SinkChange → Flow → Type 0
 TakesLine line sink GoesOn = (text : List ℕ) × (line.effect ≡ goes_on text line.after) × Appends sink.old.bytes sink.new.bytes text
 TakesLine {State} line sink (Ends status) =
-    (on : State → Ran) → EndsRun false sink (report_on (by_effect (line.lines + 1) line.effect on)) status
+    (on : State → RunResult) → EndsRun false sink (report_on (by_effect (line.lines + 1) line.effect on)) status

@@ -1,7 +1,7 @@
 //! Programs that write one text.
 ghost use Rattle.std.specs.Prelude.{◌≤◌};
 ghost use Rattle.heap_base.specs.Streams.{Stream, stream_of};
-ghost use Rattle.trace_run.specs.Outcome.{RefusesWords, WritesOnce, seen, sink_change};
+ghost use Rattle.trace_run.specs.Outcome.{RefusesWords, WritesOnce, outside_of, sink_change};
 
 use heap_base::{Sink, Status, put_all};
 
@@ -19,7 +19,7 @@ pub fn write_once<K: Sink>(text: &[u8], status: Status, sink: &mut K) -> Status
 /// Writes the usage line, where the words of a command line are refused.
 pub fn refuse_words<K: Sink>(usage: &[u8], sink: &mut K) -> Status
     ensures { (source : Stream) →
-        RefusesWords usage.now (seen source (stream_of K.held K.faults sink.old)) (seen source (stream_of K.held K.faults sink.new)) result }
+        RefusesWords usage.now (outside_of source (stream_of K.held K.faults sink.old)) (outside_of source (stream_of K.held K.faults sink.new)) result }
 {
     write_once(usage, Status::Usage, sink)
 }

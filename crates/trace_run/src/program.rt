@@ -1,5 +1,5 @@
 ghost use Rattle.std.specs.Prelude.{ℕ, IfOk};
-ghost use Rattle.trace_run.specs.Program.{Meaning, IsLast};
+ghost use Rattle.trace_run.specs.Program.{ProgramMeaning, IsLast};
 
 use crate::taken::LastText;
 use heap_base::OutOfMemory;
@@ -11,7 +11,7 @@ pub trait Program {
     ghost State: { Type 0 };
 
     /// What an event leads to in a state, and how the report ends.
-    ghost meaning: { Meaning State };
+    ghost meaning: { ProgramMeaning State };
 
     /// Where the program stands.
     ghost state: { Self → State };

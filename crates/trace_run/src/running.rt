@@ -2,7 +2,7 @@ ghost use Rattle.std.specs.Prelude.{◌≡◌, ◌≤◌};
 ghost use Rattle.heap_base.specs.declared.limits.TheConstants.{LONGEST_TRACE};
 ghost use Rattle.heap_base.specs.Streams.{stream_of};
 ghost use Rattle.trace_run.specs.Program.{CountsEvents, MayTake, TakesEvents, report_by};
-ghost use Rattle.trace_run.specs.Outcome.{Ended, seen, trace_report};
+ghost use Rattle.trace_run.specs.Outcome.{EndsAs, outside_of, trace_report};
 
 use crate::ending::{finish, refuse};
 use crate::program::Program;
@@ -39,9 +39,9 @@ impl<P: Program + Drop, T: FnMut(&mut P, &Event) -> Result<Taken, Stop>> TraceRu
         requires may_take { MayTake P.events T.pre }
         requires takes { TakesEvents P.meaning P.state T.step }
         requires counts { CountsEvents P.events T.step }
-        ensures { let old = seen (stream_of S.left S.faults source.old) (stream_of K.held K.faults sink.old) in
-            let new = seen (stream_of S.left S.faults source.new) (stream_of K.held K.faults sink.new) in
-            Ended (trace_report self.limit (report_by P.meaning (P.state self.program))) old new result }
+        ensures { let old = outside_of (stream_of S.left S.faults source.old) (stream_of K.held K.faults sink.old) in
+            let new = outside_of (stream_of S.left S.faults source.new) (stream_of K.held K.faults sink.new) in
+            EndsAs (trace_report self.limit (report_by P.meaning (P.state self.program))) old new result }
     {
         let (alloc, limit) = (self.alloc, self.limit);
         let Ok(mut cutter) = LineCutter::with_ahead(alloc, limit, reader.ahead()) else {

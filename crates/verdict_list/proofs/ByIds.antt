@@ -20,14 +20,14 @@ use Rattle.graph_meaning.specs.Reach.{has_id}
 use Rattle.graph_meaning.specs.Roles.{RoleTable}
 use Rattle.graph_meaning.proofs.HeapLemmas.{has_id-ids}
 use Rattle.graph_meaning.proofs.Membership.{has_id-filter, has_id-Contains}
-use Rattle.object_table.specs.Placed.{Placed, id_in}
+use Rattle.object_table.specs.Placed.{PlacedTable, id_in}
 use Rattle.assert_registry.specs.Laws.{StandFor}
 use Rattle.assert_registry.proofs.Rising.{Rise, Rise-sorted, Rise-head, Rise-tail, same_rising}
 use Rattle.verdict_list.specs.Counts.{CountTable}
 use Rattle.verdict_list.specs.Counts.{AreCountsOf}
 use Rattle.verdict_list.specs.declared.violating.Assertion.{Assertion}
 use Rattle.verdict_list.specs.declared.violating.Assertion.TheVariants.{Dead, Unshared}
-use Rattle.verdict_list.specs.Violating.{is_violated_in, is_violated_by, violating}
+use Rattle.verdict_list.specs.Violating.{is_violated_in, is_violated_by, violators}
 
 -- ---- in a heap
 
@@ -36,7 +36,7 @@ live_of : (t : Table) (xs : List ℕ) (y : ℕ) → AllLive t xs → has_id xs y
 live_of t xs y live at = has_id-ids t y ∙ All-contains (λ x. IsTrue (is_live t x)) xs y live ((has_id-Contains xs y).0 at)
 
 -- the objects of a heap that violate an assertion, by id
-pub violating-is : (a : Assertion) (h : Heap) → RefersToLive h → IsOrdered h → IdsRise h.table → violating a h ≡ filter (is_violated_by a h) (ids h.table)
+pub violating-is : (a : Assertion) (h : Heap) → RefersToLive h → IsOrdered h → IdsRise h.table → violators a h ≡ filter (is_violated_by a h) (ids h.table)
 unfolding traced_ids violating_dead violating_unshared
 violating-is Dead h refers ordered rise =
     same_rising (filter (has_id (traced_ids h)) h.dead) (filter (is_violated_by Dead h) (ids h.table))
@@ -69,7 +69,7 @@ violating-is Unshared h refers ordered rise =
     turned false false c live = refl
 
 -- by the cell and by the id it is the same
-pub violated-agrees : (p : Placed) (r : RoleTable) (t : CountTable) (h : Heap) → StandFor p r h → AreCountsOf p h t →
+pub violated-agrees : (p : PlacedTable) (r : RoleTable) (t : CountTable) (h : Heap) → StandFor p r h → AreCountsOf p h t →
     (a : Assertion) (cell id : ℕ) → id_in p cell ≡ Some id → is_violated_in a r t cell ≡ is_violated_by a h id
 violated-agrees p r t h stand trace Dead cell id held =
     ap (λ b. b && get_or t.kept cell false) (stand.dead cell ∙ ap (λ o. option_map_or (has_id h.dead) o false) held) ∙ ap (λ b. has_id h.dead id && b) (trace.kept cell id held)
@@ -124,7 +124,7 @@ module _ (f : ℕ → Option ℕ) where
       all_held cells ids others n cell at
 
 -- the object with a number, by id
-pub nth_id : (p : Placed) (n cell live : ℕ) → id_in p cell ≡ slice_get (ids p.table) n → n < live → live ≡ length p.table.objects →
+pub nth_id : (p : PlacedTable) (n cell live : ℕ) → id_in p cell ≡ slice_get (ids p.table) n → n < live → live ≡ length p.table.objects →
     (id : ℕ) × (id_in p cell ≡ Some id) × (slice_get (ids p.table) n ≡ Some id)
 nth_id p n cell live same below many =
     let within : n < length (ids p.table) = omega (arith, below, many, length-map p.table.objects (λ o. o.id)) in
@@ -176,7 +176,7 @@ module _ (f : ℕ → Option ℕ) where
       go false is rest = omega (arith, rest)
 
 -- the violating objects stand by id
-pub violating-rise : (a : Assertion) (h : Heap) → RefersToLive h → IsOrdered h → IdsRise h.table → Rise (violating a h)
+pub violating-rise : (a : Assertion) (h : Heap) → RefersToLive h → IsOrdered h → IdsRise h.table → Rise (violators a h)
 violating-rise a h refers ordered rise = subst Rise (sym (violating-is a h refers ordered rise)) (AllPairs-filter (λ x y. x < y) (is_violated_by a h) (ids h.table) rise.rising)
 
 -- ---- the first of some cells

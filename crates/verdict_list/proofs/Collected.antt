@@ -12,8 +12,8 @@ use Rattle.graph_meaning.specs.Assertions.{traced_ids, reference_count}
 use Rattle.graph_meaning.specs.Collecting.{Rules, after_sweep, holders_of, ids_to_clear, violating_dead, violating_kinds, violating_unshared}
 use Rattle.graph_meaning.specs.Collecting.{violating_ownees, dead_verdict, instances_verdict, unshared_verdict, ownedby_verdict, all_verdicts}
 use Rattle.graph_meaning.specs.Collecting.{first_with_paths, collection_counted}
-use Rattle.object_table.specs.Placed.{Placed, IsPlaced, id_in}
-use Rattle.path_cert.proofs.ByIds.{cell_of-held}
+use Rattle.object_table.specs.Placed.{PlacedTable, IsPlaced, id_in}
+use Rattle.object_table.proofs.ObjectsByCell.{cell_of-held}
 use Rattle.verdict_list.specs.Counts.{CountTable, counted_in}
 
 -- ---- the numbers and verdicts of a collection
@@ -40,7 +40,7 @@ map_agree_all f g (x ∷ xs) agree =
     let rest = map_agree_all f g xs (All-tail (λ x. f x ≡ g x) x xs agree) in
     λ i. All-head (λ x. f x ≡ g x) x xs agree i ∷ rest i
 
-module _ (p : Placed) (placed : IsPlaced p) (h : Heap) (t : CountTable) (counts : (cell id : ℕ) → id_in p cell ≡ Some id → t.references cell ≡ reference_count h id) where
+module _ (p : PlacedTable) (placed : IsPlaced p) (h : Heap) (t : CountTable) (counts : (cell id : ℕ) → id_in p cell ≡ Some id → t.references cell ≡ reference_count h id) where
   counted : (id : ℕ) → IsTrue (is_live p.table id) → counted_in p t id ≡ reference_count h id
   counted id live =
       let held = placed.somewhere id live in

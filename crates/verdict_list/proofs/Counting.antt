@@ -17,14 +17,14 @@ use Rattle.graph_meaning.specs.Collecting.{instances}
 use Rattle.graph_meaning.specs.Heap.{Heap, Table, ids, kind_at}
 use Rattle.graph_meaning.specs.Roles.{RoleTable}
 use Rattle.graph_meaning.proofs.Membership.{length-filter_le}
-use Rattle.object_table.specs.Placed.{Placed, id_in}
+use Rattle.object_table.specs.Placed.{PlacedTable, id_in}
 use Rattle.object_table.proofs.Positions.{position_distinct}
 use Rattle.assert_registry.proofs.Marking.{get_or-replicate_same}
 use Rattle.verdict_list.specs.declared.instances.KindCount.{KindCount}
 use Rattle.verdict_list.specs.Kinds.{name_of, limit_in, first_after, ArePastLimits}
 use Rattle.verdict_list.proofs.ByIds.{drop_next}
 
-pub named_at : (p : Placed) (kind : ℕ) → kind < length p.table.kinds → slice_get p.table.kinds kind ≡ Some (name_of p kind)
+pub named_at : (p : PlacedTable) (kind : ℕ) → kind < length p.table.kinds → slice_get p.table.kinds kind ≡ Some (name_of p kind)
 named_at p kind within = slice_get-get_or p.table.kinds kind [] within
 
 -- there are no more traced objects of a type than objects
@@ -52,7 +52,7 @@ kinds_all counts kinds n past so_far =
 
 -- ---- the traced objects of a type among the first ones by id
 
-module _ (p : Placed) (h : Heap) where
+module _ (p : PlacedTable) (h : Heap) where
   abbrev pub seen : List ℕ → ℕ → List ℕ
   seen name n = filter (λ id. bytes_eq (kind_at p.table id) name) (filter (is_traced h) (take n (ids p.table)))
 
@@ -99,12 +99,12 @@ slice_get-before (y ∷ xs) x zero ne = refl
 slice_get-before (y ∷ xs) x (suc n) ne = slice_get-before xs x n (λ e. ne (ap suc e))
 
 -- Among the first n objects by id so many of each type are traced, and each type with a limit has its first one past it here.
-pub record AreCounted (p : Placed) (r : RoleTable) (h : Heap) (counts : List ℕ) (places : List (Option ℕ)) (n : ℕ) : Type 0 where
+pub record AreCounted (p : PlacedTable) (r : RoleTable) (h : Heap) (counts : List ℕ) (places : List (Option ℕ)) (n : ℕ) : Type 0 where
   pub count : (kind : ℕ) → kind < length p.table.kinds → get_or counts kind 0 ≡ length (seen p h (name_of p kind) n)
   pub first : (kind limit : ℕ) → kind < length p.table.kinds → limit_in r kind ≡ Some limit → option_and_then (id_in p) (get_or places kind None) ≡ slice_get (seen p h (name_of p kind) n) limit
 
 -- the next object is not traced
-pub counted_past : (p : Placed) (r : RoleTable) (h : Heap) (counts : List ℕ) (places : List (Option ℕ)) (n id : ℕ) →
+pub counted_past : (p : PlacedTable) (r : RoleTable) (h : Heap) (counts : List ℕ) (places : List (Option ℕ)) (n id : ℕ) →
     slice_get (ids p.table) n ≡ Some id → is_traced h id ≡ false → AreCounted p r h counts places n → AreCounted p r h counts places (n + 1)
 counted_past p r h counts places n id at untraced counted = record {
   count = λ kind within. counted.count kind within ∙ ap length (sym (seen-untraced p h (name_of p kind) n id at untraced));
@@ -112,7 +112,7 @@ counted_past p r h counts places n id at untraced counted = record {
 }
 
 -- the next object is traced, and its type has this number
-module _ (p : Placed) (r : RoleTable) (h : Heap) (distinct : IsDistinct bytes_eq p.table.kinds) (counts : List ℕ) (places : List (Option ℕ))
+module _ (p : PlacedTable) (r : RoleTable) (h : Heap) (distinct : IsDistinct bytes_eq p.table.kinds) (counts : List ℕ) (places : List (Option ℕ))
     (n id cell number : ℕ) (at : slice_get (ids p.table) n ≡ Some id) (traced : is_traced h id ≡ true) (held : id_in p cell ≡ Some id)
     (seen_kind : number < length p.table.kinds) (named : kind_at p.table id ≡ name_of p number) where
   of_type : bytes_eq (kind_at p.table id) (name_of p number) ≡ true
@@ -174,7 +174,7 @@ module _ (p : Placed) (r : RoleTable) (h : Heap) (distinct : IsDistinct bytes_eq
     }
 
 -- nothing is counted at first
-pub counted_none : (p : Placed) (r : RoleTable) (h : Heap) (counts : List ℕ) (places : List (Option ℕ)) →
+pub counted_none : (p : PlacedTable) (r : RoleTable) (h : Heap) (counts : List ℕ) (places : List (Option ℕ)) →
     ((kind : ℕ) → get_or counts kind 0 ≡ 0) → ((kind : ℕ) → get_or places kind None ≡ None) → AreCounted p r h counts places 0
 counted_none p r h counts places zeros nones = record {
   count = λ kind within. zeros kind;
@@ -182,7 +182,7 @@ counted_none p r h counts places zeros nones = record {
 }
 
 -- all objects are counted
-pub counted_all : (p : Placed) (r : RoleTable) (h : Heap) (counts : List ℕ) (places : List (Option ℕ)) (n : ℕ) → h.table ≡ p.table →
+pub counted_all : (p : PlacedTable) (r : RoleTable) (h : Heap) (counts : List ℕ) (places : List (Option ℕ)) (n : ℕ) → h.table ≡ p.table →
     length p.table.objects ≤ n → AreCounted p r h counts places n → ArePastLimits p r h places
 unfolding instances traced_ids
 counted_all p r h counts places n same past counted kind limit within limited =
@@ -192,7 +192,7 @@ counted_all p r h counts places n same past counted kind limit within limited =
     ∙ ap (λ (t : Table). slice_get (filter (λ id. bytes_eq (kind_at t id) (name_of p kind)) (filter (is_traced h) (ids t))) limit) (sym same)
 
 -- what holds of the places of all types holds of them when one is set
-pub held_more : (p : Placed) (places : List (Option ℕ)) (limit : Option ℕ) (count cell number : ℕ) → number < length places →
+pub held_more : (p : PlacedTable) (places : List (Option ℕ)) (limit : Option ℕ) (count cell number : ℕ) → number < length places →
     IsSome (id_in p cell) → ((kind : ℕ) → IfSome (get_or places kind None) (λ c. IsSome (id_in p c))) → (kind : ℕ) →
     IfSome (get_or (set places number (first_after limit count (get_or places number None) cell)) kind None) (λ c. IsSome (id_in p c))
 held_more p places limit count cell number within taken held kind = ⊎_elim same other (cases_eq kind number)

@@ -11,9 +11,9 @@ use Rattle.graph_meaning.specs.declared.collection.Verdict.{Verdict}
 use Rattle.graph_meaning.specs.Collecting.{without_paths, first_with_paths}
 use Rattle.graph_meaning.specs.Heap.{Heap}
 use Rattle.graph_meaning.specs.Roles.{id_at}
-use Rattle.object_table.specs.Placed.{Placed}
+use Rattle.object_table.specs.Placed.{PlacedTable}
 use Rattle.reference_search.specs.declared.cell_reference.FirstReferences.{FirstReferences}
-use Rattle.reference_search.specs.References.{AreFirst, AreFirstOf}
+use Rattle.reference_search.specs.References.{AreFirstReferences, AreFirstOf}
 use Rattle.verdict_list.specs.Listed.{verdict_if, GoesOn}
 use Rattle.verdict_list.proofs.ByIds.{drop_next}
 
@@ -114,13 +114,13 @@ is_some-slice_get (x ∷ xs) zero = sym (lt-ltb 0 (suc (length xs)) (omega arith
 is_some-slice_get (x ∷ xs) (suc n) = is_some-slice_get xs n ∙ sym (less_both n (length xs))
 
 -- the first references to the object in the n-th of these cells, if they are known
-pub first_at : (p : Placed) (h : Heap) (cells : List ℕ) (references : List FirstReferences) (n : ℕ) (o : Option FirstReferences) →
-    AreFirstOf p h cells references → n < length cells → o ≡ slice_get references n → IfSome o (AreFirst p h (id_at p.cells (get_or cells n 0)))
+pub first_at : (p : PlacedTable) (h : Heap) (cells : List ℕ) (references : List FirstReferences) (n : ℕ) (o : Option FirstReferences) →
+    AreFirstOf p h cells references → n < length cells → o ≡ slice_get references n → IfSome o (AreFirstReferences p h (id_at p.cells (get_or cells n 0)))
 first_at p h cells references n None first within is = tt
 first_at p h cells references n (Some f) first within is = first n (get_or cells n 0) f (slice_get-get_or cells n 0 within) (sym is)
 
-pub refers_at : (p : Placed) (cells : List ℕ) (references : List FirstReferences) (n : ℕ) (o : Option FirstReferences) →
+pub refers_at : (p : PlacedTable) (cells : List ℕ) (references : List FirstReferences) (n : ℕ) (o : Option FirstReferences) →
     (h : Heap) × AreFirstOf p h cells references → n < length cells → o ≡ slice_get references n →
-    IfSome o (λ f. (h : Heap) × (id : ℕ) × AreFirst p h id f)
+    IfSome o (λ f. (h : Heap) × (id : ℕ) × AreFirstReferences p h id f)
 refers_at p cells references n None first within is = tt
 refers_at p cells references n (Some f) first within is = (first.0, id_at p.cells (get_or cells n 0), first.1 n (get_or cells n 0) f (slice_get-get_or cells n 0 within) (sym is))

@@ -27,7 +27,7 @@ use Rattle.graph_meaning.specs.Heap.{Heap, Object, Table, ids, is_live, is_seen,
 use Rattle.graph_meaning.specs.Roles.{RoleTable}
 use Rattle.graph_meaning.proofs.HeapLemmas.{has_id-ids}
 use Rattle.graph_meaning.proofs.Membership.{All-has_id}
-use Rattle.object_table.specs.Placed.{Placed, IsSound}
+use Rattle.object_table.specs.Placed.{PlacedTable, IsSound}
 use Rattle.object_table.proofs.Positions.{position_distinct, any-position}
 use Rattle.assert_registry.specs.Laws.{StandFor}
 use Rattle.verdict_list.specs.Counts.{CountTable}
@@ -204,7 +204,7 @@ over_pass r t n (Some k) fails = ⊎_elim
     none true b is = is
     none false b is = refl
 
-pub over_more : (p : Placed) (r : RoleTable) (t : CountTable) → IsDistinct bytes_eq p.table.kinds → (n : ℕ) → n < length p.table.kinds →
+pub over_more : (p : PlacedTable) (r : RoleTable) (t : CountTable) → IsDistinct bytes_eq p.table.kinds → (n : ℕ) → n < length p.table.kinds →
     is_over_limit r t n ≡ true → (q : List ℕ) (found : Option ℕ) → found ≡ over_below r t n (position (bytes_eq q) p.table.kinds) →
     cond (bytes_eq (name_of p n) q) (Some n) found ≡ over_below r t (n + 1) (position (bytes_eq q) p.table.kinds)
 over_more p r t distinct n within over q found is = go (bytes_eq (name_of p n) q) refl
@@ -272,10 +272,11 @@ over_is r t n (Some m) k is = go (nat_lt m n) (is_over_limit r t m) refl is
     go false c over here = cc
 
 -- the map has each type that is over its limit by its name, and no other
-abbrev pub HasOver : {Y : Type 0} → Placed → RoleTable → CountTable → BTreeMap (String Y) ℕ → ℕ → Type 0
+abbrev pub HasOver : {Y : Type 0} → PlacedTable → RoleTable → CountTable → BTreeMap (String Y) ℕ → ℕ → Type 0
 HasOver p r t m n = (q : List ℕ) → get_by_text m q ≡ over_below r t n (position (bytes_eq q) p.table.kinds)
 
-module _ {Y : Type 0} (p : Placed) (r : RoleTable) (t : CountTable) (m : BTreeMap (String Y) ℕ) (n : ℕ) (sorted : IsStrictlySortedBy string_cmp (keys_of m.entries)) (has : HasOver p r t m n) where
+module _ {Y : Type 0} (p : PlacedTable) (r : RoleTable) (t : CountTable) (m : BTreeMap (String Y) ℕ) (n : ℕ)
+    (sorted : IsStrictlySortedBy string_cmp (keys_of m.entries)) (has : HasOver p r t m n) where
   abbrev texts : Named ℕ
   texts = by_texts m.entries
 
@@ -373,7 +374,7 @@ module _ {Y : Type 0} (p : Placed) (r : RoleTable) (t : CountTable) (m : BTreeMa
         ∙ look q (position (bytes_eq q) p.table.kinds) refl ∙ sym (lookup-passing passes q h.limits stand.ordered.limits))
 
 -- at first there is none
-pub over_none : {Y : Type 0} (p : Placed) (r : RoleTable) (t : CountTable) (m : BTreeMap (String Y) ℕ) → m.entries ≡ [] → HasOver p r t m 0
+pub over_none : {Y : Type 0} (p : PlacedTable) (r : RoleTable) (t : CountTable) (m : BTreeMap (String Y) ℕ) → m.entries ≡ [] → HasOver p r t m 0
 over_none p r t m empty q = ap (lookup (is_at (λ k. slice_cmp nat_cmp q (string_bytes k)))) empty ∙ go (position (bytes_eq q) p.table.kinds)
   where
     go : (o : Option ℕ) → None ≡ over_below r t 0 o

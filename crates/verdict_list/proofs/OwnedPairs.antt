@@ -13,7 +13,7 @@ use Rattle.graph_meaning.specs.Heap.{Heap}
 use Rattle.graph_meaning.specs.Reach.{has_id}
 use Rattle.graph_meaning.specs.Roles.{RoleTable, owner_in}
 use Rattle.graph_meaning.proofs.Membership.{has_id-head}
-use Rattle.object_table.specs.Placed.{Placed, id_in}
+use Rattle.object_table.specs.Placed.{PlacedTable, id_in}
 use Rattle.assert_registry.specs.Assertions.{owner_of}
 use Rattle.assert_registry.specs.ByCell.{owner_at, IsRoleBy}
 use Rattle.assert_registry.specs.Laws.{StandFor}
@@ -76,7 +76,7 @@ pairs_are owners f (c ∷ cells) (o ∷ os) same all =
     ∙ ap (λ x. (o.0, unwrap_or x 0) ∷ map (λ cell. (unwrap_or (f cell) 0, unwrap_or (owner_of owners (unwrap_or (f cell) 0)) 0)) cells) here
     ∙ ap (λ xs. o ∷ xs) rest
 
-module _ (p : Placed) (r : RoleTable) (h : Heap) (c : OwnershipTable) (stand : StandFor p r h) (violating : AreViolating p h c) where
+module _ (p : PlacedTable) (r : RoleTable) (h : Heap) (c : OwnershipTable) (stand : StandFor p r h) (violating : AreViolating p h c) where
   listed : All (IsListed h.owners) (violating_ownees h)
   unfolding violating_ownees
   listed = All-filter _ (IsListed h.owners) h.owners (all_listed h.owners (Rise-sorted (keys_of h.owners) stand.ordered.owners))

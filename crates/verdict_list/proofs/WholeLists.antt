@@ -11,7 +11,7 @@ use Rattle.graph_meaning.specs.declared.collection.Verdict.{Verdict}
 use Rattle.graph_meaning.specs.Collecting.{first_with_paths, instances, violating_dead, violating_kinds, violating_unshared, dead_verdict, instances_verdict, unshared_verdict}
 use Rattle.graph_meaning.specs.Heap.{Heap}
 use Rattle.graph_meaning.specs.Roles.{RoleTable}
-use Rattle.object_table.specs.Placed.{Placed, id_in}
+use Rattle.object_table.specs.Placed.{PlacedTable, id_in}
 use Rattle.verdict_list.specs.Counts.{CountTable}
 use Rattle.verdict_list.specs.Counts.{AreCountsOf}
 use Rattle.verdict_list.specs.declared.instances.KindCount.{KindCount}
@@ -47,7 +47,7 @@ map_pairs {X} verdict f xs ys same = go xs ∙ ap (map verdict) same
 
 -- ---- types
 
-module _ (p : Placed) (r : RoleTable) (t : CountTable) (places : List (Option ℕ)) where
+module _ (p : PlacedTable) (r : RoleTable) (t : CountTable) (places : List (Option ℕ)) where
   named_counts : (counts : List KindCount) → All (IsCountedBy r t places) counts → map (named_count p) counts ≡ map (named_limit p r) (map (λ c. c.kind) counts)
   named_counts [] all = refl
   named_counts (c ∷ counts) all =

@@ -16,7 +16,7 @@ use Rattle.graph_meaning.specs.Reach.{has_id}
 use Rattle.graph_meaning.specs.Roles.{RoleTable}
 use Rattle.graph_meaning.proofs.HeapLemmas.{has_id-ids}
 use Rattle.graph_meaning.proofs.Membership.{has_id-filter, has_id-Contains, length-filter_le}
-use Rattle.object_table.specs.Placed.{Placed, IsSound, id_in}
+use Rattle.object_table.specs.Placed.{PlacedTable, IsSound, id_in}
 use Rattle.assert_registry.specs.Laws.{StandFor}
 use Rattle.assert_registry.proofs.Rising.{Rise-sorted, same_rising}
 use Rattle.ownee_check.specs.Ownership.{OwnershipTable, AreViolating}
@@ -32,7 +32,7 @@ ownedby-is false h o id kind owner gone path e1 e2 e3 e4 e5 = rw (e1, e2, e3, e4
 -- ---- ownees
 
 -- there are no more violating ownees than objects
-pub ownees-few : (p : Placed) (r : RoleTable) (h : Heap) (c : OwnershipTable) → IsSound p.table → StandFor p r h → AreViolating p h c → length c.ownees ≤ length p.table.objects
+pub ownees-few : (p : PlacedTable) (r : RoleTable) (h : Heap) (c : OwnershipTable) → IsSound p.table → StandFor p r h → AreViolating p h c → length c.ownees ≤ length p.table.objects
 unfolding violating_ownees
 ownees-few p r h c sound stand violating =
     let many : length c.ownees ≡ length (violating_ownees h) = sym (length-map c.ownees (id_in p)) ∙ ap length violating.ownees ∙ length-map (violating_ownees h) (λ o. Some o.0) in

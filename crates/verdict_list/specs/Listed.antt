@@ -9,7 +9,7 @@ use Rattle.graph_meaning.specs.Heap.{Heap}
 use Rattle.graph_meaning.specs.Assertions.{references}
 use Rattle.graph_meaning.specs.Paths.{reference_way, shown_path}
 use Rattle.graph_meaning.specs.Roles.{RoleTable, id_at}
-use Rattle.object_table.specs.Placed.{Placed}
+use Rattle.object_table.specs.Placed.{PlacedTable}
 use Rattle.assert_registry.specs.Assertions.{owner_of}
 use Rattle.assert_registry.specs.Laws.{StandFor}
 use Rattle.object_paths.specs.PlainPaths.{ArePlainLevels}
@@ -46,7 +46,7 @@ first_verdicts count h =
     (map (dead_verdict h) (violating_dead h) ++ map (instances_verdict h) (violating_kinds h)) ++ map (unshared_verdict count h) (violating_unshared h)
 
 -- all verdicts with what was counted, of which so many of the first carry their paths
-abbrev pub verdicts_in : Placed → CountTable → ℕ → Heap → List Verdict
+abbrev pub verdicts_in : PlacedTable → CountTable → ℕ → Heap → List Verdict
 verdicts_in p t paths h = first_with_paths paths (all_verdicts (counted_in p t) h)
 
 -- The heap is that of the table and of roles by which the levels were made, if they were made.
@@ -65,7 +65,7 @@ abbrev pub KnowsFirst : PlainPaths → Heap → SharedObjects → Type 0
 KnowsFirst plain h shared = AreFirstOf plain.table.now h shared.cells.now shared.references.now
 
 -- the object in a cell and its owner, as a heap has them
-abbrev pub owned_pair : Placed → Heap → ℕ → ℕ × ℕ
+abbrev pub owned_pair : PlacedTable → Heap → ℕ → ℕ × ℕ
 owned_pair p h cell = (id_at p.cells cell, unwrap_or (owner_of h.owners (id_at p.cells cell)) 0)
 
 -- the path by the reference with the number n, from 0, to the object with this id, if there is one
@@ -73,13 +73,13 @@ abbrev pub reference_path : Heap → ℕ → ℕ → Shown
 reference_path h id n = shown_path (option_map (reference_way h id) (slice_get (references h id) n))
 
 -- the verdict on a type, by its count
-abbrev pub instances_in : Placed → Heap → KindCount → Verdict
-instances_in p h c = instances_verdict h (named_count p c)
+abbrev pub instances_at : PlacedTable → Heap → KindCount → Verdict
+instances_at p h c = instances_verdict h (named_count p c)
 
 -- the verdict on the object in a cell, with what was counted
-abbrev pub unshared_in : Placed → CountTable → Heap → ℕ → Verdict
-unshared_in p t h cell = unshared_verdict (counted_in p t) h (id_at p.cells cell)
+abbrev pub unshared_at : PlacedTable → CountTable → Heap → ℕ → Verdict
+unshared_at p t h cell = unshared_verdict (counted_in p t) h (id_at p.cells cell)
 
 -- the verdict on the ownee in a cell
-abbrev pub ownedby_in : Placed → Heap → ℕ → Verdict
+abbrev pub ownedby_in : PlacedTable → Heap → ℕ → Verdict
 ownedby_in p h cell = ownedby_verdict h (owned_pair p h cell)

@@ -20,6 +20,6 @@ is_violated_by Dead h id = has_id h.dead id && is_traced h id
 is_violated_by Unshared h id = has_id h.unshared id && nat_le 2 (reference_count h id)
 
 -- the objects that violate the assertion, by id
-abbrev pub violating : Assertion → Heap → List ℕ
-violating Dead h = violating_dead h
-violating Unshared h = violating_unshared h
+abbrev pub violators : Assertion → Heap → List ℕ
+violators Dead h = violating_dead h
+violators Unshared h = violating_unshared h

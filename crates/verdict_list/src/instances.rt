@@ -7,7 +7,7 @@ ghost use Rattle.object_table.specs.Placed.{id_in};
 ghost use Rattle.std.specs.Prelude.{◌≡◌, ◌<◌, ◌+◌, ◌^◌, ℕ, true, None, Some, length, map, All, IsSome, IfSome, IfOk, OnOk, option_and_then, slice_index, slice_index_or};
 ghost use Rattle.verdict_list.specs.Counts.{CountsHeap};
 ghost use Rattle.verdict_list.specs.Kinds.{IsOverLimit, IsCountedBy, IsSeenIn, SaysOf, HasFirst, TellOf};
-ghost use Rattle.verdict_list.specs.Listed.{instances_in, path_if, verdict_if, GoesOn, ShowsPaths};
+ghost use Rattle.verdict_list.specs.Listed.{instances_at, path_if, verdict_if, GoesOn, ShowsPaths};
 
 use crate::counts::{CountedHeap, HeapCounts};
 use crate::shown_paths::{PlainPaths, plain_path};
@@ -119,7 +119,7 @@ fn instances_verdict(
     requires count { IsSeenIn plain.table.now count }
     requires levels { (r : RoleTable) × IfSome plain.levels.now (ArePlainLevels plain.table.now r) }
     requires there { is_shown ≡ true → IsSome plain.levels.now }
-    ensures { let p = plain.entry.table.now in IfOk result (λ v. (h : Heap) → ShowsPaths plain.entry h → SaysOf p h count → (is_shown ≡ true → HasFirst p h count) → v ≡ verdict_if is_shown (instances_in p h count)) }
+    ensures { let p = plain.entry.table.now in IfOk result (λ v. (h : Heap) → ShowsPaths plain.entry h → SaysOf p h count → (is_shown ≡ true → HasFirst p h count) → v ≡ verdict_if is_shown (instances_at p h count)) }
 {
     let path = first_path(plain, count.first, is_shown)?;
     let kind = plain.table.kind_name(count.kind).copy()?;
@@ -142,7 +142,7 @@ pub(crate) fn push_instances(
     requires levels { (r : RoleTable) × IfSome plain.levels.now (ArePlainLevels plain.table.now r) }
     requires there { length list.old < plain.most → 0 < length counts.now → IsSome plain.levels.now }
     ensures length { OnOk result (length list.new ≡ length list.old + length counts.now) }
-    ensures verdicts { let p = plain.entry in OnOk result ((h : Heap) → ShowsPaths p h → TellOf p.table.now h (length list.old < p.most) counts.now → GoesOn p.most list.old (map (instances_in p.table.now h) counts.now) list.new) }
+    ensures verdicts { let p = plain.entry in OnOk result ((h : Heap) → ShowsPaths p h → TellOf p.table.now h (length list.old < p.most) counts.now → GoesOn p.most list.old (map (instances_at p.table.now h) counts.now) list.new) }
 {
     for count in counts {
         let is_shown = list.len() < plain.most;

@@ -15,7 +15,7 @@ use crate::ownees::{CheckedTable, push_ownees};
 use crate::past_limit::past_limits;
 use crate::shown_paths::{PlainPaths, plain_levels};
 use crate::unshared::{SharedObjects, push_unshared, references_of};
-use crate::violating::{Assertion, violating};
+use crate::violating::{Assertion, violators};
 use graph_meaning::VerdictList;
 use heap_base::OutOfMemory;
 use ownee_check::OwnershipCheck;
@@ -40,9 +40,9 @@ fn first_verdicts<T: HeapCounts>(
     ensures verdicts { let c = counted.now in let t = T.counts c.counts.now in IfOk result (λ v. (h : Heap) → CountsHeap c.table.now c.roles.now t h → v ≡ first_with_paths paths (first_verdicts (counted_in c.table.now t) h)) }
     ensures few { IfOk result (λ v. length v ≤ most_first_verdicts) }
 {
-    let dead = violating(alloc, counted, Assertion::Dead)?;
+    let dead = violators(alloc, counted, Assertion::Dead)?;
     let kinds = over_limit(alloc, counted)?;
-    let unshared = violating(alloc, counted, Assertion::Unshared)?;
+    let unshared = violators(alloc, counted, Assertion::Unshared)?;
     let shown = paths as usize;
     let before = dead.len() + kinds.len();
     let shows_plain = shows_some(shown, before + unshared.len());

@@ -5,9 +5,9 @@ ghost use Rattle.graph_meaning.specs.Roles.{AreRolesOf, RoleTable, id_at};
 ghost use Rattle.heap_base.specs.Counting.{IsOnce};
 ghost use Rattle.object_paths.specs.PlainPaths.{ArePlainLevels};
 ghost use Rattle.object_table.specs.Placed.{id_in};
-ghost use Rattle.reference_search.specs.References.{IsReference, AreFirst, AreFirstOf, IsTracedTableOf};
+ghost use Rattle.reference_search.specs.References.{IsReference, AreFirstReferences, AreFirstOf, IsTracedTableOf};
 ghost use Rattle.std.specs.Prelude.{◌≡◌, ◌<◌, ◌+◌, ◌-◌, ◌^◌, ℕ, Some, length, map, min, All, IsSome, IfSome, IfOk, OnOk, is_some, slice_get};
-ghost use Rattle.verdict_list.specs.Listed.{path_if, reference_path, unshared_in, verdict_if, GoesOn, ShowsPaths, KnowsFirst};
+ghost use Rattle.verdict_list.specs.Listed.{path_if, reference_path, unshared_at, verdict_if, GoesOn, ShowsPaths, KnowsFirst};
 
 use crate::counts::HeapCounts;
 use crate::shown_paths::PlainPaths;
@@ -62,11 +62,11 @@ fn reference_paths(
     plain: PlainPaths<'_>,
     found: Option<FirstReferences>,
 ) -> Result<(Shown, Shown), OutOfMemory>
-    requires found { IfSome found (λ f. (h : Heap) × (id : ℕ) × AreFirst plain.table.now h id f) }
+    requires found { IfSome found (λ f. (h : Heap) × (id : ℕ) × AreFirstReferences plain.table.now h id f) }
     requires levels { (r : RoleTable) × IfSome plain.levels.now (ArePlainLevels plain.table.now r) }
     requires there { IsSome found → IsSome plain.levels.now }
-    ensures first { let p = plain.entry in IfOk result (λ s. (h : Heap) (id : ℕ) → ShowsPaths p h → IfSome found (AreFirst p.table.now h id) → s.0 ≡ path_if (is_some found) (reference_path h id 0)) }
-    ensures second { let p = plain.entry in IfOk result (λ s. (h : Heap) (id : ℕ) → ShowsPaths p h → IfSome found (AreFirst p.table.now h id) → s.1 ≡ path_if (is_some found) (reference_path h id 1)) }
+    ensures first { let p = plain.entry in IfOk result (λ s. (h : Heap) (id : ℕ) → ShowsPaths p h → IfSome found (AreFirstReferences p.table.now h id) → s.0 ≡ path_if (is_some found) (reference_path h id 0)) }
+    ensures second { let p = plain.entry in IfOk result (λ s. (h : Heap) (id : ℕ) → ShowsPaths p h → IfSome found (AreFirstReferences p.table.now h id) → s.1 ≡ path_if (is_some found) (reference_path h id 1)) }
 {
     match found {
         Some(found) => {
@@ -87,10 +87,10 @@ fn unshared_verdict<T: HeapCounts>(
 ) -> Result<Verdict, OutOfMemory>
     requires cell { IsSome (id_in plain.table.now cell) }
     requires words { (T.counts traced.now).cells ≡ length plain.table.now.cells }
-    requires found { IfSome found (λ f. (h : Heap) × (id : ℕ) × AreFirst plain.table.now h id f) }
+    requires found { IfSome found (λ f. (h : Heap) × (id : ℕ) × AreFirstReferences plain.table.now h id f) }
     requires levels { (r : RoleTable) × IfSome plain.levels.now (ArePlainLevels plain.table.now r) }
     requires there { IsSome found → IsSome plain.levels.now }
-    ensures { let p = plain.entry.table.now in IfOk result (λ v. (h : Heap) → ShowsPaths plain.entry h → IfSome found (AreFirst p h (id_at p.cells cell)) → v ≡ verdict_if (is_some found) (unshared_in p (T.counts traced.now) h cell)) }
+    ensures { let p = plain.entry.table.now in IfOk result (λ v. (h : Heap) → ShowsPaths plain.entry h → IfSome found (AreFirstReferences p h (id_at p.cells cell)) → v ≡ verdict_if (is_some found) (unshared_at p (T.counts traced.now) h cell)) }
 {
     // what is true of every table
     let cells = plain.table.cells();
@@ -140,7 +140,7 @@ pub(crate) fn push_unshared<T: HeapCounts>(
     requires levels { (r : RoleTable) × IfSome plain.levels.now (ArePlainLevels plain.table.now r) }
     requires there { 0 < length shared.references.now → IsSome plain.levels.now }
     ensures length { OnOk result (length list.new ≡ length list.old + length shared.entry.cells.now) }
-    ensures verdicts { let p = plain.entry in OnOk result ((h : Heap) → ShowsPaths p h → KnowsFirst p h shared.entry → GoesOn p.most list.old (map (unshared_in p.table.now (T.counts traced.now) h) shared.entry.cells.now) list.new) }
+    ensures verdicts { let p = plain.entry in OnOk result ((h : Heap) → ShowsPaths p h → KnowsFirst p h shared.entry → GoesOn p.most list.old (map (unshared_at p.table.now (T.counts traced.now) h) shared.entry.cells.now) list.new) }
 {
     for place in 0..shared.cells.len() {
         let found = at_place(shared.references, place);

@@ -6,7 +6,7 @@ ghost use Rattle.heap_base.specs.declared.limits.TheConstants.{MOST_OBJECTS};
 ghost use Rattle.object_table.specs.Placed.{id_in};
 ghost use Rattle.std.specs.Prelude.{◌≡◌, ◌<◌, ◌≤◌, length, map, All, Some, IfOk, IsSome};
 ghost use Rattle.verdict_list.specs.Counts.{CountsHeap};
-ghost use Rattle.verdict_list.specs.Violating.{is_violated_in, violating};
+ghost use Rattle.verdict_list.specs.Violating.{is_violated_in, violators};
 
 use crate::counts::{CountedHeap, HeapCounts};
 use graph_meaning::Roles;
@@ -36,14 +36,14 @@ fn is_violated<T: HeapCounts>(assertion: Assertion, roles: &Roles, traced: &T, c
 }
 
 /// The cells of the objects that violate the assertion, by id.
-pub(crate) fn violating<T: HeapCounts>(
+pub(crate) fn violators<T: HeapCounts>(
     alloc: Global,
     counted: &CountedHeap<'_, T>,
     assertion: Assertion,
 ) -> Result<Vec<u32>, OutOfMemory>
     requires roles { AreRolesOf counted.now.table.now.cells (length counted.now.table.now.table.kinds) counted.now.roles.now }
     requires counts { (h : Heap) × CountsHeap counted.now.table.now counted.now.roles.now (T.counts counted.now.counts.now) h }
-    ensures violating { let c = counted.now in IfOk result (λ cells. (h : Heap) → CountsHeap c.table.now c.roles.now (T.counts c.counts.now) h → map (id_in c.table.now) cells.items ≡ map Some (violating assertion h)) }
+    ensures violators { let c = counted.now in IfOk result (λ cells. (h : Heap) → CountsHeap c.table.now c.roles.now (T.counts c.counts.now) h → map (id_in c.table.now) cells.items ≡ map Some (violators assertion h)) }
     ensures taken { IfOk result (λ cells. All (λ cell. IsSome (id_in counted.now.table.now cell)) cells.items) }
     ensures once { IfOk result (λ cells. IsOnce cells.items) }
     ensures few { IfOk result (λ cells. length cells.items ≤ MOST_OBJECTS) }

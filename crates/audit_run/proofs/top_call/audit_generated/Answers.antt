@@ -1,13 +1,13 @@
 use Rattle.std.proofs.Common.{ℕ, List, subst}
 use Rattle.heap_base.specs.Streams.{stream_of}
-use Rattle.trace_run.specs.Outcome.{reading, seen}
-use Rattle.audit_run.specs.Outcome.{Ended, rules_in}
+use Rattle.trace_run.specs.Outcome.{reading, outside_of}
+use Rattle.audit_run.specs.Outcome.{EndsAs, rules_in}
 use Rattle.audit_run.proofs.top_call.audit_generated.Goals as goal
 
 pub returns : goal.returns
 returns g c =
     λ stream.
-    let old = seen stream (stream_of g.K.Sink.held g.K.Sink.faults c.args.sink.now) in
-    let new = seen stream (stream_of g.K.Sink.held g.K.Sink.faults c.audit_lines.new.sink) in
-    let Reads : List ℕ → Type 0 = λ bytes. Ended (rules_in c.args.audit.plan) (reading bytes old) (reading c.audit_lines.new.source new) c.audit_lines.result in
+    let old = outside_of stream (stream_of g.K.Sink.held g.K.Sink.faults c.args.sink.now) in
+    let new = outside_of stream (stream_of g.K.Sink.held g.K.Sink.faults c.audit_lines.new.sink) in
+    let Reads : List ℕ → Type 0 = λ bytes. EndsAs (rules_in c.args.audit.plan) (reading bytes old) (reading c.audit_lines.new.source new) c.audit_lines.result in
     (c.audit_lines.new.source, subst Reads c.in-Ok.ensures.left c.audit_lines.ensures)

@@ -1,6 +1,6 @@
 use Rattle.std.proofs.Common.{arith, List, length, ap, sym, subst}
 use Rattle.heap_base.specs.declared.task.Task.{Task}
-use Rattle.crew_support.specs.CellTasks.{AreFirst}
+use Rattle.crew_support.specs.CellTasks.{AreFirstTasks}
 use Rattle.crew_support.proofs.CellTaskLemmas.{first_more}
 use Rattle.crew_support.proofs.counters.add_first.Goals as goal
 
@@ -8,5 +8,5 @@ pub returns-then-of-clause-lists : goal.returns-then-of-clause-lists
 returns-then-of-clause-lists c =
     let is = ap (λ (ts : List Task). length ts) c.of.ensures in
     let few = c.if-of.true in
-    subst (AreFirst c.args.workers c.args.cells) (sym c.add.ensures.lists)
+    subst (AreFirstTasks c.args.workers c.args.cells) (sym c.add.ensures.lists)
     (first_more c.args.workers c.args.cells c.args.first.now.lists c.args.at.0 c.args.at.1 c.requires.lists c.if-worker-workers.true c.if-cell-cells.true (omega arith))

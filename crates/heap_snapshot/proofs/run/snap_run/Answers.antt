@@ -1,5 +1,5 @@
 use Rattle.heap_base.specs.Streams.{stream_of}
-use Rattle.trace_run.specs.Outcome.{seen}
+use Rattle.trace_run.specs.Outcome.{outside_of}
 use Rattle.heap_snapshot.specs.Words.{usage_line}
 use Rattle.heap_snapshot.proofs.AtTheEnd.{unwritten_from_trace, unwritten_usage}
 use Rattle.heap_snapshot.proofs.run.snap_run.Goals as goal
@@ -13,4 +13,4 @@ returns-in-Some-FromTrace-clause-unwritten g c failed = unwritten_from_trace _ _
 pub returns-in-None-clause-unwritten : goal.returns-in-None-clause-unwritten
 returns-in-None-clause-unwritten g c failed =
     let source = stream_of g.S.Source.left g.S.Source.faults c.args.source.now in
-    unwritten_usage (seen source _) (seen source _) failed usage_line (c.refuse_words.ensures source)
+    unwritten_usage (outside_of source _) (outside_of source _) failed usage_line (c.refuse_words.ensures source)

@@ -1,7 +1,7 @@
 use Rattle.std.proofs.Common.{◌≡◌, length}
 use Rattle.std.specs.Prelude.{vec_capacity, vec_len}
-use Rattle.heap_trace.specs.TracedCells.{passes_of}
 use Rattle.heap_trace.proofs.gathering.take_passes.Given as goal
+use Rattle.scan_job.specs.States.{passes_of}
 
 abbrev pub invariant-loop-job : goal.invariant-loop-job
 invariant-loop-job l = record {

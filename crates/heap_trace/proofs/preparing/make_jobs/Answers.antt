@@ -5,8 +5,8 @@ use Rattle.std.proofs.lemmas.Iterator.Consumers.{YieldsList-turn}
 use Rattle.std.proofs.lemmas.List.{map-append}
 use Rattle.std.proofs.lemmas.List.Elements.{All-push}
 use Rattle.header_rule.specs.Passes.{IsFresh}
-use Rattle.scan_job.specs.States.{ScanState}
-use Rattle.heap_trace.specs.TracedCells.{passes_of, IsNewFor}
+use Rattle.scan_job.specs.States.{ScanState, passes_of}
+use Rattle.heap_trace.specs.TracedCells.{IsNewFor}
 use Rattle.heap_trace.proofs.NewJobs.{new-for}
 use Rattle.heap_trace.proofs.preparing.make_jobs.Goals as goal
 

@@ -1,7 +1,8 @@
 use Rattle.std.proofs.Common.{◌≡◌}
 use Rattle.std.specs.List.{All}
-use Rattle.heap_trace.specs.TracedCells.{passes_of, IsNewFor}
+use Rattle.heap_trace.specs.TracedCells.{IsNewFor}
 use Rattle.heap_trace.proofs.preparing.make_jobs.Given as goal
+use Rattle.scan_job.specs.States.{passes_of}
 
 abbrev pub invariant-loop-pass : goal.invariant-loop-pass
 invariant-loop-pass l = record {

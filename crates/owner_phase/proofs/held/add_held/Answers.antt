@@ -1,5 +1,5 @@
 use Rattle.std.proofs.Common.{◌≡◌, length, map, ap, ◌∙◌, arith}
-use Rattle.scan_job.specs.Phases.{dealt}
+use Rattle.scan_job.specs.Phases.{task_lists}
 use Rattle.scan_job.specs.Scans.{task_at}
 use Rattle.owner_phase.proofs.HeldCells.{HeldBy, held-more, few-more, few-so_far, length-more, has-room, dealt-more}
 use Rattle.owner_phase.proofs.held.add_held.Goals as goal
@@ -57,7 +57,7 @@ loop-job-preserved c =
     let all : c.loop-cell.cell-index ≡ length c.held-cell-items.result.now = (let a = c.loop-cell-test.false in let b = c.loop-cell.auto.cell-index-end in omega arith) in
     let more = held-more c.args.jobs.now c.loop-job.job-index c.job-item.result c.held-cell-items.result.now p c.loop-cell.cell-index all in
     record {
-      lists = c.loop-cell.invariant.lists ∙ ap (λ xs. dealt c.args.workers (map (task_at 0) xs)) more;
+      lists = c.loop-cell.invariant.lists ∙ ap (λ xs. task_lists c.args.workers (map (task_at 0) xs)) more;
       number = c.loop-cell.invariant.number ∙ ap length more;
       room = c.loop-cell.invariant.room;
       few = λ most each. few-more c.args.jobs.now c.loop-job.job-index c.job-item.result c.held-cell-items.result.now p most each (c.loop-job.invariant.few most each);

@@ -1,5 +1,5 @@
 use Rattle.std.proofs.Common.{arith}
-use Rattle.scan_job.specs.Shared.{lent}
+use Rattle.scan_job.specs.Shared.{shared_behind}
 use Rattle.scan_job.proofs.PhaseRuns.{take_up-start, take_up-begun}
 use Rattle.scan_job.proofs.Starting.{ready-cells}
 use Rattle.owner_phase.proofs.Dealt.{dealt-held, few-held}
@@ -7,7 +7,7 @@ use Rattle.owner_phase.proofs.held.begin_take_up.Goals as goal
 
 pub returns-clause-begun : goal.returns-clause-begun
 returns-clause-begun c =
-    let s = lent c.args.shared.now in
+    let s = shared_behind c.args.shared.now in
     let js = c.args.jobs.now.items in
     let can = c.requires.begin in
     let few = few-held c.add_held.ensures.few c.as_slice.ensures.value (ready-cells s js can.ready) in

@@ -1,7 +1,7 @@
 use Rattle.std.proofs.Common.{◌≡◌, ℕ, ◌+◌, ◌%◌, ◌<◌, ◌≤◌, List, [], ◌∷◌, length, map, take, get_or, sym, ap, ◌∙◌, arith, length-take}
 use Rattle.std.proofs.lemmas.List.{length-map, map-append, take_more}
 use Rattle.heap_base.specs.declared.task.Task.{Task}
-use Rattle.scan_job.specs.Phases.{put_last, dealt}
+use Rattle.scan_job.specs.Phases.{put_last, task_lists}
 use Rattle.scan_job.specs.Scans.{task_at}
 use Rattle.scan_job.proofs.Dealing.{dealt-room, dealt-snoc}
 use Rattle.scan_job.proofs.PhaseRuns.{le-times}
@@ -11,7 +11,7 @@ use Rattle.owner_phase.proofs.owners.add_owners.Goals as goal
 abbrev firsts : List ℕ → ℕ → List Task
 firsts owners i = map (λ o. task_at o o) (take i owners)
 
-module _ (n i : ℕ) (owners : List ℕ) (fs : List (List Task)) (some : 0 < n) (within : i < length owners) (lists : fs ≡ dealt n (firsts owners i)) where
+module _ (n i : ℕ) (owners : List ℕ) (fs : List (List Task)) (some : 0 < n) (within : i < length owners) (lists : fs ≡ task_lists n (firsts owners i)) where
   count : i ≡ length (firsts owners i)
   count = let a = length-map (take i owners) (λ o. task_at o o) in let b = length-take i owners in omega arith
 
@@ -19,10 +19,10 @@ module _ (n i : ℕ) (owners : List ℕ) (fs : List (List Task)) (some : 0 < n) 
   has-room room enough =
       let l = le-times n room some in dealt-room n room i fs (firsts owners i) some count lists (omega arith)
 
-  one-more : (gs : List (List Task)) → gs ≡ put_last fs (i % n) (let o = get_or owners i 0 in task_at o o) → gs ≡ dealt n (firsts owners (i + 1))
+  one-more : (gs : List (List Task)) → gs ≡ put_last fs (i % n) (let o = get_or owners i 0 in task_at o o) → gs ≡ task_lists n (firsts owners (i + 1))
   one-more gs is =
       dealt-snoc n i fs gs (firsts owners i) (let o = get_or owners i 0 in task_at o o) count lists is
-      ∙ ap (dealt n) (sym (ap (map (λ o. task_at o o)) (take_more owners i 0 within) ∙ map-append (λ o. task_at o o) (take i owners) (get_or owners i 0 ∷ [])))
+      ∙ ap (task_lists n) (sym (ap (map (λ o. task_at o o)) (take_more owners i 0 within) ∙ map-append (λ o. task_at o o) (take i owners) (get_or owners i 0 ∷ [])))
 
 pub add-requires-clause-worker : goal.add-requires-clause-worker
 add-requires-clause-worker c =

@@ -1,5 +1,5 @@
 use Rattle.std.proofs.Common.{[], length, replicate, ap, ◌∙◌, arith}
-use Rattle.scan_job.specs.Shared.{lent}
+use Rattle.scan_job.specs.Shared.{shared_behind}
 use Rattle.scan_job.proofs.Starting.{first-ready}
 use Rattle.scan_job.proofs.OwnerCells.{few-owners}
 use Rattle.scan_job.proofs.PhaseRuns.{owner-start, owner-begun}
@@ -8,7 +8,7 @@ use Rattle.owner_phase.proofs.owners.begin_owner_phase.Goals as goal
 
 pub add_owners-requires : goal.add_owners-requires
 add_owners-requires c =
-    let s = lent c.args.shared.now in
+    let s = shared_behind c.args.shared.now in
     let can = c.requires in
     let ready = (first-ready s c.args.jobs.now.items can.some can.ready).1 in
     let few = few-owners s.table s.roles ready.roles in
@@ -22,7 +22,7 @@ add_owners-requires c =
 
 pub returns-clause-begun : goal.returns-clause-begun
 returns-clause-begun c =
-    let s = lent c.args.shared.now in
+    let s = shared_behind c.args.shared.now in
     let js = c.args.jobs.now.items in
     owner-begun s js c.args.first.now c.requires (record {
       start = owner-start s js c.args.first.now c.requires;

@@ -4,7 +4,7 @@ use Rattle.graph_meaning.specs.Roles.{id_at}
 use Rattle.path_cert.specs.declared.start.Start.{Start}
 use Rattle.path_cert.specs.declared.start.Start.TheVariants.{Owners}
 use Rattle.path_cert.specs.Levels.{LevelTable, AreLevelsOf, search_of, sources_of, is_new}
-use Rattle.path_cert.specs.Frontiers.{HasTaken, Grows}
+use Rattle.path_cert.specs.Frontiers.{HasTaken, FrontGrows}
 use Rattle.path_cert.specs.Fronts.{front_of}
 use Rattle.path_cert.specs.Ancestors.{AreAncestors}
 use Rattle.path_cert.proofs.ByIds.{by_id-held, owners-held}
@@ -36,7 +36,7 @@ returns c =
           let taken = subst (λ owners. HasTaken p Owners (ways_from p.table (map (id_at p.cells) owners)) (front_of w.take_owners.new.self)) w.owners.ensures w.take_owners.ensures.taken in
           rw w.search-is (subst (λ (st : Start). HasTaken p st (sources_of p c.args.roles.now st) (front_of w.take_owners.new.self)) (sym w.in-Owners.is) taken)
     ] in
-    let grows : Grows c.args.table.now (front_of c.in_ok-search.search) (front_of c.match-start.search) = elim c.match-start.branch [
+    let grows : FrontGrows c.args.table.now (front_of c.in_ok-search.search) (front_of c.match-start.search) = elim c.match-start.branch [
       | in-Roots w ↦ rw w.search-is w.take_roots.ensures.grows
       | in-Owners w ↦ rw w.search-is w.take_owners.ensures.grows
     ] in

@@ -1,7 +1,7 @@
 use Rattle.std.proofs.Common.{◌≡◌, ◌≤◌, ℕ, List, Option, length, get_or}
 use Rattle.graph_meaning.specs.Heap.{Heap}
 use Rattle.graph_meaning.specs.Roles.{no_roles}
-use Rattle.reference_search.specs.References.{KeepsTraced}
+use Rattle.reference_search.specs.References.{KeptAreTraced}
 use Rattle.verdict_list.proofs.Counting.{AreCounted}
 use Rattle.plain_collection.proofs.instances.count_instances.Given as goal
 
@@ -10,5 +10,6 @@ abbrev pub invariant-loop-number : goal.invariant-loop-number
 invariant-loop-number l = record {
   counts : length l.counts.items ≡ length l.table.table.kinds;
   few : (kind : ℕ) → get_or l.counts.items kind 0 ≤ l.number;
-  counted : (h : Heap) → KeepsTraced l.table h l.kept → (places : List (Option ℕ)) × (length places ≡ length l.table.table.kinds) × AreCounted l.table (no_roles 0 0) h l.counts.items places l.number;
+  counted : (h : Heap) → KeptAreTraced l.table h l.kept →
+      (places : List (Option ℕ)) × (length places ≡ length l.table.table.kinds) × AreCounted l.table (no_roles 0 0) h l.counts.items places l.number;
 }

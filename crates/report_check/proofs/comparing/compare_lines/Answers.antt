@@ -2,7 +2,7 @@ use Rattle.std.proofs.Common.{arith, inr, refl}
 use Rattle.std.proofs.lemmas.Result.{IfOk-weaker}
 use Rattle.heap_base.specs.Streams.{stream_of}
 use Rattle.trace_run.proofs.Endings.{Rose-earlier}
-use Rattle.report_check.specs.States.{state_in}
+use Rattle.report_check.specs.States.{checked_state}
 use Rattle.report_check.proofs.Running.{begins, ends-line, ends-there, goes-on, leaves-fewer, line-too_long, moment, next-number, trace-too_long}
 use Rattle.report_check.proofs.comparing.compare_lines.Goals as goal
 
@@ -37,7 +37,7 @@ returns-in-Ok-Ends-clause-tells g c =
     let trace = stream_of g.A.Source.left g.A.Source.faults c.next.new.source in
     let steps = rw c.in-Ok-Some.field-0-is at c.in-Ok-Some.ensures.1 in
     let flow = rw c.in-Ok-Ends.field-0-is at (c.in-Ok-Ends.ensures.compares _ under_way.written under_way.equal) in
-    ends-line under_way trace _ _ _ (state_in c.compare_line.new.self.checking) (g.B.Source.left c.compare_line.new.report) c.compare_line.new.self.comparison _ steps flow
+    ends-line under_way trace _ _ _ (checked_state c.compare_line.new.self.checking) (g.B.Source.left c.compare_line.new.report) c.compare_line.new.self.comparison _ steps flow
 
 pub returns-in-Ok-None-clause-cause : goal.returns-in-Ok-None-clause-cause
 returns-in-Ok-None-clause-cause g c = λ failed. inr (Rose-earlier _ _ _ c.trace.invariant.0.later (c.compare_end.ensures.cause failed))

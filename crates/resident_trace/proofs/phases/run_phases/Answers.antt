@@ -3,11 +3,11 @@ use Rattle.std.specs.Arc.{arc_value}
 use Rattle.std.proofs.lemmas.Result.{IfOk-weaker}
 use Rattle.steal_pool.specs.Runs.{Workload}
 use Rattle.scan_job.specs.Jobs.{graph_in}
-use Rattle.scan_job.specs.Phases.{CanBegin, HasBegun, HasRun, AreUnderOwners, all_held, owner_firsts, held_firsts, from_owners, from_held, from_roots}
+use Rattle.scan_job.specs.Phases.{CanBeginPhase, HasBegun, HasRunJobs, AreUnderOwners, all_held, owner_firsts, held_firsts, from_owners, from_held, from_roots}
 use Rattle.scan_job.specs.States.{ScanState}
 use Rattle.scan_job.proofs.Gaining.{held-under}
 use Rattle.heap_trace.specs.TracedCells.{ThreePhases}
-use Rattle.resident_trace.specs.Scans.{owned}
+use Rattle.resident_trace.specs.Scans.{shared_by_scan}
 use Rattle.resident_trace.proofs.Went.{Begun, can-run, gained, as-many, goes-on}
 use Rattle.resident_trace.proofs.phases.run_phases.Given as given
 use Rattle.resident_trace.proofs.phases.run_phases.Goals as goal
@@ -30,7 +30,7 @@ taken_up g c =
 
 -- and those from the roots, over what is owned
 roots : (g : given.Over) (c : After-begin_root_phase g)
-    → HasBegun (owned (arc_value c.args.context.now.shared.now)) from_roots c.in_ok-after_take_up.after_take_up.items
+    → HasBegun (shared_by_scan (arc_value c.args.context.now.shared.now)) from_roots c.in_ok-after_take_up.after_take_up.items
     (record { jobs = c.begin_root_phase.new.jobs.items; first = c.begin_root_phase.new.first.lists })
 roots g c =
     let bs = c.begin_root_phase.new.jobs.items in
@@ -44,12 +44,12 @@ run_jobs-requires-clause-can g c κs within =
 pub begin_take_up-requires-clause-begin : goal.begin_take_up-requires-clause-begin
 begin_take_up-requires-clause-begin g c =
     let b = owners g (goal.at.begin_take_up-requires-clause-begin g c).After-begin_owner_phase in
-    subst (λ x. CanBegin x c.in_ok-after_owners.after_owners.items c.begin_owner_phase.new.first) (sym c.lend-2.ensures)
+    subst (λ x. CanBeginPhase x c.in_ok-after_owners.after_owners.items c.begin_owner_phase.new.first) (sym c.lend-2.ensures)
     (goes-on from_owners c.lend.ensures b c.in_ok-after_owners.ensures.ran 67108866 (omega arith) c.requires.begin c.requires.turns).0
 
 pub begin_take_up-requires-clause-held : goal.begin_take_up-requires-clause-held
 begin_take_up-requires-clause-held g c =
-    let s = owned (arc_value c.args.context.now.shared.now) in
+    let s = shared_by_scan (arc_value c.args.context.now.shared.now) in
     let b = owners g (goal.at.begin_take_up-requires-clause-held g c).After-begin_owner_phase in
     let ks = c.in_ok-after_owners.after_owners.items in
     subst (λ x. AreUnderOwners (graph_in x) (all_held ks)) (sym c.lend-2.ensures)
@@ -70,7 +70,7 @@ begin_root_phase-requires g c =
     let at = goal.at.begin_root_phase-requires g c in
     let held = all_held c.in_ok-after_owners.after_owners.items in
     let went = goes-on from_owners c.lend.ensures (owners g at.After-begin_owner_phase) c.in_ok-after_owners.ensures.ran 67108866 (omega arith) c.requires.begin c.requires.turns in
-    subst (λ x. CanBegin x c.in_ok-after_take_up.after_take_up.items c.begin_take_up.new.first) (sym c.lend-3.ensures)
+    subst (λ x. CanBeginPhase x c.in_ok-after_take_up.after_take_up.items c.begin_take_up.new.first) (sym c.lend-3.ensures)
     (goes-on (from_held held) c.lend-2.ensures (taken_up g at.After-begin_take_up) c.in_ok-after_take_up.ensures.ran 33554433 (omega arith) went.0 went.1).0
 
 pub run_jobs-requires-3-clause-can : goal.run_jobs-requires-3-clause-can
@@ -88,12 +88,12 @@ run_jobs-requires-3-clause-jobs g c κs within =
 
 pub returns-clause-phases : goal.returns-clause-phases
 returns-clause-phases g c =
-    let s = owned (arc_value c.args.context.now.shared.now) in
+    let s = shared_by_scan (arc_value c.args.context.now.shared.now) in
     let at = goal.at.returns-clause-phases g c in
     let owned_jobs = c.in_ok-after_owners.after_owners.items in
     let load : Workload ScanState = record { jobs = c.begin_root_phase.new.jobs.items; first = c.begin_root_phase.new.first.lists } in
     let begun = roots g at.After-begin_root_phase in
-    IfOk-weaker c.run_jobs-3.result (λ ms. HasRun s load ms.items) (λ ms. ThreePhases (graph_in s) c.args.jobs.items ms.items)
+    IfOk-weaker c.run_jobs-3.result (λ ms. HasRunJobs s load ms.items) (λ ms. ThreePhases (graph_in s) c.args.jobs.items ms.items)
     (λ ms ran. record {
       owned = owned_jobs;
       taken_up = c.in_ok-after_take_up.after_take_up.items;

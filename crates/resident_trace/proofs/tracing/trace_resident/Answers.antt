@@ -6,12 +6,13 @@ use Rattle.heap_base.specs.Counting.{bit, is_positive}
 use Rattle.header_rule.specs.Passes.{ArePassesOf, all_adds, all_wins}
 use Rattle.scan_job.specs.Cells.{graph_of}
 use Rattle.scan_job.specs.Jobs.{graph_in}
-use Rattle.scan_job.specs.Phases.{CanBegin}
-use Rattle.scan_job.specs.Shared.{Shared}
-use Rattle.heap_trace.specs.TracedCells.{AreWonOnce, IsNewFor, ThreePhases, all_tallies, passes_of}
+use Rattle.scan_job.specs.Phases.{CanBeginPhase}
+use Rattle.scan_job.specs.Shared.{SharedHeap}
+use Rattle.scan_job.specs.States.{passes_of}
+use Rattle.heap_trace.specs.TracedCells.{AreWonOnce, IsNewFor, ThreePhases, all_tallies}
 use Rattle.heap_trace.proofs.TracedWords.{AreClosed, are-closed, is-trace, count-of}
 use Rattle.heap_trace.proofs.WholeTrace.{can-begin, all-new, many-after, passes-after}
-use Rattle.resident_trace.specs.Scans.{owned}
+use Rattle.resident_trace.specs.Scans.{shared_by_scan}
 use Rattle.resident_trace.specs.declared.scan.ResidentScan.{ResidentScan}
 use Rattle.resident_trace.proofs.Tallies.{few-tallied}
 use Rattle.resident_trace.proofs.tracing.trace_resident.Goals as goal
@@ -20,8 +21,8 @@ use Rattle.resident_trace.proofs.tracing.trace_resident.Goals.{In_ok-jobs, In_ok
 pub run_phases-requires-clause-begin : goal.run_phases-requires-clause-begin
 run_phases-requires-clause-begin g c κs within =
     let m = c.in_ok-memory.memory in
-    let s : Shared = record { headers = m.headers; table = c.args.table.now; roles = c.args.roles.now } in
-    let begins : CanBegin s m.jobs.items m.first = can-begin s m.jobs.items m.first (record {
+    let s : SharedHeap = record { headers = m.headers; table = c.args.table.now; roles = c.args.roles.now } in
+    let begins : CanBeginPhase s m.jobs.items m.first = can-begin s m.jobs.items m.first (record {
       passes = m.pass_each;
       new = subst (λ n. All (IsNewFor m.headers.cells n) m.jobs.items) (c.in_ok-memory.ensures.kinds ∙ c.kinds.ensures.count) m.new_jobs;
       cells = c.in_ok-memory.ensures.cells ∙ c.cells-cells.ensures.count;
@@ -31,12 +32,12 @@ run_phases-requires-clause-begin g c κs within =
       list_room = m.list_room;
     })
     c.requires.roles c.cells-cells.ensures.placed c.cells-cells.ensures.sound in
-    subst (λ x. CanBegin x m.jobs.items m.first) (sym c.in_ok-shared.ensures) begins
+    subst (λ x. CanBeginPhase x m.jobs.items m.first) (sym c.in_ok-shared.ensures) begins
 
 pub merge_tallies-requires-clause-few : goal.merge_tallies-requires-clause-few
 merge_tallies-requires-clause-few g c =
     let m = c.in_ok-memory.memory in
-    let many = many-after (graph_in (owned (arc_value c.in_ok-shared.shared))) m.jobs.items c.in_ok-jobs.jobs.items c.in_ok-jobs.ensures.phases in
+    let many = many-after (graph_in (shared_by_scan (arc_value c.in_ok-shared.shared))) m.jobs.items c.in_ok-jobs.jobs.items c.in_ok-jobs.ensures.phases in
     let few = m.few_jobs in
     let all = ap length c.deref.ensures.value in
     omega arith
@@ -44,29 +45,29 @@ merge_tallies-requires-clause-few g c =
 pub take_passes-requires-clause-room : goal.take_passes-requires-clause-room
 take_passes-requires-clause-room g c =
     let m = c.in_ok-memory.memory in
-    let many = many-after (graph_in (owned (arc_value c.in_ok-shared.shared))) m.jobs.items c.in_ok-jobs.jobs.items c.in_ok-jobs.ensures.phases in
+    let many = many-after (graph_in (shared_by_scan (arc_value c.in_ok-shared.shared))) m.jobs.items c.in_ok-jobs.jobs.items c.in_ok-jobs.ensures.phases in
     let room = m.pass_room in
     omega arith
 
 pub read_all-requires : goal.read_all-requires
 read_all-requires g c =
     let m = c.in_ok-memory.memory in
-    let s = owned (arc_value c.in_ok-shared.shared) in
+    let s = shared_by_scan (arc_value c.in_ok-shared.shared) in
     let js = m.jobs.items in
     let ms = c.in_ok-jobs.jobs.items in
-    let given : ArePassesOf s.headers (passes_of js) = subst (λ (x : Shared). ArePassesOf x.headers (passes_of js)) (sym c.in_ok-shared.ensures) m.pass_each in
+    let given : ArePassesOf s.headers (passes_of js) = subst (λ (x : SharedHeap). ArePassesOf x.headers (passes_of js)) (sym c.in_ok-shared.ensures) m.pass_each in
     let kept : ArePassesOf s.headers (passes_of ms) = passes-after (graph_in s) js ms c.in_ok-jobs.ensures.phases s c.in_ok-jobs.ensures.ready given in
     let there : ArePassesOf c.deref-2.result.now.headers (passes_of ms) = subst (λ (x : ResidentScan). ArePassesOf x.headers (passes_of ms)) (sym c.deref-2.ensures) kept in
     record { passes = subst (ArePassesOf c.deref-2.result.now.headers) (sym c.take_passes.ensures) there }
 
 -- the phases over what the table and the roles say
 phases_are : (g : _) (c : In_ok-jobs g) → ThreePhases (graph_of c.args.table.now c.args.roles.now) c.in_ok-memory.memory.jobs.items c.in_ok-jobs.jobs.items
-phases_are g c = subst (λ (x : Shared). ThreePhases (graph_in x) c.in_ok-memory.memory.jobs.items c.in_ok-jobs.jobs.items) c.in_ok-shared.ensures c.in_ok-jobs.ensures.phases
+phases_are g c = subst (λ (x : SharedHeap). ThreePhases (graph_in x) c.in_ok-memory.memory.jobs.items c.in_ok-jobs.jobs.items) c.in_ok-shared.ensures c.in_ok-jobs.ensures.phases
 
 -- there is a header for each cell
 cells_are : (g : _) (c : In_ok-words g) → c.deref-2.result.now.headers.cells ≡ length c.args.table.now.cells
 cells_are g c =
-    ap (λ (x : ResidentScan). x.headers.cells) c.deref-2.ensures ∙ ap (λ (x : Shared). x.headers.cells) c.in_ok-shared.ensures ∙ c.in_ok-memory.ensures.cells ∙ c.cells-cells.ensures.count
+    ap (λ (x : ResidentScan). x.headers.cells) c.deref-2.ensures ∙ ap (λ (x : SharedHeap). x.headers.cells) c.in_ok-shared.ensures ∙ c.in_ok-memory.ensures.cells ∙ c.cells-cells.ensures.count
 
 -- the words are those of the jobs after the phases
 closed : (g : _) (c : In_ok-words g) → AreClosed (length c.args.table.now.cells) c.in_ok-words.words c.in_ok-jobs.jobs.items

@@ -1,6 +1,6 @@
 use Rattle.std.proofs.Common.{◌≡◌, ◌<◌, length, refl, sym, ap, ◌∙◌, arith}
 use Rattle.std.proofs.lemmas.List.{length-replicate}
-use Rattle.scan_job.specs.Shared.{lent}
+use Rattle.scan_job.specs.Shared.{shared_behind}
 use Rattle.scan_job.proofs.Placing.{is-whole, root-there, held-from_node}
 use Rattle.root_phase.specs.Roots.{JobAndLists}
 use Rattle.root_phase.proofs.RootMeetings.{NextRoot, meets-no_roots, turns-left, passed-by, below, has-room, goes-on}
@@ -19,7 +19,7 @@ as_many : (c : After-meet_one) → c.args.workers ≡ length c.args.first.now.li
 as_many c = sym (ap length c.requires.lists ∙ length-replicate c.args.workers _)
 
 -- this root is met
-next : (c : After-meet_one) → NextRoot (lent c.args.shared.now) c.loop-root.root c.root_cell-cell.result c.meet_one.result c.loop-root.job c.meet_one.new.job
+next : (c : After-meet_one) → NextRoot (shared_behind c.args.shared.now) c.loop-root.root c.root_cell-cell.result c.meet_one.result c.loop-root.job c.meet_one.new.job
 next c = record {
   within = (let e = c.roots-root-end.ensures.count in let l = c.loop-root-test.true in omega arith);
   names = c.root_cell-cell.ensures.cell;
@@ -30,7 +30,7 @@ next c = record {
 
 pub loop-root-init : goal.loop-root-init
 loop-root-init c =
-    let first = meets-no_roots (lent c.args.shared.now) c.args.workers c.args.job.now c.args.first.now.lists c.requires.lists in
+    let first = meets-no_roots (shared_behind c.args.shared.now) c.args.workers c.args.job.now c.args.first.now.lists c.requires.lists in
     record { met = first.0; number = first.1; ready = c.requires.ready; room = refl }
 
 pub meet_one-requires-clause-turns : goal.meet_one-requires-clause-turns
@@ -39,7 +39,7 @@ meet_one-requires-clause-turns c =
     let count = c.roots-root-end.ensures.count in
     let within = c.loop-root-test.true in
     let t =
-    turns-left (lent c.args.shared.now) c.loop-root.root (record { job = c.args.job.now; lists = c.args.first.now.lists })
+    turns-left (shared_behind c.args.shared.now) c.loop-root.root (record { job = c.args.job.now; lists = c.args.first.now.lists })
     (record { job = c.loop-root.job; lists = c.loop-root.first.lists }) c.loop-root.invariant.met (omega arith) in
     omega arith
 

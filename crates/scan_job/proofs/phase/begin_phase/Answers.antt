@@ -1,6 +1,6 @@
 use Rattle.std.proofs.Common.{◌≡◌, ℕ, suc, ◌<◌, List, [], ◌∷◌, length, drop, map, get_or, refl, ap, ◌∙◌, arith}
 use Rattle.std.proofs.lemmas.List.{take_at}
-use Rattle.scan_job.specs.Phases.{begun}
+use Rattle.scan_job.specs.Phases.{starting_in}
 use Rattle.scan_job.proofs.phase.begin_phase.Goals as goal
 
 -- a list is made by a function where each of its elements is
@@ -19,4 +19,4 @@ returns c =
     let len = c.deref_mut-job-items.ensures.len in
     let value = ap length c.deref_mut-job-items.ensures.value in
     take_at is (drop (length is) js) c.args.jobs.now.len (omega arith)
-    ∙ mapped (begun c.args.mode) js is same (λ k d l. c.loop-job.invariant.done k d (omega arith))
+    ∙ mapped (starting_in c.args.mode) js is same (λ k d l. c.loop-job.invariant.done k d (omega arith))

@@ -1,6 +1,6 @@
 use Rattle.std.proofs.Common.{◌≡◌, ◌++◌, vec_len}
-use Rattle.scan_tests.specs.NewJobs.{passes_of}
 use Rattle.scan_tests.proofs.phases.close.Given as goal
+use Rattle.scan_job.specs.States.{passes_of}
 
 abbrev pub invariant-loop-job : goal.invariant-loop-job
 invariant-loop-job l = passes_of l.jobs.items ++ l.passes.items ≡ passes_of l.fn.jobs.items

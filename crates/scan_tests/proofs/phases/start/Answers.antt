@@ -2,8 +2,8 @@ use Rattle.std.proofs.Common.{◌++◌, ◌∷◌, [], length, sym, ap, ◌∙�
 use Rattle.std.specs.List.{All}
 use Rattle.std.proofs.lemmas.List.Elements.{All-pop}
 use Rattle.header_rule.specs.Passes.{IsFresh, IsPassOf}
-use Rattle.scan_job.specs.States.{ScanState, new_state}
-use Rattle.scan_tests.specs.NewJobs.{IsNewJob, passes_of}
+use Rattle.scan_job.specs.States.{ScanState, new_state, passes_of}
+use Rattle.scan_tests.specs.NewJobs.{IsNewJob}
 use Rattle.scan_job.proofs.Starting.{all-cons}
 use Rattle.scan_tests.proofs.phases.start.Goals as goal
 

@@ -1,8 +1,9 @@
 use Rattle.std.proofs.Common.{◌≡◌, ◌+◌, ◌++◌, vec_len}
 use Rattle.std.specs.List.{All}
 use Rattle.header_rule.specs.Passes.{IsFresh, IsPassOf}
-use Rattle.scan_tests.specs.NewJobs.{IsNewJob, passes_of}
+use Rattle.scan_tests.specs.NewJobs.{IsNewJob}
 use Rattle.scan_tests.proofs.phases.start.Given as goal
+use Rattle.scan_job.specs.States.{passes_of}
 
 abbrev pub invariant-loop-pass : goal.invariant-loop-pass
 invariant-loop-pass l = record {

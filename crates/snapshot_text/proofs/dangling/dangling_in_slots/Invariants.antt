@@ -1,11 +1,11 @@
 use Rattle.std.proofs.Common.{◌≡◌, ◌+◌, ◌≤◌, ◌++◌, List, drop}
 use Rattle.snapshot_text.specs.declared.line.Line.{Line}
-use Rattle.snapshot_text.specs.Text.{slot_lines}
+use Rattle.snapshot_text.specs.Text.{lines_of_slots}
 use Rattle.snapshot_text.specs.Dangling.{dangling_from}
 use Rattle.snapshot_text.proofs.dangling.dangling_in_slots.Given as goal
 
 abbrev pub invariant-loop-place : goal.invariant-loop-place
 invariant-loop-place l = record {
-  found : (rest : List Line) → dangling_from l.ids l.fn.line (slot_lines 0 l.slots ++ rest) ≡ dangling_from l.ids l.next (slot_lines l.place (drop l.place l.slots) ++ rest);
+  found : (rest : List Line) → dangling_from l.ids l.fn.line (lines_of_slots 0 l.slots ++ rest) ≡ dangling_from l.ids l.next (lines_of_slots l.place (drop l.place l.slots) ++ rest);
   bound : l.next ≤ l.fn.line + l.place;
 }

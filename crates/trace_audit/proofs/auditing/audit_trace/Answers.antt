@@ -2,7 +2,7 @@ use Rattle.std.proofs.Common.{refl}
 use Rattle.heap_base.specs.Streams.{stream_of}
 use Rattle.heap_base.specs.declared.limits.TheConstants.{LONGEST_TRACE}
 use Rattle.trace_run.specs.Program.{report_by}
-use Rattle.trace_run.specs.Outcome.{seen, trace_report}
+use Rattle.trace_run.specs.Outcome.{outside_of, trace_report}
 use Rattle.trace_run.proofs.Causes.{equal_reports}
 use Rattle.trace_run.proofs.Endings.{nothing_written}
 use Rattle.audit_program.specs.Audits.{audit_meaning, audit_report, rules_by}
@@ -16,7 +16,7 @@ returns-in_default g c = nothing_written (trace_report LONGEST_TRACE (audit_repo
 pub returns : goal.returns
 returns g c =
     let rules = rules_by c.args.audit.plan.paths c.args.audit.plan.react in
-    let old = seen (stream_of g.S.Source.left g.S.Source.faults c.args.source.now) (stream_of g.K.Sink.held g.K.Sink.faults c.args.sink.now) in
-    let new = seen (stream_of g.S.Source.left g.S.Source.faults c.run.new.source) (stream_of g.K.Sink.held g.K.Sink.faults c.run.new.sink) in
+    let old = outside_of (stream_of g.S.Source.left g.S.Source.faults c.args.source.now) (stream_of g.K.Sink.held g.K.Sink.faults c.args.sink.now) in
+    let new = outside_of (stream_of g.S.Source.left g.S.Source.faults c.run.new.source) (stream_of g.K.Sink.held g.K.Sink.faults c.run.new.sink) in
     equal_reports LONGEST_TRACE (report_by audit_meaning (auditor_state rules c.in-Ok.auditor)) (audit_report rules) old new c.run.result
     (is_reported rules c.in-Ok.auditor _ c.in-Ok.ensures.first) c.run.ensures

@@ -2,7 +2,7 @@ use Rattle.std.proofs.Common.{◌<◌, false, get_or, length, map, ap, sym, subs
 use Rattle.std.specs.List.{All}
 use Rattle.graph_meaning.specs.Collecting.{violating_dead, violating_kinds, violating_unshared, dead_verdict, instances_verdict, unshared_verdict}
 use Rattle.object_table.specs.Placed.{id_in}
-use Rattle.reference_search.specs.References.{KeepsTraced}
+use Rattle.reference_search.specs.References.{KeptAreTraced}
 use Rattle.verdict_list.specs.Counts.{counted_in}
 use Rattle.verdict_list.specs.Kinds.{named_count, SaysOf, HasFirst}
 use Rattle.verdict_list.specs.Listed.{GoesOn, ShowsPaths}
@@ -36,7 +36,7 @@ returns-clause-verdicts g c h are =
     let places = c.in_ok-places.places.items in
     let counts = c.in_ok-counts.counts.items in
     let kinds = c.in_ok-kinds.kinds.items in
-    let keeps : KeepsTraced p h c.kept.result.now = λ x id held. ap (λ ks. get_or ks x false) c.kept.ensures ∙ trace.kept x id held in
+    let keeps : KeptAreTraced p h c.kept.result.now = λ x id held. ap (λ ks. get_or ks x false) c.kept.ensures ∙ trace.kept x id held in
     let each = rw (c.deref-2.ensures.value) at c.in_ok-counts.ensures.each in
     let same = c.in_ok-counts.ensures.kinds ∙ c.deref.ensures.value in
     let says = all_say p r t places h trace counts each c.in_ok-counts.ensures.seen in
@@ -58,7 +58,7 @@ returns-clause-verdicts g c h are =
     let dead : GoesOn n c.empty-list.result (map (dead_verdict h) (violating_dead h)) c.push_dead.new.list =
     subst (λ vs. GoesOn n c.empty-list.result vs c.push_dead.new.list)
     (map_held (id_in p) (dead_verdict h) c.deref-4.result.now (violating_dead h)
-    (ap (map (id_in p)) c.deref-4.ensures.value ∙ c.in_ok-dead.ensures.violating h are)) (c.in_ok-push_dead.ensures.verdicts h shows) in
+    (ap (map (id_in p)) c.deref-4.ensures.value ∙ c.in_ok-dead.ensures.violators h are)) (c.in_ok-push_dead.ensures.verdicts h shows) in
     let instances : GoesOn n c.push_dead.new.list (map (instances_verdict h) (violating_kinds h)) c.push_instances.new.list =
     subst (λ vs. GoesOn n c.push_dead.new.list vs c.push_instances.new.list)
     (map_pairs (instances_verdict h) (named_count p) c.deref-5.result.now (violating_kinds h)
@@ -70,7 +70,7 @@ returns-clause-verdicts g c h are =
     let unshared : GoesOn n c.push_instances.new.list (map (unshared_verdict count h) (violating_unshared h)) c.push_unshared.new.list =
     subst (λ vs. GoesOn n c.push_instances.new.list vs c.push_unshared.new.list)
     (map_held (id_in p) (unshared_verdict count h) c.deref-6.result.now (violating_unshared h)
-    (ap (map (id_in p)) c.deref-6.ensures.value ∙ c.in_ok-unshared.ensures.violating h are))
+    (ap (map (id_in p)) c.deref-6.ensures.value ∙ c.in_ok-unshared.ensures.violators h are))
     (c.in_ok-push_unshared.ensures.verdicts h shows
     (rw (c.deref-6.ensures.value, c.deref-7.ensures.value)
     ((rw c.deref-3.ensures.value at c.in_ok-references.ensures.first) h (record { stand = stand; keeps = keeps })))) in

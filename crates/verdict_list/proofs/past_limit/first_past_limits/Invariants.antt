@@ -3,7 +3,7 @@ use Rattle.std.specs.Option.{IsSome, IfSome}
 use Rattle.graph_meaning.specs.Heap.{Heap}
 use Rattle.object_table.specs.Placed.{id_in}
 use Rattle.assert_registry.specs.Laws.{StandFor}
-use Rattle.reference_search.specs.References.{KeepsTraced}
+use Rattle.reference_search.specs.References.{KeptAreTraced}
 use Rattle.verdict_list.proofs.Counting.{AreCounted}
 use Rattle.verdict_list.proofs.past_limit.first_past_limits.Given as goal
 
@@ -13,5 +13,5 @@ invariant-loop-number l = record {
   places : length l.places.items ≡ length l.table.table.kinds;
   few : (kind : ℕ) → get_or l.counts.items kind 0 ≤ l.number;
   held : (kind : ℕ) → IfSome (get_or l.places.items kind None) (λ cell. IsSome (id_in l.table cell));
-  counted : (h : Heap) → StandFor l.table l.roles h → KeepsTraced l.table h l.kept → AreCounted l.table l.roles h l.counts.items l.places.items l.number;
+  counted : (h : Heap) → StandFor l.table l.roles h → KeptAreTraced l.table h l.kept → AreCounted l.table l.roles h l.counts.items l.places.items l.number;
 }

@@ -1,6 +1,6 @@
 use Rattle.std.proofs.lemmas.Result.{IfOk-weaker}
 use Rattle.graph_meaning.specs.Heap.{Heap}
-use Rattle.object_table.specs.Placed.{Placed}
+use Rattle.object_table.specs.Placed.{PlacedTable}
 use Rattle.heap_trace.specs.Results.{TraceResult}
 use Rattle.heap_trace.specs.Traces.{IsTraceOf}
 use Rattle.verdict_list.specs.Counts.{AreCountsOf}
@@ -8,7 +8,7 @@ use Rattle.verdicts.specs.Verdicts.{counts_of}
 use Rattle.verdicts.proofs.listing.verdicts.Goals as goal
 
 -- what a trace of the heap counted is counted of the heap
-counts-are : (p : Placed) (h : Heap) (t : TraceResult) → IsTraceOf p h t → AreCountsOf p h (counts_of t)
+counts-are : (p : PlacedTable) (h : Heap) (t : TraceResult) → IsTraceOf p h t → AreCountsOf p h (counts_of t)
 counts-are p h t trace = record {
   cells = trace.cells;
   each = trace.each;

@@ -4,7 +4,7 @@ use Rattle.std.specs.Ordering.{nat_cmp}
 use Rattle.graph_meaning.specs.declared.event.Event.TheVariants.{AssertAllDead}
 use Rattle.graph_meaning.specs.declared.refusal.Stop.TheVariants.{OutOfMemory, Refused}
 use Rattle.region_log.specs.Regions.{RegionTable}
-use Rattle.sweep.specs.Parts.{Parts}
+use Rattle.sweep.specs.Parts.{PartsOfHeap}
 use Rattle.heap_parts.specs.Parts.{AreParts, Steps, placed_heap}
 use Rattle.heap_parts.proofs.Operations.{EndsRegion, steps-assert_all_dead}
 use Rattle.heap_parts.proofs.Stepping.{handed_on, parts_in}
@@ -27,10 +27,10 @@ returns-in_err-assert_dead_all c =
 
 module _ (c : In_ok-finish) where
   -- the parts before the region ends, and after it
-  abbrev before : Parts
+  abbrev before : PartsOfHeap
   before = record { placed = c.self.inside.table; assertions = c.self.inside.registry; regions = c.self.inside.regions }
 
-  abbrev after : Parts
+  abbrev after : PartsOfHeap
   after = record { placed = c.self.inside.table; assertions = c.assert_dead_all.new.self; regions = c.finish.new.self }
 
   ends : EndsRegion before c.args.thread after

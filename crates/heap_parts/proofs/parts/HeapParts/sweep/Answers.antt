@@ -1,7 +1,7 @@
 use Rattle.std.proofs.Common.{length, ◌-◌, sym, ap, subst, ◌∙◌}
 use Rattle.graph_meaning.specs.Assertions.{traced_ids}
 use Rattle.graph_meaning.specs.Collecting.{after_sweep}
-use Rattle.sweep.specs.Parts.{Parts, SweepsHeap}
+use Rattle.sweep.specs.Parts.{PartsOfHeap, SweepsHeap}
 use Rattle.heap_parts.specs.Parts.{FlagTraced, PlacedHeap, heap_of, placed_heap}
 use Rattle.heap_parts.proofs.AfterSweep.{are_traced, traced_closed, parts_of_heap, heap_left, parts_left}
 use Rattle.heap_parts.proofs.Stepping.{parts_in}
@@ -14,10 +14,10 @@ sweep-requires-clause-closed c =
 
 module _ (c : goal.After-sweep) where
   -- the parts before the sweep, and after it
-  abbrev before : Parts
+  abbrev before : PartsOfHeap
   before = record { placed = c.self.inside.table; assertions = c.self.inside.registry; regions = c.self.inside.regions }
 
-  abbrev after : Parts
+  abbrev after : PartsOfHeap
   after = record { placed = c.sweep.new.table; assertions = c.sweep.new.registry; regions = c.sweep.new.regions }
 
   tell : FlagTraced (placed_heap before) c.args.kept.now

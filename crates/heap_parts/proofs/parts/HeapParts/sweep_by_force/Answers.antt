@@ -2,7 +2,7 @@ use Rattle.std.proofs.Common.{length, ◌-◌, sym, ap, refl, subst, ◌∙◌}
 use Rattle.graph_meaning.specs.Assertions.{traced_ids}
 use Rattle.graph_meaning.specs.Collecting.{after_collection, after_sweep, holders_of, violating_dead}
 use Rattle.graph_meaning.specs.Reach.{has_id}
-use Rattle.sweep.specs.Parts.{Parts, SweepsHeap}
+use Rattle.sweep.specs.Parts.{PartsOfHeap, SweepsHeap}
 use Rattle.heap_parts.specs.Parts.{AreDeadAndTraced, FlagTraced, PlacedHeap, heap_of, placed_heap}
 use Rattle.heap_parts.proofs.Cleared.{IsSweptByForce, swept_by_force}
 use Rattle.heap_parts.proofs.AfterSweep.{are_traced, traced_closed, parts_of_heap}
@@ -16,13 +16,13 @@ sweep-freed-requires-clause-closed c =
 
 module _ (c : goal.After-clear_to-cleared) where
   -- the parts before the sweep, after it, and when the flagged objects are cut off
-  abbrev before : Parts
+  abbrev before : PartsOfHeap
   before = record { placed = c.self.inside.table; assertions = c.self.inside.registry; regions = c.self.inside.regions }
 
-  abbrev swept : Parts
+  abbrev swept : PartsOfHeap
   swept = record { placed = c.sweep-freed.new.table; assertions = c.sweep-freed.new.registry; regions = c.sweep-freed.new.regions }
 
-  abbrev after : Parts
+  abbrev after : PartsOfHeap
   after = record { placed = c.clear_to-cleared.new.self; assertions = c.sweep-freed.new.registry; regions = c.sweep-freed.new.regions }
 
   tell : FlagTraced (placed_heap before) c.args.kept.now

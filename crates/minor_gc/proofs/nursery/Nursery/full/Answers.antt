@@ -1,7 +1,7 @@
 use Rattle.std.proofs.Common.{◌≡◌, ◌≤◌, length, false, refl, ◌∙◌, arith}
 use Rattle.std.specs.Vec.{vec_capacity}
 use Rattle.minor_gc.specs.Generations.{kept_by_full}
-use Rattle.minor_gc.specs.Nurseries.{Parts, heap_of}
+use Rattle.minor_gc.specs.Nurseries.{NurseryParts, generations_of}
 use Rattle.minor_gc.specs.Searches.{marks_of}
 use Rattle.minor_gc.proofs.Inside.{parts_in, IsSoundNursery}
 use Rattle.minor_gc.proofs.Fronts.{length-front, get_or-front}
@@ -13,7 +13,7 @@ use Rattle.minor_gc.proofs.nursery.Nursery.full.Goals.{After-len-remembered, Aft
 
 -- the nursery before the collection
 module _ (c : After-len-remembered) where
-  abbrev before : Parts
+  abbrev before : NurseryParts
   before = parts_in c.self.inside
 
   sound : IsSoundNursery before
@@ -24,14 +24,14 @@ module _ (c : After-deref-2) where
   run : HasRun c.self.inside.table (marks_of c.take_roots.new.self) (marks_of c.run.new.self)
   run = record { each = c.run.ensures.each; searching = c.run.ensures.searching; done = c.run.ensures.done }
 
-  kept : MarksKept (parts_in c.self.inside) (kept_by_full (heap_of (parts_in c.self.inside))) (marks_of c.run.new.self)
+  kept : MarksKept (parts_in c.self.inside) (kept_by_full (generations_of (parts_in c.self.inside))) (marks_of c.run.new.self)
   kept =
       full_marks (sound (goal.at.keep-requires-clause-closed c).After-len-remembered) (marks_of c.clear.new.self) (marks_of c.take_roots.new.self) (marks_of c.run.new.self)
       c.clear.ensures.marks c.clear.ensures.work c.take_roots.ensures run
 
 -- what the collection left
 module _ (c : goal.After-live) where
-  abbrev after : Parts
+  abbrev after : NurseryParts
   after = record {
     marks = c.drop_cells.new.search.marks.items;
     work = c.drop_cells.new.search.work.items;
@@ -43,7 +43,7 @@ module _ (c : goal.After-live) where
     room = vec_capacity c.clear-2.new.self;
   }
 
-  kept_then : MarksKept (parts_in c.self.inside) (kept_by_full (heap_of (parts_in c.self.inside))) (marks_of c.run.new.self)
+  kept_then : MarksKept (parts_in c.self.inside) (kept_by_full (generations_of (parts_in c.self.inside))) (marks_of c.run.new.self)
   kept_then = kept (goal.at.invariant_of-self c).After-deref-2
 
   fewer : c.cells-cells.result ≤ length c.self.inside.table.cells

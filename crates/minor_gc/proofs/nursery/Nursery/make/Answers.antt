@@ -1,11 +1,11 @@
 use Rattle.std.proofs.Common.{ℕ, [], refl, arith}
 use Rattle.object_table.specs.Placed.{nothing_placed}
-use Rattle.minor_gc.specs.Generations.{remembered}
-use Rattle.minor_gc.specs.Nurseries.{Parts, IsNursery}
+use Rattle.minor_gc.specs.Generations.{remembered_set}
+use Rattle.minor_gc.specs.Nurseries.{NurseryParts, IsNursery}
 use Rattle.minor_gc.proofs.nursery.Nursery.make.Goals as goal
 
-nothing : (room : ℕ) → (let n : Parts = record { placed = nothing_placed; old_up_to = 0; greatest = 0; marks = []; work = []; counts = []; remembered = []; room = room } in IsNursery n)
-unfolding remembered
+nothing : (room : ℕ) → (let n : NurseryParts = record { placed = nothing_placed; old_up_to = 0; greatest = 0; marks = []; work = []; counts = []; remembered = []; room = room } in IsNursery n)
+unfolding remembered_set
 nothing room = record {
   greatest = refl;
   old = omega arith;

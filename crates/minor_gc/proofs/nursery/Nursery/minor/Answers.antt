@@ -2,7 +2,7 @@ use Rattle.std.proofs.Common.{◌≡◌, length, refl, sym, ◌∙◌, arith}
 use Rattle.std.specs.Vec.{vec_capacity}
 use Rattle.minor_gc.specs.Generations.{kept_by_minor}
 use Rattle.minor_gc.specs.Marks.{Marks}
-use Rattle.minor_gc.specs.Nurseries.{Parts, heap_of}
+use Rattle.minor_gc.specs.Nurseries.{NurseryParts, generations_of}
 use Rattle.minor_gc.specs.Searches.{marks_of}
 use Rattle.minor_gc.proofs.Inside.{parts_in, IsSoundNursery}
 use Rattle.minor_gc.proofs.Remembered.{remembered_live, few_remembered, counted_remembered}
@@ -13,7 +13,7 @@ use Rattle.minor_gc.proofs.nursery.Nursery.minor.Goals.{After-len-remembered, Af
 
 -- the nursery before the collection
 module _ (c : After-len-remembered) where
-  abbrev before : Parts
+  abbrev before : NurseryParts
   before = parts_in c.self.inside
 
   sound : IsSoundNursery before
@@ -27,14 +27,14 @@ module _ (c : After-deref-3) where
   run : HasRun c.self.inside.table (marks_of c.take_objects.new.self) marks
   run = record { each = c.run.ensures.each; searching = c.run.ensures.searching; done = c.run.ensures.done }
 
-  kept : MarksKept (parts_in c.self.inside) (kept_by_minor (heap_of (parts_in c.self.inside))) marks
+  kept : MarksKept (parts_in c.self.inside) (kept_by_minor (generations_of (parts_in c.self.inside))) marks
   kept =
       minor_marks (sound (goal.at.keep_above-requires-clause-closed c).After-len-remembered) (marks_of c.take_roots.new.self) (marks_of c.take_objects.new.self) marks
       c.take_roots.ensures (rw c.deref.ensures.value at c.take_objects.ensures) run
 
 -- what the collection left
 module _ (c : goal.After-live) where
-  abbrev after : Parts
+  abbrev after : NurseryParts
   after = record {
     placed = c.keep_above.new.self;
     old_up_to = c.self.inside.greatest;
@@ -46,7 +46,7 @@ module _ (c : goal.After-live) where
     room = vec_capacity c.clear.new.self;
   }
 
-  kept_then : MarksKept (parts_in c.self.inside) (kept_by_minor (heap_of (parts_in c.self.inside))) (marks_of c.run.new.self)
+  kept_then : MarksKept (parts_in c.self.inside) (kept_by_minor (generations_of (parts_in c.self.inside))) (marks_of c.run.new.self)
   kept_then = kept (goal.at.invariant_of-self c).After-deref-3
 
   leaves : LeavesKept (parts_in c.self.inside) (marks_of c.run.new.self) after

@@ -3,12 +3,12 @@ use Rattle.graph_meaning.specs.declared.refusal.Stop.{Stop}
 use Rattle.graph_meaning.specs.Heap.{Table}
 use Rattle.graph_meaning.specs.Step.{with_root}
 use Rattle.graph_meaning.proofs.HeapLemmas.{objects-with_root}
-use Rattle.object_table.specs.Placed.{Placed}
+use Rattle.object_table.specs.Placed.{PlacedTable}
 use Rattle.minor_gc.proofs.Rooted.{SameObjects, same_nursery, greatest-with_root}
 use Rattle.minor_gc.proofs.nursery.Nursery.set_root.Goals as goal
 
 -- whatever the answer, objects and the greatest id are as they were
-objects_stay : (r : Result (Unit {0}) Stop) (p q : Placed) (name : List ℕ) (to : Option ℕ) →
+objects_stay : (r : Result (Unit {0}) Stop) (p q : PlacedTable) (name : List ℕ) (to : Option ℕ) →
     OnOk r (q.table ≡ with_root p.table name to) → OnErr r (q ≡ p) → q.cells ≡ p.cells → SameObjects p q
 objects_stay (Ok x) p q name to set err cells = record {
   objects = ap (λ (t : Table). t.objects) set ∙ objects-with_root p.table name to;
@@ -16,8 +16,8 @@ objects_stay (Ok x) p q name to set err cells = record {
   cells = cells;
 }
 objects_stay (Err e) p q name to set err cells = record {
-  objects = ap (λ (r : Placed). r.table.objects) err;
-  greatest = ap (λ (r : Placed). r.table.greatest) err;
+  objects = ap (λ (r : PlacedTable). r.table.objects) err;
+  greatest = ap (λ (r : PlacedTable). r.table.greatest) err;
   cells = cells;
 }
 

@@ -8,7 +8,7 @@ use Rattle.std.proofs.lemmas.List.{get_or_read}
 use Rattle.heap_base.specs.Counting.{bit}
 use Rattle.graph_meaning.specs.Heap.{Table, targets}
 use Rattle.minor_gc.specs.Generations.{is_young}
-use Rattle.minor_gc.specs.Nurseries.{Parts, heap_of}
+use Rattle.minor_gc.specs.Nurseries.{NurseryParts, generations_of}
 use Rattle.minor_gc.proofs.Inside.{parts_in}
 use Rattle.minor_gc.proofs.Stored.{SlotStore, StoredParts, Stores, StoresInOld, Recounts, has_slot, slot_before, slot_after, slot_was, slot_now, stored_young, stored_old}
 use Rattle.minor_gc.proofs.Stored.{count_changes, count_some, count_few, count_is, marks_tell, within_counts, room_for_it, not_live_refused}
@@ -46,14 +46,14 @@ holds_young-after-requires-clause-placed c = c.cells.ensures.placed
 
 -- the store, and what was read before the count is changed
 module _ (c : After-index_mut) where
-  abbrev before : Parts
+  abbrev before : NurseryParts
   before = parts_in c.self.inside
 
   abbrev write : SlotStore
   write = record { at = c.args.at; slot = c.args.slot; to = c.args.to }
 
   abbrev young : ℕ → Bool
-  young = is_young (heap_of before)
+  young = is_young (generations_of before)
 
   old : StoresInOld before write c.in-Some.cell
   old =

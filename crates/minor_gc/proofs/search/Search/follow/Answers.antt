@@ -6,7 +6,7 @@ use Rattle.graph_meaning.specs.Roles.{id_at}
 use Rattle.object_table.specs.Placed.{id_in, slots_in, slot_in}
 use Rattle.graph_meaning.proofs.EdgesOfSlots.{edges-edge, edges-none, edges-all}
 use Rattle.object_table.proofs.ObjectsByCell.{edges-cell, target-held, no-edge, held-id, held-within}
-use Rattle.minor_gc.specs.Marks.{Meets}
+use Rattle.minor_gc.specs.Marks.{MarksAll}
 use Rattle.minor_gc.specs.Searches.{marks_of}
 use Rattle.minor_gc.proofs.Marking.{MeetsCell, Meets-none, Meets-more}
 use Rattle.minor_gc.proofs.search.Search.follow.Goals as goal
@@ -33,13 +33,13 @@ loop-slot-preserved c =
           } in
           let edges_more = ap ends (edges-edge slots slot held.0 slot_within held.2) ∙ map-append (λ (e : ℕ × ℕ). e.1) (edges_of (take slot slots)) ((slot, held.0) ∷ []) in
           rw w.self-is (record {
-            meets = subst (λ ys. Meets p ys (marks_of c.args.self.now) (marks_of w.meet.new.self)) (sym edges_more) (Meets-more c.requires.placed was.meets met);
+            meets = subst (λ ys. MarksAll p ys (marks_of c.args.self.now) (marks_of w.meet.new.self)) (sym edges_more) (Meets-more c.requires.placed was.meets met);
             left = omega (arith, was.left, w.meet.ensures.left);
           })
       | in_default w ↦
           let none = no-edge edge (sym (sym (ap is_some w.in_default.is) ∙ c.slot_at.ensures.in_a_cell)) in
           rw w.self-is (record {
-            meets = subst (λ es. Meets p (ends es) (marks_of c.args.self.now) (marks_of c.loop-slot.self)) (sym (edges-none slots slot slot_within none)) was.meets;
+            meets = subst (λ es. MarksAll p (ends es) (marks_of c.args.self.now) (marks_of c.loop-slot.self)) (sym (edges-none slots slot slot_within none)) was.meets;
             left = was.left;
           })
     ]
@@ -52,7 +52,7 @@ returns-clause-meets c =
     let p = c.args.table.now in
     let slots = slots_in c.args.table.now c.args.cell in
     let all = edges-all slots c.loop-slot.slot (omega arith) ∙ sym (edges-cell p c.args.cell (id_at p.cells c.args.cell) (held-id p c.args.cell c.requires.cell)) in
-    subst (λ (es : List (ℕ × ℕ)). Meets p (map (λ e. e.1) es) (marks_of c.args.self.now) (marks_of c.loop-slot.self)) all c.loop-slot.invariant.meets
+    subst (λ (es : List (ℕ × ℕ)). MarksAll p (map (λ e. e.1) es) (marks_of c.args.self.now) (marks_of c.loop-slot.self)) all c.loop-slot.invariant.meets
 
 pub meet-requires : goal.meet-requires
 meet-requires c =

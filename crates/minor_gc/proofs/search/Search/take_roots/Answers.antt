@@ -3,7 +3,7 @@ use Rattle.std.proofs.lemmas.List.{map_more}
 use Rattle.std.proofs.lemmas.Option.{slice_get-get_or}
 use Rattle.object_table.specs.Placed.{id_in}
 use Rattle.object_table.proofs.ObjectsByCell.{held-within}
-use Rattle.minor_gc.specs.Marks.{Meets}
+use Rattle.minor_gc.specs.Marks.{MarksAll}
 use Rattle.minor_gc.specs.Searches.{marks_of}
 use Rattle.minor_gc.proofs.Marking.{MeetsCell, Meets-none, Meets-more}
 use Rattle.minor_gc.proofs.search.Search.take_roots.Goals as goal
@@ -38,13 +38,13 @@ loop-root-preserved c =
       marks = c.meet.ensures.marks;
       work = c.meet.ensures.work;
     } in
-    subst (λ ys. Meets p ys (marks_of c.args.self.now) (marks_of c.meet.new.self))
+    subst (λ ys. MarksAll p ys (marks_of c.args.self.now) (marks_of c.meet.new.self))
     (sym (map_more (λ (r : List ℕ × ℕ). r.1) p.table.roots c.loop-root.root nobody (omega arith)))
     (Meets-more c.requires.placed c.loop-root.invariant met)
 
 pub returns : goal.returns
 returns c =
     let p = c.args.table.now in
-    subst (λ (rs : List (List ℕ × ℕ)). Meets p (map (λ r. r.1) rs) (marks_of c.args.self.now) (marks_of c.loop-root.self))
+    subst (λ (rs : List (List ℕ × ℕ)). MarksAll p (map (λ r. r.1) rs) (marks_of c.args.self.now) (marks_of c.loop-root.self))
     (take_all c.loop-root.root p.table.roots (omega arith))
     c.loop-root.invariant

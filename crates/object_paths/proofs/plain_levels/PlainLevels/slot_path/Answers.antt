@@ -7,7 +7,7 @@ use Rattle.graph_meaning.specs.Assertions.{by_slot}
 use Rattle.graph_meaning.specs.Heap.{Heap, edge_of}
 use Rattle.graph_meaning.specs.Paths.{Way, owner_way, reference_way, view_of}
 use Rattle.graph_meaning.specs.Roles.{RoleTable, id_at}
-use Rattle.object_table.specs.Placed.{Placed, slot_in}
+use Rattle.object_table.specs.Placed.{PlacedTable, slot_in}
 use Rattle.path_cert.specs.declared.start.Start.TheVariants.{Roots, Owners}
 use Rattle.path_cert.specs.Levels.{LevelTable, AreLevelsOf, search_of, way_in}
 use Rattle.path_cert.specs.Steps.{way_by_slot}
@@ -16,7 +16,7 @@ use Rattle.object_paths.proofs.PlainWays.{by-first, no-first, by-second, by-star
 use Rattle.object_paths.proofs.plain_levels.PlainLevels.slot_path.Goals as goal
 
 -- the levels from the roots and from the owners are those of the plain levels
-module _ (p : Placed) (r : RoleTable) (plain : PlainTable) (levels : ArePlainLevels p r plain) (from_roots from_owners : LevelTable)
+module _ (p : PlacedTable) (r : RoleTable) (plain : PlainTable) (levels : ArePlainLevels p r plain) (from_roots from_owners : LevelTable)
     (are : (let l : PlainTable = record { roots = from_roots; owners = from_owners } in l) ≡ plain) where
   at_roots : AreLevelsOf p (search_of p r Roots (none_shut p)) from_roots
   at_roots = subst (λ (l : LevelTable). AreLevelsOf p (search_of p r Roots (none_shut p)) l) (sym (ap (λ (l : PlainTable). l.roots) are)) levels.roots
@@ -25,10 +25,10 @@ module _ (p : Placed) (r : RoleTable) (plain : PlainTable) (levels : ArePlainLev
   at_owners = subst (λ (l : LevelTable). AreLevelsOf p (search_of p r Owners (none_shut p)) l) (sym (ap (λ (l : PlainTable). l.owners) are)) levels.owners
 
 -- the way from the roots to the object in a cell, and that from the owners
-abbrev by_roots : Placed → RoleTable → ℕ → Option Way
+abbrev by_roots : PlacedTable → RoleTable → ℕ → Option Way
 by_roots p r cell = way_in p (search_of p r Roots (none_shut p)) cell
 
-abbrev by_owners : Placed → RoleTable → ℕ → Option Way
+abbrev by_owners : PlacedTable → RoleTable → ℕ → Option Way
 by_owners p r cell = way_in p (search_of p r Owners (none_shut p)) cell
 
 pub returns-in-Some-clause-path : goal.returns-in-Some-clause-path

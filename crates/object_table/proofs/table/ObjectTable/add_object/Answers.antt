@@ -1,7 +1,7 @@
 use Rattle.std.proofs.Common.{◌≡◌, ◌+◌, ◌∙◌, length, unwrap_or, position, ap, subst, sym, arith}
 use Rattle.std.specs.Str.{bytes_eq}
 use Rattle.graph_meaning.specs.Step.{with_object}
-use Rattle.object_table.specs.Parts.{Parts, placed_of, IsTable, IsLaidOut}
+use Rattle.object_table.specs.Parts.{TableParts, placed_of, IsTable, IsLaidOut}
 use Rattle.object_table.specs.Placed.{TakesCell, NoneEmptyBelow}
 use Rattle.object_table.proofs.Refusals.{alloc_fits, kind_fits, kind_number_fits}
 use Rattle.object_table.proofs.Changes.{with_one, added_is, added_takes, added_lowest}
@@ -33,10 +33,10 @@ put-requires-clause-few c =
     (rw (c.find-found.ensures, c.len.ensures.count) at c.unwrap_or-number.ensures) (rw (← c.self.view_is) at c.requires))
 
 module _ (c : After-number-self-inside) where
-  abbrev before : Parts
+  abbrev before : TableParts
   before = parts_in c.self.inside
 
-  abbrev after : Parts
+  abbrev after : TableParts
   after = record {
     cells = c.put.new.self.cells;
     ids = c.push.new.self;

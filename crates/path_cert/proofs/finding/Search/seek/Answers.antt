@@ -1,8 +1,8 @@
 use Rattle.std.proofs.Common.{refl, ◌∙◌}
 use Rattle.graph_meaning.specs.Heap.{targets}
 use Rattle.graph_meaning.specs.Roles.{id_at}
-use Rattle.path_cert.specs.Quests.{Sought, Quest}
-use Rattle.path_cert.specs.Searches.{is_met, sought_in}
+use Rattle.path_cert.specs.Quests.{SearchState, Quest}
+use Rattle.path_cert.specs.Searches.{is_met_in_round, sought_in}
 use Rattle.path_cert.proofs.QuestSteps.{searching-pop, searching-next, followed-still, work-held}
 use Rattle.path_cert.proofs.finding.Search.seek.Goals as goal
 
@@ -11,7 +11,7 @@ loop-self-preserved c =
     let p = c.args.table.now in
     let r = c.args.roles.now in
     let s = sought_in c.loop-self.self in
-    let popped : Sought = record { met = is_met c.loop-self.self; work = c.pop.new.self.items } in
+    let popped : SearchState = record { met = is_met_in_round c.loop-self.self; work = c.pop.new.self.items } in
     let then = sought_in c.follow.new.self in
     let cell = c.in-Some.cell in
     let was = c.loop-self.invariant in

@@ -1,7 +1,7 @@
 use Rattle.std.proofs.Common.{[], take}
 use Rattle.graph_meaning.specs.Heap.{edges_of}
 use Rattle.object_table.specs.Placed.{slots_in}
-use Rattle.path_cert.specs.Frontiers.{Grows, IsUnderWay}
+use Rattle.path_cert.specs.Frontiers.{FrontGrows, IsUnderWay}
 use Rattle.path_cert.specs.Fronts.{front_of}
 use Rattle.path_cert.proofs.NextLevel.{AreBy}
 use Rattle.path_cert.proofs.frontier.Frontier.take_object.Given as goal
@@ -10,5 +10,5 @@ abbrev pub invariant-loop-slot : goal.invariant-loop-slot
 invariant-loop-slot l = record {
   safe : IsUnderWay l.table l.level (front_of l.self);
   arrivals : AreBy (record { placed = l.table; shut = []; level = l.level }) l.cell (edges_of (take l.slot (slots_in l.table l.cell))) l.fn.self.arrivals.items l.self.arrivals.items;
-  grows : Grows l.table (front_of l.fn.self) (front_of l.self);
+  grows : FrontGrows l.table (front_of l.fn.self) (front_of l.self);
 }

@@ -4,7 +4,7 @@ use Rattle.graph_meaning.specs.Paths.{Way}
 use Rattle.graph_meaning.specs.Roles.{id_at}
 use Rattle.object_table.specs.Placed.{slots_in}
 use Rattle.path_cert.specs.declared.start.Start.TheVariants.{Owners}
-use Rattle.path_cert.specs.Frontiers.{Grows, HasTaken}
+use Rattle.path_cert.specs.Frontiers.{FrontGrows, HasTaken}
 use Rattle.path_cert.specs.Fronts.{front_of}
 use Rattle.path_cert.proofs.FirstLevel.{ways_by}
 use Rattle.path_cert.proofs.frontier.Frontier.take_owner.Given as goal
@@ -14,5 +14,5 @@ invariant-loop-slot l = record {
   each : length l.self.arrivals.items ≡ length l.table.cells;
   taken : (ways : List Way) → HasTaken l.table Owners ways (front_of l.fn.self) →
       HasTaken l.table Owners (ways ++ ways_by l.table.table (id_at l.table.cells l.owner) (edges_of (take l.slot (slots_in l.table l.owner)))) (front_of l.self);
-  grows : Grows l.table (front_of l.fn.self) (front_of l.self);
+  grows : FrontGrows l.table (front_of l.fn.self) (front_of l.self);
 }

@@ -5,7 +5,7 @@ use Rattle.graph_meaning.specs.Laws.{AllLive}
 use Rattle.graph_meaning.specs.Collecting.{first_with_paths}
 use Rattle.ownee_check.proofs.Violating.{doubts-held}
 use Rattle.verdict_list.proofs.Collected.{verdicts_agree}
-use Rattle.plain_collection.specs.PlainTraces.{counts_of}
+use Rattle.plain_collection.specs.PlainTraces.{plain_counts}
 use Rattle.plain_collection.proofs.AllOwnees.{ownees-doubted}
 use Rattle.plain_collection.proofs.plain_trace.PlainTrace.verdicts.Goals as goal
 
@@ -29,5 +29,5 @@ returns-clause-verdicts c =
     let doubts = ownees-doubted p c.args.roles.now h stand c.in_ok-ownees.ownees.items c.in_ok-ownees.ensures.ownees in
     are h trace.counts (c.in_ok-check.ensures.violating h stand doubts)
     ∙ ap (first_with_paths c.args.paths)
-    (verdicts_agree p c.cells-cells.ensures.placed h (counts_of c.args.self.now) trace.references (subst (λ tb. AllLive tb h.unshared) stand.table stand.refers.unshared)))
+    (verdicts_agree p c.cells-cells.ensures.placed h (plain_counts c.args.self.now) trace.references (subst (λ tb. AllLive tb h.unshared) stand.table stand.refers.unshared)))
     c.all_verdicts.ensures.verdicts

@@ -4,13 +4,13 @@ use Rattle.std.proofs.lemmas.List.{length-replicate}
 use Rattle.std.proofs.lemmas.Option.{slice_get_within, get_or_from_slice_get}
 use Rattle.assert_registry.proofs.Marking.{get_or-replicate_same}
 use Rattle.graph_meaning.specs.Roles.{id_at}
-use Rattle.object_table.specs.Placed.{Placed, id_in}
+use Rattle.object_table.specs.Placed.{PlacedTable, id_in}
 use Rattle.reference_search.specs.declared.cell_reference.FirstReferences.{FirstReferences}
 use Rattle.reference_search.specs.declared.cell_reference.TheConstants.{NO_REFERENCES}
 use Rattle.reference_search.specs.References.{StartList}
 use Rattle.reference_search.proofs.search.Search.begin.Goals as goal
 
-starts-empty : (p : Placed) (id : ℕ) → StartList p id [] NO_REFERENCES
+starts-empty : (p : PlacedTable) (id : ℕ) → StartList p id [] NO_REFERENCES
 starts-empty p id = search rules
 
 pub returns-clause-finds : goal.returns-clause-finds

@@ -1,7 +1,7 @@
 use Rattle.std.proofs.Common.{arith, ◌≡◌, ℕ, length, sym, ◌∙◌, subst}
 use Rattle.crew_support.specs.declared.counters.Cells.{Cells}
 use Rattle.crew_support.specs.declared.counters.Counter.{Counter}
-use Rattle.crew_support.specs.CellTasks.{AreFirst}
+use Rattle.crew_support.specs.CellTasks.{AreFirstTasks}
 use Rattle.crew_support.proofs.CellTaskLemmas.{enough_turns}
 use Rattle.resident_tests.proofs.tests.runs.run_cells.Goals as goal
 
@@ -12,7 +12,7 @@ run-requires-clause-turns g c κs within =
     let n : length js.items ≡ c.workers-workers.result = sym js.ok.0 ∙ c.in_ok-jobs.ensures.count in
     let few = c.workers-workers.ensures.few in
     let same : c.deref-2.result.now ≡ c.deref.result.now = c.deref-2.ensures ∙ sym c.deref.ensures in
-    let first = subst (λ (s : Cells). AreFirst c.workers-workers.result s.count c.in_ok-first.first.lists) same c.in_ok-first.ensures in
+    let first = subst (λ (s : Cells). AreFirstTasks c.workers-workers.result s.count c.in_ok-first.first.lists) same c.in_ok-first.ensures in
     enough_turns (λ (s : Cells). s.count) (λ (j : Counter). j.room) (λ (j : Counter). j.turns) cells js.items c.in_ok-first.first.lists
     (omega arith) c.in_ok-jobs.ensures.range c.in_ok-jobs.ensures.each
-    (subst (λ (k : ℕ). AreFirst k cells c.in_ok-first.first.lists) (sym n) first)
+    (subst (λ (k : ℕ). AreFirstTasks k cells c.in_ok-first.first.lists) (sym n) first)

@@ -6,11 +6,11 @@ use Rattle.graph_meaning.specs.Laws.{IdsRise}
 use Rattle.object_table.specs.Placed.{id_in}
 use Rattle.path_cert.proofs.HeldObjects.{held-within}
 use Rattle.verdict_list.specs.Counts.{CountsHeap}
-use Rattle.verdict_list.specs.Violating.{is_violated_by, is_violated_in, violating}
+use Rattle.verdict_list.specs.Violating.{is_violated_by, is_violated_in, violators}
 use Rattle.verdict_list.proofs.ByIds.{violating-is, violated-agrees, gather_one, pass_one, gathered, nth_id, all_taken, once_held, violating-rise}
-use Rattle.verdict_list.proofs.violating.violating.Given as given
-use Rattle.verdict_list.proofs.violating.violating.Goals as goal
-use Rattle.verdict_list.proofs.violating.violating.Goals.{After-nth_cell-cell, then-is_violated+in_ok-push, else-is_violated}
+use Rattle.verdict_list.proofs.violating.violators.Given as given
+use Rattle.verdict_list.proofs.violating.violators.Goals as goal
+use Rattle.verdict_list.proofs.violating.violators.Goals.{After-nth_cell-cell, then-is_violated+in_ok-push, else-is_violated}
 
 pub loop-number-init : goal.loop-number-init
 loop-number-init g c = rw c.new-cells.ensures.items (record {
@@ -57,7 +57,7 @@ loop-number-preserved g c =
       | then-is_violated+in_ok-push w ↦ rw (w.cells-is, w.in_ok-push.ensures.items) (record {
         gathered = λ h are.
             let passes = says g (goal.at.loop-number-preserved g c).After-nth_cell-cell h are ∙ sym c.is_violated.ensures ∙ w.if-is_violated.true in
-            gather_one (id_in c.args.counted.now.table.now) (is_violated_by c.args.assertion h) (map Some (violating c.args.assertion h))
+            gather_one (id_in c.args.counted.now.table.now) (is_violated_by c.args.assertion h) (map Some (violators c.args.assertion h))
             (ids c.args.counted.now.table.now.table) c.loop-number.cells.items c.loop-number.number c.nth_cell-cell.result id at held passes
             (c.loop-number.invariant.gathered h are);
         few = omega (arith, c.loop-number.invariant.few, length-append c.loop-number.cells.items (c.nth_cell-cell.result ∷ []));
@@ -65,16 +65,16 @@ loop-number-preserved g c =
       | else-is_violated w ↦ rw w.cells-is (record {
         gathered = λ h are.
             let fails = says g (goal.at.loop-number-preserved g c).After-nth_cell-cell h are ∙ sym c.is_violated.ensures ∙ w.if-is_violated.false in
-            pass_one (id_in c.args.counted.now.table.now) (is_violated_by c.args.assertion h) (map Some (violating c.args.assertion h))
+            pass_one (id_in c.args.counted.now.table.now) (is_violated_by c.args.assertion h) (map Some (violators c.args.assertion h))
             (ids c.args.counted.now.table.now.table) c.loop-number.cells.items c.loop-number.number id at fails (c.loop-number.invariant.gathered h are);
         few = omega (arith, c.loop-number.invariant.few);
       })
     ]
 
-pub returns-clause-violating : goal.returns-clause-violating
-returns-clause-violating g c h are =
+pub returns-clause-violators : goal.returns-clause-violators
+returns-clause-violators g c h are =
     let t = c.args.counted.now.table.now.table in
-    gathered (id_in c.args.counted.now.table.now) (is_violated_by c.args.assertion h) (map Some (violating c.args.assertion h)) (ids t) c.loop-number.cells.items c.loop-number.number
+    gathered (id_in c.args.counted.now.table.now) (is_violated_by c.args.assertion h) (map Some (violators c.args.assertion h)) (ids t) c.loop-number.cells.items c.loop-number.number
     (omega (arith, c.loop-number-test.false, c.live-number-end.ensures.count, length-map t.objects (λ o. o.id))) (c.loop-number.invariant.gathered h are)
 
 pub returns-clause-few : goal.returns-clause-few
@@ -83,10 +83,10 @@ returns-clause-few g c = omega (arith, c.loop-number.invariant.few, c.loop-numbe
 pub returns-clause-taken : goal.returns-clause-taken
 returns-clause-taken g c =
     let (h, are) = c.requires.counts in
-    all_taken (id_in c.args.counted.now.table.now) c.loop-number.cells.items (violating c.args.assertion h) (returns-clause-violating g c h are)
+    all_taken (id_in c.args.counted.now.table.now) c.loop-number.cells.items (violators c.args.assertion h) (returns-clause-violators g c h are)
 
 pub returns-clause-once : goal.returns-clause-once
 returns-clause-once g c =
     let (h, are) = c.requires.counts in
-    once_held (id_in c.args.counted.now.table.now) c.loop-number.cells.items (violating c.args.assertion h) (returns-clause-violating g c h are)
+    once_held (id_in c.args.counted.now.table.now) c.loop-number.cells.items (violators c.args.assertion h) (returns-clause-violators g c h are)
     (violating-rise c.args.assertion h are.stand.refers are.stand.ordered (subst IdsRise (sym are.stand.table) c.cells-all.ensures.sound.ids))
