@@ -10,6 +10,5 @@ mod words;
 
 pub use ending::Messages;
 pub use options::{OptionRule, Options, Takes};
-pub use program::{Program, run_program};
+pub use program::{Input, Output, answer_words, run_program};
 pub use stream::Remembering;
-pub use words::{NoWords, borrowed_words, exit_code_of, program_words};

@@ -11,7 +11,7 @@ const NO_WORDS: u8 = 7;
 
 /// Why a program can't have its words.
 #[derive(Clone, Copy, Debug)]
-pub enum NoWords {
+pub(crate) enum NoWords {
     OutOfMemory,
     /// One of them isn't UTF-8.
     NotText,
@@ -33,7 +33,7 @@ impl<T: Drop> From<AllocFailed<T>> for NoWords {
 }
 
 /// The words of the command line, the program's name first.
-pub fn program_words(rt: &HostRuntime) -> Result<Vec<String>, NoWords> {
+pub(crate) fn program_words(rt: &HostRuntime) -> Result<Vec<String>, NoWords> {
     let args = env::args(rt)?;
     let mut words = Vec::new(rt.alloc());
     for word in args {
@@ -43,7 +43,10 @@ pub fn program_words(rt: &HostRuntime) -> Result<Vec<String>, NoWords> {
 }
 
 /// The same words, borrowed.
-pub fn borrowed_words<'a>(alloc: Global, owned: &'a [String]) -> Result<Vec<&'a str>, NoWords> {
+pub(crate) fn borrowed_words<'a>(
+    alloc: Global,
+    owned: &'a [String],
+) -> Result<Vec<&'a str>, NoWords> {
     let mut words = Vec::new(alloc);
     for word in owned {
         words.push(word.as_str())?;
@@ -53,7 +56,11 @@ pub fn borrowed_words<'a>(alloc: Global, owned: &'a [String]) -> Result<Vec<&'a 
 
 /// The exit status of a run, or of one that never began since its words can't be had. Then a person is told on standard error, but where
 /// memory is out, when nothing is written on either stream.
-pub fn exit_code_of(rt: &HostRuntime, program: &str, run: Result<Status, NoWords>) -> ExitCode {
+pub(crate) fn exit_code_of(
+    rt: &HostRuntime,
+    program: &str,
+    run: Result<Status, NoWords>,
+) -> ExitCode {
     match run {
         Ok(status) => exit_code(status),
         Err(NoWords::OutOfMemory) => exit_code(Status::NoMemory),

@@ -1,10 +1,8 @@
 //! Makes a snapshot of the heap of a trace on standard input, or a trace of a snapshot, and writes it to standard output.
 #![tactic(auto)]
 
-use console::{Messages, Program, run_program};
-use heap_base::{Sink, Source, Status};
+use console::{Messages, run_program};
 use heap_snapshot::snap_run;
-use std::alloc::Global;
 use std::process::ExitCode;
 
 const PROGRAM: &str = "gcsnap";
@@ -17,18 +15,14 @@ const MESSAGES: Messages = Messages {
 };
 
 fn main(rt: HostRuntime) -> ExitCode {
-    run_program(&rt, MESSAGES, &Snapshots(rt.alloc()))
+    run_program(
+        &rt,
+        MESSAGES,
+        |words, source, sink| snap_run(rt.alloc(), words, source, sink),
+        |_words| tell_refused(&rt),
+    )
 }
 
-#[derive(Drop)]
-struct Snapshots(Global);
-
-impl Program for Snapshots {
-    fn tell_refused(&self, rt: &HostRuntime, _words: &[&str]) {
-        let _ = eprintln!(rt; "{PROGRAM}: one word is taken, from-trace or to-trace");
-    }
-
-    fn run<S: Source, K: Sink>(&self, words: &[&str], source: &mut S, sink: &mut K) -> Status {
-        snap_run(self.0, words, source, sink)
-    }
+fn tell_refused(rt: &HostRuntime) {
+    let _ = eprintln!(rt; "{PROGRAM}: one word is taken, from-trace or to-trace");
 }
