@@ -48,6 +48,22 @@ fn verdicts(rt: HostRuntime) -> Result<(), Fail> {
 }
 
 #[test]
+fn room_for_items(rt: HostRuntime) -> Result<(), Fail> {
+    let mut slots = SlotList::empty(rt.alloc());
+    slots.reserve(0)?;
+    assert_eq!(rt; slots.len(), 0);
+    slots.reserve(2)?;
+    assert_eq!(rt; slots.len(), 0);
+    slots.push(Some(7))?;
+    slots.reserve(3)?;
+    assert_eq!(rt; slots.len(), 1);
+    assert_eq!(rt; *slots.at(0), Some(7));
+    slots.push(None)?;
+    assert_eq!(rt; *slots.at(1), None);
+    Ok(())
+}
+
+#[test]
 fn slots_of_objects(rt: HostRuntime) -> Result<(), Fail> {
     let mut slots = SlotList::empty(rt.alloc());
     slots.push(None)?;
