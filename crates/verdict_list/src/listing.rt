@@ -3,7 +3,7 @@ ghost use Rattle.graph_meaning.specs.Collecting.{first_with_paths};
 ghost use Rattle.graph_meaning.specs.Heap.{Heap};
 ghost use Rattle.graph_meaning.specs.Roles.{AreRolesOf};
 ghost use Rattle.ownee_check.specs.Ownership.{AreViolating};
-ghost use Rattle.std.specs.Prelude.{◌≡◌, ◌<◌, ◌≤◌, true, length, IfOk};
+ghost use Rattle.std.specs.Prelude.{◌≡◌, ◌<◌, ◌≤◌, [], true, length, IfOk};
 ghost use Rattle.verdict_list.specs.Counts.{CountsHeap, counted_in, most_first_verdicts};
 ghost use Rattle.verdict_list.specs.Listed.{first_verdicts, most_verdicts, verdicts_in};
 
@@ -27,6 +27,16 @@ fn shows_some(most: usize, verdicts: usize) -> bool
     ensures { 0 < most → 0 < verdicts → result ≡ true }
 {
     most > 0 && verdicts > 0
+}
+
+// No verdict, and room for so many, so that a long list is not copied as it grows.
+fn with_room(alloc: Global, verdicts: usize) -> Result<VerdictList, OutOfMemory>
+    requires { verdicts ≤ most_first_verdicts }
+    ensures { IfOk result (λ list. list ≡ []) }
+{
+    let mut list = VerdictList::empty(alloc);
+    list.reserve(verdicts as u32)?;
+    Ok(list)
 }
 
 // The violated assertions of a heap but those of owners.
@@ -56,7 +66,7 @@ fn first_verdicts<T: HeapCounts>(
     let places = past_limits(alloc, traced, shows_kinds)?;
     let counts = kind_counts(alloc, counted, &kinds, &places)?;
     let references = references_of(alloc, traced, &unshared, shown.saturating_sub(before))?;
-    let mut list = VerdictList::empty(alloc);
+    let mut list = with_room(alloc, before + unshared.len())?;
     let plain = PlainPaths {
         table: counted.table,
         levels: &levels,

@@ -82,6 +82,7 @@ pub(crate) fn push_ownees(
     ensures length { OnOk result (length list.new ≡ length list.old + length checked.entry.check.now.ownees) }
     ensures verdicts { let c = checked.entry in OnOk result ((h : Heap) → ChecksHeap c h → GoesOn paths list.old (map (ownedby_in c.table.now h) c.check.now.ownees) list.new) }
 {
+    list.reserve(checked.check.ownees().len() as u32)?;
     for cell in checked.check.ownees() {
         let is_shown = list.len() < paths;
         let verdict = ownee_verdict(checked, *cell, is_shown)?;

@@ -50,13 +50,13 @@ returns-clause-verdicts g c h are =
       c.saturating_sub.ensures,
       c.len-4.ensures,
       c.in_ok-push_dead.ensures.length,
-      ap length c.empty-list.ensures,
+      ap length c.in_ok-list.ensures,
       ap length c.deref-4.ensures.value,
     )) (omega (arith, within, c.len-5.ensures, c.in_ok-counts.ensures.many, ap length c.deref.ensures.value))) h
     (record { stand = stand; keeps = keeps })) k d within in
     let shows : ShowsPaths _ h = record { roles = r; stand = stand; made = c.in_ok-levels.ensures.levels } in
-    let dead : GoesOn n c.empty-list.result (map (dead_verdict h) (violating_dead h)) c.push_dead.new.list =
-    subst (λ vs. GoesOn n c.empty-list.result vs c.push_dead.new.list)
+    let dead : GoesOn n c.in_ok-list.list (map (dead_verdict h) (violating_dead h)) c.push_dead.new.list =
+    subst (λ vs. GoesOn n c.in_ok-list.list vs c.push_dead.new.list)
     (map_held (id_in p) (dead_verdict h) c.deref-4.result.now (violating_dead h)
     (ap (map (id_in p)) c.deref-4.ensures.value ∙ c.in_ok-dead.ensures.violators h are)) (c.in_ok-push_dead.ensures.verdicts h shows) in
     let instances : GoesOn n c.push_dead.new.list (map (instances_verdict h) (violating_kinds h)) c.push_instances.new.list =
@@ -74,7 +74,7 @@ returns-clause-verdicts g c h are =
     (c.in_ok-push_unshared.ensures.verdicts h shows
     (rw (c.deref-6.ensures.value, c.deref-7.ensures.value)
     ((rw c.deref-3.ensures.value at c.in_ok-references.ensures.first) h (record { stand = stand; keeps = keeps })))) in
-    first_three n c.empty-list.result c.push_dead.new.list c.push_instances.new.list c.push_unshared.new.list count h c.empty-list.ensures dead instances unshared
+    first_three n c.in_ok-list.list c.push_dead.new.list c.push_instances.new.list c.push_unshared.new.list count h c.in_ok-list.ensures dead instances unshared
 
 pub returns-clause-few : goal.returns-clause-few
 returns-clause-few g c =
@@ -83,7 +83,7 @@ returns-clause-few g c =
       c.in_ok-push_unshared.ensures.length,
       c.in_ok-push_instances.ensures.length,
       c.in_ok-push_dead.ensures.length,
-      ap length c.empty-list.ensures,
+      ap length c.in_ok-list.ensures,
       ap length c.deref.ensures.value,
       ap length c.deref-4.ensures.value,
       ap length c.deref-5.ensures.value,

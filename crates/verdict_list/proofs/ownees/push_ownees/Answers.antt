@@ -6,10 +6,10 @@ use Rattle.verdict_list.proofs.GoingOn.{begins, goes_by_nth, ends_at}
 use Rattle.verdict_list.proofs.ownees.push_ownees.Goals as goal
 
 pub loop-cell-init : goal.loop-cell-init
-loop-cell-init c = record {
+loop-cell-init c = rw c.reserve.ensures.same (record {
   gone = λ h are. begins c.args.paths (λ cell. ownedby_verdict h (owned_pair c.args.checked.table.now h cell)) c.args.list.now c.ownees-cell-items.result.now;
   number = omega arith;
-}
+})
 
 pub push-requires : goal.push-requires
 push-requires c = omega (arith, c.loop-cell.invariant.number, c.requires.room, c.loop-cell-test.true, ap length c.ownees-cell-items.ensures)
