@@ -4,7 +4,7 @@ ghost use Rattle.graph_meaning.specs.Paths.{view_of};
 ghost use Rattle.graph_meaning.specs.Views.{heap_view, is_path};
 ghost use Rattle.graph_meaning.specs.declared.paths.PathStep.{PathStep};
 ghost use Rattle.heap_base.specs.declared.limits.TheConstants.{END_STEPS};
-ghost use Rattle.object_table.specs.Placed.{id_in, slots_in, slot_in};
+ghost use Rattle.object_table.specs.Placed.{IsPlaced, IsSound, id_in, slots_in, slot_in};
 ghost use Rattle.path_cert.specs.Ancestors.{AreAncestors, AncestorOf};
 ghost use Rattle.path_cert.specs.Levels.{Search, arrival_in, level_in, way_in, AreLevelsOf, AreLevelsIn};
 ghost use Rattle.path_cert.specs.Steps.{way_by_slot};
@@ -94,10 +94,7 @@ impl Levels {
         ensures is_path { IfOk result (λ v. IfSome v (λ path. IsTrue (is_path (heap_view table.now.table) path))) }
         ensures few { IfOk result (λ v. IfSome v (λ path. length path.steps ≤ 2 * END_STEPS)) }
     {
-        // what is true of every table
-        let cells = table.cells();
-        prove!(to < cells);
-        let Some(steps) = self.steps_to(to) else {
+        let Some(steps) = self.steps_to(table, to) else {
             return Ok(None);
         };
         let trail = Trail::begin(self.alloc, steps);
@@ -119,10 +116,7 @@ impl Levels {
         ensures is_path { IfOk result (λ v. IfSome v (λ path. IsTrue (is_path (heap_view table.now.table) path))) }
         ensures few { IfOk result (λ v. IfSome v (λ path. length path.steps ≤ 2 * END_STEPS)) }
     {
-        // what is true of every table
-        let cells = table.cells();
-        prove!(holder < cells);
-        let Some(steps) = self.steps_to(holder) else {
+        let Some(steps) = self.steps_to(table, holder) else {
             return Ok(None);
         };
         let mut trail = Trail::begin(self.alloc, steps + 1);
@@ -130,12 +124,17 @@ impl Levels {
         Ok(Some(self.walk_back(table, holder, steps, trail)?))
     }
 
-    // How many steps the path to the object in a cell has, if there is one.
-    fn steps_to(&self, cell: u32) -> Option<usize>
-        requires { cell < length self.now.arrivals }
+    // How many steps the path to the object in a cell has, if there is one. What is true of every table is said of this one.
+    fn steps_to(&self, table: &ObjectTable, cell: u32) -> Option<usize>
+        requires table { AreLevelsIn table.now self.now }
+        requires cell { IsSome (id_in table.now cell) }
+        ensures placed { IsPlaced table.now }
+        ensures sound { IsSound table.now.table }
         ensures steps { result ≡ path_steps self.now.start (arrival_in self.now.arrivals cell).level }
         ensures few { IfSome result (λ steps. steps < 2 ^ 32) }
     {
+        let cells = table.cells();
+        prove!(cell < cells);
         let level = self.level(cell)?;
         match self.start {
             Start::Roots => Some(level as usize - 1),

@@ -23,4 +23,4 @@ returns-clause-is_path c =
     let many = sym c.in-Some.ensures.steps in
     let there = way-there p s c.args.self.now levels c.args.to c.in-Some.steps c.requires.cell many in
     let is = path-is c.in_ok-walk_back.field-0 (way_in p s c.args.to) there.0 there.1 (c.in_ok-walk_back.ensures.path s _ levels c.begin-trail.ensures.shown) in
-    path-is_path p c.cells-cells.ensures.placed s c.args.self.now levels c.args.to c.in-Some.steps c.in_ok-walk_back.field-0 c.cells-cells.ensures.sound c.requires.cell many is
+    path-is_path p c.in-Some.ensures.placed s c.args.self.now levels c.args.to c.in-Some.steps c.in_ok-walk_back.field-0 c.in-Some.ensures.sound c.requires.cell many is

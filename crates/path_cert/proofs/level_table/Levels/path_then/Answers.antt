@@ -37,5 +37,5 @@ returns-clause-is_path c =
     let shown = c.in_ok-take.ensures.taken [] c.begin-trail.ensures.shown in
     let is =
     path_then-is p c.in_ok-walk_back.field-0 (way_in p s c.args.holder) there.0 c.args.holder c.args.slot target there.1 c.edge_cell.ensures.id (c.in_ok-walk_back.ensures.path s _ levels shown) in
-    path_then-is_path p c.cells-cells.ensures.placed s c.args.self.now levels c.args.holder c.args.slot c.in-Some.steps target
-    c.in_ok-walk_back.field-0 c.cells-cells.ensures.sound held many c.edge_cell.ensures.id is
+    path_then-is_path p c.in-Some.ensures.placed s c.args.self.now levels c.args.holder c.args.slot c.in-Some.steps target
+    c.in_ok-walk_back.field-0 c.in-Some.ensures.sound held many c.edge_cell.ensures.id is
