@@ -61,8 +61,9 @@ impl Search {
         ensures meets { MarksAll table.now (targets table.now.table (id_at table.now.cells cell)) (marks_of self.old) (marks_of self.new) }
         ensures left { count_by not self.new.marks.items + vec_len self.new.work ≤ count_by not self.old.marks.items + vec_len self.old.work }
     {
-        for slot in 0..table.slots_at(cell) {
-            if let Some(target) = table.slot_at(cell, slot) {
+        let edges = table.edges_at(cell);
+        for slot in 0..edges.len() {
+            if let Some(target) = edges.at(slot) {
                 self.meet(target);
             }
         }

@@ -1,5 +1,5 @@
 -- The object in a cell: its id, the cell of an id, and its edges by its slots.
-use Rattle.std.proofs.Common.{◌≡◌, ℕ, ◌<◌, true, false, cond, ⊎_elim, [], length, get_or, sym, refl, ap, ◌∙◌, arith, eqb-true, eq-eqb, Option, None, Some, ltb}
+use Rattle.std.proofs.Common.{◌≡◌, ℕ, ◌<◌, true, false, cond, ⊎_elim, List, [], length, get_or, sym, refl, ap, ◌∙◌, subst, arith, eqb-true, eq-eqb, Option, None, Some, ltb}
 use Rattle.std.specs.Prelude.{IsSome, unwrap_or}
 use Rattle.std.specs.List.{position_or_len}
 use Rattle.std.specs.Option.{is_some, option_and_then, option_map_or}
@@ -8,6 +8,7 @@ use Rattle.std.proofs.lemmas.List.{get_or_past}
 use Rattle.std.proofs.lemmas.List.Sums.{position_or_len_is}
 use Rattle.graph_meaning.specs.Heap.{Object, empty_slot, object_at, edge_of, edge_at, edges, edges_of}
 use Rattle.graph_meaning.specs.Roles.{id_at}
+use Rattle.object_table.specs.Edges.{AreEdgesAt}
 use Rattle.object_table.specs.Placed.{PlacedTable, id_in, slots_in, slot_in, IsPlaced, cell_of, holds_id}
 
 -- a cell that holds an object holds the one with the cell's id
@@ -72,3 +73,24 @@ target-held p target (Some y) leads some = (y, leads, refl)
 pub no-edge : (edge : Option ℕ) → is_some edge ≡ false → edge ≡ None
 no-edge None none = refl
 no-edge (Some y) none = absurd (false≢true (sym none))
+
+-- what an edge by cells leads to is what the slot leads to
+module _ (p : PlacedTable) (cell : ℕ) (edges : List (Option ℕ)) (are : AreEdgesAt p cell edges) (slot : ℕ) (within : slot < length edges) where
+  pub edge-within : slot < length (slots_in p cell)
+  edge-within = subst (λ n. slot < n) are.count within
+
+  module _ (o : Option ℕ) (is : get_or edges slot None ≡ o) where
+    pub edge-leads : option_and_then (id_in p) o ≡ edge_of (slot_in p cell slot)
+    edge-leads = ap (option_and_then (id_in p)) (sym is) ∙ are.leads slot within
+
+    pub edge-in_a_cell : is_some o ≡ is_some (edge_of (slot_in p cell slot))
+    edge-in_a_cell = ap is_some (sym is) ∙ are.in_a_cell slot within
+
+  -- the cell that it leads to holds an object
+  pub edge-held : (target : ℕ) → get_or edges slot None ≡ Some target → IsSome (id_in p target)
+  edge-held target is = ap is_some (edge-leads (Some target) is) ∙ sym (edge-in_a_cell (Some target) is)
+
+  -- the object that it leads to
+  pub edge-target : (target : ℕ) → get_or edges slot None ≡ Some target → (y : ℕ) × (id_in p target ≡ Some y) × (edge_of (slot_in p cell slot) ≡ Some y)
+  edge-target target is =
+      target-held p target (edge_of (slot_in p cell slot)) (edge-leads (Some target) is) (edge-in_a_cell (Some target) is)

@@ -17,13 +17,14 @@ use Rattle.graph_meaning.specs.Heap.{Slot, Object, name_cmp, ids, edge_of, is_li
 use Rattle.graph_meaning.specs.Step.{not_live, slots_of, alloc_refusal, store_refusal, slot_refusal, root_refusal, kind_refusal, with_kind, with_changed_slot, slot_holding, slot_made_weak, with_root}
 use Rattle.object_table.specs.declared.slot.Slot.{Slot as CellSlot}
 use Rattle.object_table.specs.declared.table.ObjectTable.TheInside.{Inside}
+use Rattle.object_table.specs.Edges.{cell_edge, AreEdgesAt}
 use Rattle.object_table.specs.Placed.{id_in, slot_in, IsSound, kept_ids, LeadsToKept}
-use Rattle.object_table.specs.Residents.{Resident, is_flagged, held_at, held_after, id_held, is_taken, next_cell}
+use Rattle.object_table.specs.Residents.{Resident, no_edge, is_flagged, held_at, held_after, id_held, is_taken, next_cell}
 use Rattle.object_table.specs.Parts.{TableParts, slot_of, object_of, nobody, object_at_cell, placed_of, HoldsTaken, slots_at_cell, IsTable}
 use Rattle.object_table.proofs.Lookups.{found}
 use Rattle.object_table.proofs.Refusals.{alloc_fits, slot_fits, root_taken}
 use Rattle.object_table.proofs.Sound.{sound_nothing, sound_with_object, sound_with_store, sound_with_weak, sound_with_root, sound_with_kind, sound_with_only}
-use Rattle.object_table.proofs.Parts.{held_with_id, held_taken, stands_found, found_held, object_at-found, live_found, id_in-held, slot_in-held, full_cells}
+use Rattle.object_table.proofs.Parts.{held_with_id, held_taken, stands_found, found_held, object_at-found, live_found, id_in-held, length-slots_in, slot_in-held, full_cells}
 use Rattle.object_table.proofs.Changes.{of_some, with_name, objects-with_name, laid-with_name, with_one, added_is, added_laid, with_changed}
 use Rattle.object_table.proofs.Changes.{changed_is, changed_cells, changed_laid, with_kept, kept_is, kept_laid, slot_count-is, slot_count-added}
 use Rattle.object_table.proofs.Changes.{slot_count-changed, next_within}
@@ -119,6 +120,34 @@ module _ (p : TableParts) (is : IsTable p) where
 
   pub edge_weak : (cell slot : ℕ) (o : Resident) (s : CellSlot) → held_at p.cells cell ≡ Some o → slice_get o.slots slot ≡ Some s → s.weak ≡ true → edge_of (slot_in (placed_of p) cell slot) ≡ None
   edge_weak cell slot o s held at weak = ap (λ b. cond b None (slot_in (placed_of p) cell slot).held) (sym (slot_weak cell slot o s held at) ∙ weak)
+
+  -- the edges of an object by cells are those of its slots
+  pub edges_are : (cell : ℕ) (o : Resident) → held_at p.cells cell ≡ Some o → AreEdgesAt (placed_of p) cell (map cell_edge o.slots)
+  edges_are cell o held = record {
+    count = length-map o.slots cell_edge ∙ sym (length-slots_in p is.laid cell o held);
+    leads = λ slot within.
+        let at = slice_get-get_or o.slots slot no_edge (below slot within) in
+        ap (option_and_then (id_in (placed_of p))) (edge_is slot within) ∙ leads_by slot (get_or o.slots slot no_edge) at (get_or o.slots slot no_edge).weak refl;
+    in_a_cell = λ slot within.
+        let at = slice_get-get_or o.slots slot no_edge (below slot within) in
+        ap is_some (edge_is slot within) ∙ in_a_cell_by slot (get_or o.slots slot no_edge) at (get_or o.slots slot no_edge).weak refl;
+  }
+    where
+      below : (slot : ℕ) → slot < length (map cell_edge o.slots) → slot < length o.slots
+      below slot within = rw (length-map o.slots cell_edge) at within
+
+      edge_is : (slot : ℕ) → slot < length (map cell_edge o.slots) → get_or (map cell_edge o.slots) slot None ≡ cell_edge (get_or o.slots slot no_edge)
+      edge_is slot within = get_or-map cell_edge o.slots slot no_edge None (below slot within)
+
+      leads_by : (slot : ℕ) (s : CellSlot) → slice_get o.slots slot ≡ Some s → (weak : Bool) → s.weak ≡ weak →
+          option_and_then (id_in (placed_of p)) (cond weak None s.held) ≡ edge_of (slot_in (placed_of p) cell slot)
+      leads_by slot s at true weak = sym (edge_weak cell slot o s held at weak)
+      leads_by slot s at false strong = slot_holds cell slot o s held at ∙ sym (edge_strong cell slot o s held at strong)
+
+      in_a_cell_by : (slot : ℕ) (s : CellSlot) → slice_get o.slots slot ≡ Some s → (weak : Bool) → s.weak ≡ weak →
+          is_some (cond weak None s.held) ≡ is_some (edge_of (slot_in (placed_of p) cell slot))
+      in_a_cell_by slot s at true weak = sym (ap is_some (edge_weak cell slot o s held at weak))
+      in_a_cell_by slot s at false strong = slot_in_a_cell cell slot o s held at ∙ sym (ap is_some (edge_strong cell slot o s held at strong))
 
   -- what a root names is found
   pub root_found : (root id : ℕ) → root < length p.roots → IfSome (slice_get p.roots root) (λ r. id ≡ r.1) → is_some (found p.ids id) ≡ true

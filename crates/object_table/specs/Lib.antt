@@ -1,5 +1,6 @@
 pub mod Blocks
 pub mod Chains
+pub mod Edges
 pub mod Indexed
 pub mod Located
 pub mod Ordered

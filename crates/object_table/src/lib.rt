@@ -6,6 +6,7 @@ mod blocks;
 mod cell;
 mod cells;
 mod directory;
+mod edges;
 mod guesses;
 mod ids;
 mod kinds;
@@ -18,4 +19,5 @@ mod slot;
 mod table;
 mod views;
 
+pub use edges::Edges;
 pub use table::ObjectTable;

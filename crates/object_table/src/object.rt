@@ -1,8 +1,10 @@
 ghost use Rattle.std.specs.Prelude.{◌≡◌, ◌<◌, ◌≤◌, length, map, replicate, slice_get, slice_set, Some, IfOk};
 ghost use Rattle.heap_base.specs.declared.limits.TheConstants.{MOST_KINDS, MOST_SLOTS};
+ghost use Rattle.object_table.specs.Edges.{cell_edge};
 ghost use Rattle.object_table.specs.Packing.{CanBePacked};
 ghost use Rattle.object_table.specs.Residents.{Resident, StrongHoldKept, no_edge, slot_after, holders_in, resident_cleared};
 
+use crate::edges::Edges;
 use crate::slot::{PackedSlot, Slot, clear_slots_to, keep_slots};
 use heap_base::{ObjId, OutOfMemory};
 use smallvec::SmallVec;
@@ -97,6 +99,13 @@ impl Object {
         ensures packed { CanBePacked result }
     {
         self.slots[slot as usize].slot()
+    }
+
+    /// What its slots lead to.
+    pub fn edges(&self) -> Edges<'_>
+        ensures { result ≡ map cell_edge self.now.slots }
+    {
+        Edges::of(self.slots.as_slice())
     }
 
     /// Puts one of its slots.

@@ -3,6 +3,7 @@ ghost use Rattle.std.specs.List.{count_by};
 ghost use Rattle.heap_base.specs.declared.limits.TheConstants.{MOST_SLOTS};
 ghost use Rattle.object_table.specs.Residents.{holds_marked, is_flagged, slot_after, slot_cleared};
 ghost use Rattle.object_table.specs.Packing.{CanBePacked};
+ghost use Rattle.object_table.specs.Edges.{cell_edge};
 
 use std::marker::Model;
 
@@ -60,6 +61,14 @@ impl PackedSlot {
             held: if half == 0 { None } else { Some(half - 1) },
             weak: self.word % 2 == 1,
         }
+    }
+
+    /// The cell that the slot leads to: none where it is weak, or empty.
+    pub fn edge(self) -> Option<u32>
+        ensures { result ≡ cell_edge self }
+    {
+        let slot = self.slot();
+        if slot.weak { None } else { slot.held }
     }
 
     /// The slot after the cells that are not kept were emptied.

@@ -9,10 +9,12 @@ ghost use Rattle.graph_meaning.specs.Reach.{has_id};
 ghost use Rattle.graph_meaning.specs.Step.{alloc_refusal, with_object, not_live, slot_refusal, target_refusal, store_refusal, with_changed_slot, slot_holding, slot_made_weak, root_refusal, with_root, is_root, kind_refusal, with_kind};
 ghost use Rattle.graph_meaning.specs.Views.{heap_view};
 ghost use Rattle.object_table.specs.Placed.{nothing_placed, id_in, object_in, slots_in, slot_in, IsPlaced, IsSound, TakesCell, KeepsCells, kept_ids, marked_ids, LeadsToKept, HoldKept, NoneEmptyBelow, IsStacked};
+ghost use Rattle.object_table.specs.Edges.{AreEdgesAt};
 ghost use Rattle.object_table.specs.Residents.{held_at, is_flagged, is_taken};
 ghost use Rattle.object_table.specs.Parts.{slots_at_cell, held_unless, is_freed, StandInOrder};
 
 use crate::cells::Cells;
+use crate::edges::Edges;
 use crate::ids::Ids;
 use crate::kinds::Kinds;
 use crate::object::Object;
@@ -264,6 +266,14 @@ impl ObjectTable {
     {
         let slot = self.cells.at(cell).slot(slot);
         if slot.weak { None } else { slot.held }
+    }
+
+    /// What the slots of the object in a cell lead to: for whoever goes over all of them.
+    pub fn edges_at(&self, cell: u32) -> Edges<'_>
+        requires taken { IsSome (id_in self.now cell) }
+        ensures edges { AreEdgesAt self.now cell result }
+    {
+        self.cells.at(cell).edges()
     }
 
     /// The cell of the object that a slot of the object in a cell holds, weak or not, and `None` where the slot is

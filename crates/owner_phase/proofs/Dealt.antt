@@ -7,7 +7,8 @@ use Rattle.scan_job.specs.Phases.{all_held, task_lists, owner_firsts, held_first
 use Rattle.scan_job.specs.Scans.{task_at}
 use Rattle.scan_job.specs.States.{ScanState}
 
-pub dealt-owners : (r : RoleTable) {fs : List (List Task)} {n m : ℕ} {owners : List ℕ} → fs ≡ task_lists n (map (λ o. task_at o o) owners) → n ≡ m → owners ≡ r.owners → fs ≡ task_lists m (owner_firsts r)
+pub dealt-owners : (r : RoleTable) {fs : List (List Task)} {n m : ℕ} {owners : List ℕ} → fs ≡ task_lists n (map (λ o. task_at o o) owners) →
+    n ≡ m → owners ≡ r.owners → fs ≡ task_lists m (owner_firsts r)
 dealt-owners r lists workers same = lists ∙ (λ i. task_lists (workers i) (map (λ o. task_at o o) (same i)))
 
 pub dealt-held : {fs : List (List Task)} {n m : ℕ} {js is : List ScanState} → fs ≡ task_lists n (held_firsts is) → n ≡ m → is ≡ js → fs ≡ task_lists m (held_firsts js)

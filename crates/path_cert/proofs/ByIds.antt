@@ -1,17 +1,15 @@
 -- What is said by cell, by ids; and the owners that roles name.
-use Rattle.std.proofs.Common.{◌≡◌, ℕ, ◌<◌, Bool, true, false, cond, ⊎_elim, List, length, get_or, sym, refl, ap, ◌∙◌, subst, arith, eqb-true, eq-eqb, Option, None, Some, ltb}
+use Rattle.std.proofs.Common.{◌≡◌, ℕ, Bool, true, false, List, get_or, sym, refl, ap, subst, Option, None, Some}
 use Rattle.std.specs.Prelude.{IsSome}
-use Rattle.std.specs.List.{All, position_or_len}
+use Rattle.std.specs.List.{All}
 use Rattle.std.specs.Option.{option_map_or}
-use Rattle.std.proofs.lemmas.Bool.{cases_Bool, false≢true, lt-ltb}
+use Rattle.std.proofs.lemmas.Bool.{false≢true}
 use Rattle.std.proofs.lemmas.List.Quantifiers.{position-Some}
-use Rattle.std.proofs.lemmas.List.Sums.{position_or_len_is}
 use Rattle.graph_meaning.specs.Roles.{RoleTable, AreRolesOf}
 use Rattle.graph_meaning.proofs.Membership.{All-has_id}
 use Rattle.object_table.specs.Placed.{PlacedTable, id_in, IsPlaced, cell_of, holds_id}
 use Rattle.object_table.proofs.ObjectsByCell.{holds_id-true, cell_of-held}
 use Rattle.path_cert.specs.Cells.{by_id}
-use Rattle.path_cert.proofs.HeldObjects.{held-within}
 
 -- a test by cell, at the object that a cell holds
 pub by_id-held : (p : PlacedTable) → IsPlaced p → (test : ℕ → Bool) (cell id : ℕ) → id_in p cell ≡ Some id → by_id p test id ≡ test cell

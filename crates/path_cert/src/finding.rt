@@ -193,8 +193,9 @@ impl Search {
         ensures reaches { OnOk result (Reaches (record { placed = table.now; roles = roles.now }) (targets table.now.table (id_at table.now.cells cell)) (sought_in self.old) (sought_in self.new)) }
         ensures remaining { OnOk result (remaining (length table.now.cells) (sought_in self.new) ≤ remaining (length table.now.cells) (sought_in self.old)) }
     {
-        for slot in 0..table.slots_at(cell) {
-            if let Some(target) = table.slot_at(cell, slot) {
+        let edges = table.edges_at(cell);
+        for slot in 0..edges.len() {
+            if let Some(target) = edges.at(slot) {
                 self.meet(roles, target)?;
             }
         }

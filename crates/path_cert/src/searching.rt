@@ -82,8 +82,9 @@ impl Frontier {
         ensures taken { (ways : List Way) → HasTaken table.now Owners ways (front_of self.old) → HasTaken table.now Owners (ways ++ ways_from table.now.table (id_at table.now.cells owner ∷ [])) (front_of self.new) }
         ensures grows { FrontGrows table.now (front_of self.old) (front_of self.new) }
     {
-        for slot in 0..table.slots_at(owner) {
-            if let Some(target) = table.slot_at(owner, slot) {
+        let edges = table.edges_at(owner);
+        for slot in 0..edges.len() {
+            if let Some(target) = edges.at(slot) {
                 let arrival = Arrival {
                     level: 1,
                     from: owner,
@@ -141,8 +142,9 @@ impl Frontier {
         ensures arrivals { (to : ℕ) → (id : ℕ) → id_in table.now to ≡ Some id → arrival_in self.new.arrivals.items to ≡ by_object (record { placed = table.now; shut = []; level = level }) cell (arrival_in self.old.arrivals.items to) id }
         ensures grows { FrontGrows table.now (front_of self.old) (front_of self.new) }
     {
-        for slot in 0..table.slots_at(cell) {
-            if let Some(target) = table.slot_at(cell, slot) {
+        let edges = table.edges_at(cell);
+        for slot in 0..edges.len() {
+            if let Some(target) = edges.at(slot) {
                 let arrival = Arrival {
                     level,
                     from: cell,

@@ -83,8 +83,9 @@ fn count_slots(table: &ObjectTable, holder: u32, counts: &mut Vec<u64>)
     ensures few { (most : ℕ) → AtMost most counts.old.items → AtMost (most + 2 ^ 32) counts.new.items }
     ensures each { length counts.new.items ≡ length counts.old.items }
 {
-    for slot in 0..table.slots_at(holder) {
-        if let Some(target) = table.slot_at(holder, slot) {
+    let edges = table.edges_at(holder);
+    for slot in 0..edges.len() {
+        if let Some(target) = edges.at(slot) {
             count_one(counts, target);
         }
     }

@@ -69,8 +69,9 @@ impl Search {
         ensures count { length self.new.found.items ≡ length self.old.found.items }
         ensures finds { FindsMore table.now (λ id. slots_to table.now.table id (id_at table.now.cells holder)) (finding_in self.old) (finding_in self.new) }
     {
-        for slot in 0..table.slots_at(holder) {
-            if let Some(target) = table.slot_at(holder, slot) {
+        let edges = table.edges_at(holder);
+        for slot in 0..edges.len() {
+            if let Some(target) = edges.at(slot) {
                 self.put(target, CellReference::Slot { holder, slot });
             }
         }

@@ -1,14 +1,14 @@
 -- The graph of a table and its roles: cells that hold objects, and what slots lead to.
 use Rattle.std.proofs.Common.{◌≡◌, ℕ, zero, suc, ◌+◌, ◌<◌, ◌≤◌, Bool, true, false, cond, ⊎_elim, List, [], ◌∷◌, ◌++◌, length, get_or, take, sym}
-use Rattle.std.proofs.Common.{refl, ap, ◌∙◌, subst, arith, eqb, eqb-true, eq-eqb, Option, None, Some, ltb}
+use Rattle.std.proofs.Common.{refl, ap, ◌∙◌, subst, arith, eqb, eqb-true, eq-eqb, Option, None, Some}
 use Rattle.std.specs.Prelude.{IfSome, is_some, option_and_then, slice_get}
-use Rattle.std.specs.List.{filter_map, cons_option, sum_by, position_or_len, range_with_len}
+use Rattle.std.specs.List.{filter_map, cons_option, sum_by, range_with_len}
 use Rattle.std.specs.Option.{option_map_or}
-use Rattle.std.proofs.lemmas.Bool.{cases_Bool, cases_lt, false≢true, or_cases, or_left, or_right, lt-ltb}
+use Rattle.std.proofs.lemmas.Bool.{cases_lt, false≢true, or_cases, or_left, or_right}
 use Rattle.std.proofs.lemmas.List.{take_more, get_or_past}
 use Rattle.std.proofs.lemmas.List.Elements.{filter_map-append}
 use Rattle.std.proofs.lemmas.List.Quantifiers.{position-Some}
-use Rattle.std.proofs.lemmas.List.Sums.{position_or_len_is, sum_by-cons}
+use Rattle.std.proofs.lemmas.List.Sums.{sum_by-cons}
 use Rattle.std.proofs.lemmas.Option.{option_and_then_some, slice_get-get_or}
 use Rattle.heap_base.specs.declared.limits.TheConstants.{MOST_SLOTS}
 use Rattle.graph_meaning.specs.declared.roles.OwnerRole.{OwnerRole}

@@ -1,13 +1,13 @@
 -- A scan under way: the first slots of a task's cell were met.
 use Rattle.std.proofs.Common.{◌≡◌, ℕ, ◌+◌, ◌<◌, ◌≤◌, ◌/◌, Bool, List, [], ◌∷◌, ◌++◌, length, take, get_or, sym, refl, ap, ◌∙◌, subst, arith}
 use Rattle.std.proofs.Common.{append_assoc, append-nil, length-append, length-take, Option, None, Some}
-use Rattle.std.specs.Prelude.{option_and_then, is_some}
 use Rattle.std.specs.List.{cons_option}
 use Rattle.std.proofs.Math.Seq.{take-length}
 use Rattle.heap_base.specs.declared.limits.TheConstants.{MOST_SLOTS}
 use Rattle.heap_base.specs.declared.task.Task.{Task}
-use Rattle.graph_meaning.specs.Heap.{empty_slot, edge_of}
-use Rattle.object_table.specs.Placed.{id_in, slots_in}
+use Rattle.object_table.specs.Edges.{AreEdgesAt}
+use Rattle.object_table.specs.Placed.{slots_in}
+use Rattle.object_table.proofs.ObjectsByCell.{edge-within, edge-leads, edge-in_a_cell}
 use Rattle.header_rule.specs.Passes.{adds}
 use Rattle.steal_pool.specs.Outboxes.{HeldTasks}
 use Rattle.scan_job.specs.declared.shared.ScanShared.{ScanShared}
@@ -60,11 +60,10 @@ module _ (s : ScanShared) (t : Task) (i : ℕ) (old now : Worker) (p : HasScanne
       omega arith
 
   -- the slot leads nowhere, or to the cell
-  module _ (o : Option ℕ) (within : i < length (slots_in s.table.now t.cell))
-      (leads : option_and_then (id_in s.table.now) o ≡ edge_of (get_or (slots_in s.table.now t.cell) i empty_slot))
-      (in_a_cell : is_some o ≡ is_some (edge_of (get_or (slots_in s.table.now t.cell) i empty_slot))) where
+  module _ (edges : List (Option ℕ)) (are : AreEdgesAt s.table.now t.cell edges) (o : Option ℕ) (within : i < length edges) (is : get_or edges i None ≡ o) where
     more : targets_of s.table.now (take (i + 1) (slots_in s.table.now t.cell)) ≡ targets_of s.table.now (take i (slots_in s.table.now t.cell)) ++ cons_option o []
-    more = targets-more s.table.now p.ready.placed (slots_in s.table.now t.cell) i o within leads in_a_cell
+    more = targets-more s.table.now p.ready.placed (slots_in s.table.now t.cell) i o (edge-within s.table.now t.cell edges are i within)
+        (edge-leads s.table.now t.cell edges are i within o is) (edge-in_a_cell s.table.now t.cell edges are i within o is)
 
     pub scan-passes : o ≡ None → HasScanned s t (i + 1) old now
     scan-passes none =

@@ -1,5 +1,6 @@
 //! The scan of a task's cell.
-ghost use Rattle.std.specs.Prelude.{◌≡◌, IsSome};
+ghost use Rattle.std.specs.Prelude.{◌≡◌, ℕ, IsSome};
+ghost use Rattle.object_table.specs.Edges.{AreEdgesAt};
 ghost use Rattle.object_table.specs.Placed.{id_in};
 ghost use Rattle.scan_job.specs.Jobs.{IsReady};
 ghost use Rattle.scan_job.specs.States.{IsSameJob, wins_left, turns_of};
@@ -7,6 +8,7 @@ ghost use Rattle.scan_job.specs.States.{IsSameJob, wins_left, turns_of};
 use crate::job::ScanJob;
 use crate::shared::ScanShared;
 use heap_base::{MOST_SLOTS, Task};
+use object_table::Edges;
 use steal_pool::{Job, Outbox};
 
 impl<'a> Job<ScanShared<'a>> for ScanJob {
@@ -31,9 +33,10 @@ impl<'a> Job<ScanShared<'a>> for ScanJob {
     /// Meets what each slot of the task's cell leads to, once and in order. Their words are looked at before the first is met,
     /// so that it waits for all of them at once.
     fn work(&mut self, shared: &ScanShared<'a>, task: Task, out: &mut Outbox) {
-        self.prefetch_targets(shared, task.cell);
-        for slot in 0..shared.table.slots_at(task.cell) {
-            if let Some(cell) = shared.table.slot_at(task.cell, slot) {
+        let edges = shared.table.edges_at(task.cell);
+        self.prefetch_targets(shared, &edges);
+        for slot in 0..edges.len() {
+            if let Some(cell) = edges.at(slot) {
                 self.meet_and_put(shared, task.tag, cell, out);
             }
         }
@@ -41,15 +44,15 @@ impl<'a> Job<ScanShared<'a>> for ScanJob {
 }
 
 impl ScanJob {
-    // Looks at the words of what the slots of the object in a cell lead to.
-    fn prefetch_targets(&mut self, shared: &ScanShared<'_>, cell: u32)
+    // Looks at the words of what the edges of an object lead to.
+    fn prefetch_targets(&mut self, shared: &ScanShared<'_>, edges: &Edges<'_>)
         requires ready { IsReady self.old shared.now }
-        requires cell { IsSome (id_in shared.now.table.now cell) }
+        requires edges { (cell : ℕ) × AreEdgesAt shared.now.table.now cell edges.now }
         ensures ready { IsReady self.new shared.now }
         ensures same { IsSameJob self.old self.new }
     {
-        for slot in 0..shared.table.slots_at(cell) {
-            if let Some(target) = shared.table.slot_at(cell, slot) {
+        for slot in 0..edges.len() {
+            if let Some(target) = edges.at(slot) {
                 self.prefetch(shared, target);
             }
         }

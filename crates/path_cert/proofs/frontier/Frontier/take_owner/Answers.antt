@@ -1,6 +1,6 @@
-use Rattle.std.proofs.Common.{◌<◌, ◌++◌, length, take, sym, ap, refl, subst, arith, ◌∙◌, append-nil}
+use Rattle.std.proofs.Common.{◌<◌, ◌++◌, length, take, sym, ap, refl, subst, arith, ◌∙◌, append-nil, None}
 use Rattle.std.specs.Prelude.{IsSome}
-use Rattle.std.specs.Option.{is_some, option_map}
+use Rattle.std.specs.Option.{option_map}
 use Rattle.graph_meaning.specs.Heap.{edges_of, edge_of}
 use Rattle.graph_meaning.specs.Paths.{way_by_edge, owner_way}
 use Rattle.graph_meaning.specs.Roles.{id_at}
@@ -11,7 +11,7 @@ use Rattle.path_cert.specs.declared.arrival.Arrival.{Arrival}
 use Rattle.path_cert.specs.Frontiers.{HasTaken}
 use Rattle.path_cert.specs.Fronts.{front_of}
 use Rattle.graph_meaning.proofs.EdgesOfSlots.{edges-edge, edges-none, edges-all}
-use Rattle.object_table.proofs.ObjectsByCell.{edge_at-cell, edges-cell, target-held, no-edge}
+use Rattle.object_table.proofs.ObjectsByCell.{edge_at-cell, edges-cell, no-edge, edge-within, edge-in_a_cell, edge-target}
 use Rattle.path_cert.proofs.FirstLevel.{next_first, first-taken, grows-first, ways_by, ways_by-more, ways_by-all}
 use Rattle.path_cert.proofs.Growing.{Grows-refl, Grows-trans}
 use Rattle.path_cert.proofs.HeldObjects.{held-id, held-within}
@@ -21,7 +21,8 @@ use Rattle.path_cert.proofs.frontier.Frontier.take_owner.Goals.{in-Some, in_defa
 pub arrive_first-requires-clause-cell : goal.arrive_first-requires-clause-cell
 arrive_first-requires-clause-cell c =
     let p = c.args.table.now in
-    let held = target-held p c.in-Some.target (edge_of (slot_in p c.args.owner c.loop-slot.slot)) c.in-Some.ensures.leads c.in-Some.ensures.in_a_cell in
+    let slot_within : c.loop-slot.slot < length c.edges_at-edges.result = omega (arith, c.len-slot-end.ensures.count, c.loop-slot-test.true) in
+    let held = edge-target p c.args.owner c.edges_at-edges.result c.edges_at-edges.ensures.edges c.loop-slot.slot slot_within c.in-Some.target c.in-Some.ensures in
     let within = held-within p c.in-Some.target held.0 held.1 in
     subst (λ n. c.in-Some.target < n) (sym c.loop-slot.invariant.each) within
 
@@ -40,13 +41,16 @@ loop-slot-preserved c =
     let slots = slots_in c.args.table.now c.args.owner in
     let o = id_at c.args.table.now.cells c.args.owner in
     let o_held = held-id p c.args.owner c.requires.owner in
-    let slot_within : c.loop-slot.slot < length (slots_in c.args.table.now c.args.owner) = omega arith in
+    let edges = c.edges_at-edges.result in
+    let are = c.edges_at-edges.ensures.edges in
+    let within : c.loop-slot.slot < length edges = omega (arith, c.len-slot-end.ensures.count, c.loop-slot-test.true) in
+    let slot_within = edge-within p c.args.owner edges are slot within in
     let f = front_of c.loop-slot.self in
     let was = c.loop-slot.invariant in
     let a : Arrival = record { level = 1; from = c.args.owner; slot = c.loop-slot.slot } in
-    elim c.match-slot_at.branch [
+    elim c.match-at.branch [
       | in-Some w ↦
-          let held = target-held p w.in-Some.target (edge_of (slot_in p c.args.owner slot)) w.in-Some.ensures.leads w.in-Some.ensures.in_a_cell in
+          let held = edge-target p c.args.owner edges are slot within w.in-Some.target w.in-Some.ensures in
           let below = subst (λ n. w.in-Some.target < n) (sym was.each) (held-within p w.in-Some.target held.0 held.1) in
           let way = way_by_edge t (owner_way t o) (slot, held.0) in
           let by = ap (option_map (λ x. way_by_edge t (owner_way t x) (slot, held.0))) o_held in
@@ -64,7 +68,7 @@ loop-slot-preserved c =
             grows = Grows-trans p (front_of c.args.self.now) f _ was.grows grows;
           })
       | in_default w ↦
-          let none = no-edge (edge_of (slot_in p c.args.owner slot)) (sym (sym (ap is_some w.in_default.is) ∙ c.slot_at.ensures.in_a_cell)) in
+          let none = no-edge (edge_of (slot_in p c.args.owner slot)) (sym (edge-in_a_cell p c.args.owner edges are slot within None (c.at.ensures ∙ w.in_default.is))) in
           rw w.self-is (record {
             each = was.each;
             taken = λ ways begun.
@@ -79,5 +83,7 @@ returns-clause-taken c ways begun =
     let t = c.args.table.now.table in
     let slots = slots_in c.args.table.now c.args.owner in
     let o = id_at c.args.table.now.cells c.args.owner in
-    let all = edges-all slots c.loop-slot.slot (omega arith) ∙ sym (edges-cell p c.args.owner o (held-id p c.args.owner c.requires.owner)) in
+    let all =
+    edges-all slots c.loop-slot.slot (omega (arith, c.edges_at-edges.ensures.edges.count, c.len-slot-end.ensures.count, c.loop-slot-test.false, c.loop-slot.auto.slot-end))
+    ∙ sym (edges-cell p c.args.owner o (held-id p c.args.owner c.requires.owner)) in
     subst (λ vs. HasTaken p Owners vs (front_of c.loop-slot.self)) (ap (λ es. ways ++ ways_by t o es) all ∙ ways_by-all t o ways) (c.loop-slot.invariant.taken ways begun)

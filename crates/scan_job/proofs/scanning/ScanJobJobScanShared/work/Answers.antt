@@ -8,16 +8,13 @@ use Rattle.scan_job.proofs.SlotSteps.{HasScanned, scan-begins, room-left, left-f
 use Rattle.scan_job.proofs.scanning.ScanJobJobScanShared.work.Goals as goal
 use Rattle.scan_job.proofs.scanning.ScanJobJobScanShared.work.Goals.{in-Some, in_default}
 
-pub prefetch_targets-requires-clause-cell : goal.prefetch_targets-requires-clause-cell
-prefetch_targets-requires-clause-cell c =
+pub edges_at-edges-requires : goal.edges_at-edges-requires
+edges_at-edges-requires c =
     let s = c.args.shared.now in
     let j = c.args.self.now in
     let whole = is-whole s.table.now s.roles.now c.requires.ready.roles in
     let fits = (fit_tasks-is (shared_graph s) whole j.mode c.args.task).0 c.requires.fit in
-    held-from_node s.table.now s.roles.now c.args.task.cell (fit-node (shared_graph s) whole j.mode c.args.task fits)
-
-pub slots_at-slot-end-requires : goal.slots_at-slot-end-requires
-slots_at-slot-end-requires c = record { taken = prefetch_targets-requires-clause-cell c.before }
+    record { taken = held-from_node s.table.now s.roles.now c.args.task.cell (fit-node (shared_graph s) whole j.mode c.args.task fits) }
 
 pub loop-slot-init : goal.loop-slot-init
 loop-slot-init c =
@@ -25,7 +22,8 @@ loop-slot-init c =
 
 pub meet_and_put-requires-clause-left : goal.meet_and_put-requires-clause-left
 meet_and_put-requires-clause-left c =
-    let within : c.loop-slot.slot < length (slots_in c.args.shared.now.table.now c.args.task.cell) = (let e = c.slots_at-slot-end.ensures.count in let t = c.loop-slot-test.true in omega arith) in
+    let within : c.loop-slot.slot < length (slots_in c.args.shared.now.table.now c.args.task.cell) =
+    (let e = c.len-slot-end.ensures.count in let f = c.edges_at-edges.ensures.edges.count in let t = c.loop-slot-test.true in omega arith) in
     left-for-slot c.args.shared.now c.args.task c.loop-slot.slot _ _ c.loop-slot.invariant within c.requires.turns
 
 pub meet_and_put-requires-clause-spare : goal.meet_and_put-requires-clause-spare
@@ -37,18 +35,19 @@ loop-slot-preserved c =
     let s = c.args.shared.now in
     let t = c.args.task in
     let i : ℕ = c.loop-slot.slot in
-    let within : i < length (slots_in s.table.now t.cell) = (let e = c.slots_at-slot-end.ensures.count in let e2 = c.loop-slot-test.true in omega arith) in
-    elim c.match-slot_at.branch [
+    let edges = c.edges_at-edges.result in
+    let within : i < length edges = (let e = c.len-slot-end.ensures.count in let e2 = c.loop-slot-test.true in omega arith) in
+    elim c.match-at.branch [
       | in-Some w ↦
           rw (w.self-is, w.out-is)
           (scan-meets s t i (record { job = c.args.self.now; out = c.args.out.now }) (record { job = c.loop-slot.self; out = c.loop-slot.out })
-          c.loop-slot.invariant c.slot_at.result within c.slot_at.ensures.leads c.slot_at.ensures.in_a_cell w.in-Some.cell w.meet_and_put.result
+          c.loop-slot.invariant edges c.edges_at-edges.ensures.edges c.at.result within c.at.ensures w.in-Some.cell w.meet_and_put.result
           (record { job = w.meet_and_put.new.self; out = w.meet_and_put.new.out }) w.in-Some.is w.meet_and_put.ensures.meets
           w.meet_and_put.ensures.within_wins w.meet_and_put.ensures.ready w.meet_and_put.ensures.puts w.meet_and_put.ensures.outbox)
       | in_default w ↦
           rw (w.self-is, w.out-is)
           (scan-passes s t i (record { job = c.args.self.now; out = c.args.out.now }) (record { job = c.loop-slot.self; out = c.loop-slot.out })
-          c.loop-slot.invariant c.slot_at.result within c.slot_at.ensures.leads c.slot_at.ensures.in_a_cell w.in_default.is)
+          c.loop-slot.invariant edges c.edges_at-edges.ensures.edges c.at.result within c.at.ensures w.in_default.is)
     ]
 
 pub returns-clause-puts : goal.returns-clause-puts
@@ -59,7 +58,7 @@ returns-clause-puts c =
     let k = c.loop-slot.self in
     let g = shared_graph s in
     let done : c.loop-slot.slot ≡ length (slots_in s.table.now t.cell) =
-    (let e = c.slots_at-slot-end.ensures.count in let e2 = c.loop-slot-test.false in let e3 = c.loop-slot.auto.slot-end in omega arith) in
+    (let e = c.len-slot-end.ensures.count in let f = c.edges_at-edges.ensures.edges.count in let e2 = c.loop-slot-test.false in let e3 = c.loop-slot.auto.slot-end in omega arith) in
     let p = subst (λ (n : ℕ). HasScanned s t n (record { job = j; out = c.args.out.now }) (record { job = k; out = c.loop-slot.out })) done c.loop-slot.invariant in
     let put = put_tasks g j.mode (all_slots s t _ _ p) in
     let works = scan-works s t _ _ p in
@@ -76,7 +75,7 @@ returns-clause-turns c =
     let s = c.args.shared.now in
     let t = c.args.task in
     let done : c.loop-slot.slot ≡ length (slots_in s.table.now t.cell) =
-    (let e = c.slots_at-slot-end.ensures.count in let e2 = c.loop-slot-test.false in let e3 = c.loop-slot.auto.slot-end in omega arith) in
+    (let e = c.len-slot-end.ensures.count in let f = c.edges_at-edges.ensures.edges.count in let e2 = c.loop-slot-test.false in let e3 = c.loop-slot.auto.slot-end in omega arith) in
     scan-turns s t (record { job = c.args.self.now; out = c.args.out.now }) (record { job = c.loop-slot.self; out = c.loop-slot.out })
     (subst (λ (n : ℕ). HasScanned s t n (record { job = c.args.self.now; out = c.args.out.now }) (record { job = c.loop-slot.self; out = c.loop-slot.out }))
     done c.loop-slot.invariant)
