@@ -57,7 +57,7 @@ settled false true false lost = absurd (false≢true (lost refl refl))
 settled false true true lost = refl
 
 -- a filter of a filter
-filter-both : (p q : ℕ → Bool) (xs : List ℕ) → filter q (filter p xs) ≡ filter (λ x. p x && q x) xs
+pub filter-both : (p q : ℕ → Bool) (xs : List ℕ) → filter q (filter p xs) ≡ filter (λ x. p x && q x) xs
 filter-both p q [] = refl
 filter-both p q (x ∷ xs) = go (p x) (filter-both p q xs)
   where

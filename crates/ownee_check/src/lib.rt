@@ -2,7 +2,9 @@
 #![tactic(auto)]
 
 mod checking;
+mod ownees;
 mod settling;
 mod unowned;
 
 pub use checking::{OwnershipCheck, check_ownees};
+pub use ownees::ownees_of;

@@ -3,12 +3,13 @@ ghost use Rattle.graph_meaning.specs.Roles.{cells_of};
 ghost use Rattle.object_table.specs.Placed.{IsPlaced, IsSound};
 ghost use Rattle.ownee_check.specs.Cells.{cells_by_id};
 ghost use Rattle.ownership_check.specs.Cells.{is_in_doubt};
-ghost use Rattle.std.specs.Prelude.{◌≡◌, ◌<◌, length, filter, IfOk};
+ghost use Rattle.std.specs.Prelude.{◌≡◌, length, filter, IfOk};
 
 use graph_meaning::Roles;
 use header_rule::Words;
 use heap_base::OutOfMemory;
 use object_table::ObjectTable;
+use ownee_check::ownees_of;
 use std::alloc::Global;
 
 /// The cells of the ownees that are marked as met by roots and not as found, by the ids of the objects. Whatever is
@@ -26,22 +27,8 @@ pub(crate) fn doubtful_ownees(
     ensures doubts { IfOk result (λ doubts. doubts.items ≡ filter (is_in_doubt roles.now words.now) (cells_by_id table.now)) }
 {
     let cells = table.cells();
-    let mut doubts = Vec::new(alloc);
-    for number in 0..table.live() {
-        let cell = table.nth_cell(number);
-        prove!(cell < cells);
-        if is_in_doubt(roles, words, cell) {
-            doubts.push(cell)?;
-        }
-    }
+    let mut doubts = ownees_of(alloc, table, roles)?;
+    // Each of them is a cell of the table; the test says so, since `retain` wants one that any number can be given.
+    doubts.retain(|ownee| *ownee < cells && words.met_by_roots(*ownee) && !words.found(*ownee));
     Ok(doubts)
-}
-
-// Whether the object in a cell is an ownee that is marked as met by roots and not as found.
-fn is_in_doubt(roles: &Roles, words: &Words, cell: u32) -> bool
-    requires roles { cell < cells_of roles.now }
-    requires words { cell < words.now.cells }
-    ensures { result ≡ is_in_doubt roles.now words.now cell }
-{
-    roles.owner(cell).has_owner() && words.met_by_roots(cell) && !words.found(cell)
 }

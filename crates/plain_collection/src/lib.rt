@@ -5,7 +5,6 @@
 mod collecting;
 mod instances;
 mod kept;
-mod owned;
 mod plain_trace;
 mod references;
 mod verdicts;

@@ -7,12 +7,11 @@ ghost use Rattle.plain_collection.specs.PlainTraces.{IsPlainTraceOf};
 ghost use Rattle.std.specs.Prelude.{◌≡◌, ◌≤◌, length, IfOk};
 ghost use Rattle.verdict_list.specs.Listed.{most_verdicts};
 
-use crate::owned::ownees_of;
 use crate::plain_trace::PlainTrace;
 use graph_meaning::{Roles, VerdictList};
 use heap_base::OutOfMemory;
 use object_table::ObjectTable;
-use ownee_check::check_ownees;
+use ownee_check::{check_ownees, ownees_of};
 use std::alloc::Global;
 use verdict_list::{CountedHeap, all_verdicts};
 

@@ -1,27 +1,28 @@
-use Rattle.std.proofs.Common.{◌++◌, [], ◌∷◌, sym, ap, ◌∙◌, arith}
-use Rattle.ownership_check.specs.Cells.{is_in_doubt}
-use Rattle.ownee_check.proofs.CellsById.{nth-held, passing-more, passing-same}
+use Rattle.std.proofs.Common.{◌≡◌, ◌<◌, ℕ, ◌&&◌, filter, get_or, rules, sym, ap, subst, ◌∙◌}
+use Rattle.std.specs.Prelude.{ltb}
+use Rattle.std.proofs.lemmas.Bool.{lt-ltb}
+use Rattle.std.proofs.lemmas.Fn.{filter_same}
+use Rattle.graph_meaning.specs.Roles.{owner_in, has_owner, id_at}
+use Rattle.graph_meaning.proofs.Membership.{filter_agree_all}
+use Rattle.path_cert.proofs.HeldObjects.{held-id, held-within}
+use Rattle.ownee_check.specs.Cells.{cells_by_id}
+use Rattle.ownee_check.proofs.CellsById.{cells-held}
+use Rattle.ownee_check.proofs.Violating.{filter-both}
+use Rattle.ownership_check.specs.Cells.{is_in_doubt, is_marked_lost}
 use Rattle.ownership_check.proofs.doubts.doubtful_ownees.Goals as goal
-use Rattle.ownership_check.proofs.doubts.doubtful_ownees.Goals.{then-is_in_doubt+in_ok-push, else-is_in_doubt}
 
-pub prove-unreachable-requires : goal.prove-unreachable-requires
-prove-unreachable-requires c =
-    let within = nth-held c.args.table.now c.cells-cells.ensures.placed c.loop-number.number c.nth_cell-cell.result (omega arith) c.nth_cell-cell.ensures.cell in
-    omega (arith, within)
-
-pub loop-number-preserved : goal.loop-number-preserved
-loop-number-preserved c =
-    let test = is_in_doubt c.args.roles.now c.args.words.now in
-    let cell = c.nth_cell-cell.result in
-    elim c.if-is_in_doubt.branch [
-      | then-is_in_doubt+in_ok-push w ↦
-          rw w.doubts-is
-          (w.in_ok-push.ensures.items ∙ ap (λ xs. xs ++ cell ∷ []) c.loop-number.invariant
-          ∙ passing-more c.args.table.now c.cells-cells.ensures.placed test c.loop-number.number cell (omega arith) c.nth_cell-cell.ensures.cell
-          (sym c.is_in_doubt.ensures ∙ w.if-is_in_doubt.true))
-      | else-is_in_doubt w ↦
-          rw w.doubts-is
-          (c.loop-number.invariant
-          ∙ passing-same c.args.table.now c.cells-cells.ensures.placed test c.loop-number.number cell (omega arith) c.nth_cell-cell.ensures.cell
-          (sym c.is_in_doubt.ensures ∙ w.if-is_in_doubt.false))
-    ]
+pub returns-clause-doubts : goal.returns-clause-doubts
+returns-clause-doubts c =
+    let p = c.args.table.now in
+    let r = c.args.roles.now in
+    let w = c.args.words.now in
+    let owned = λ (x : ℕ). has_owner (owner_in r x) in
+    let test = λ (x : ℕ). ltb x c.cells-cells.result && is_marked_lost w x in
+    let kept : c.retain.new.self.items ≡ filter test c.in_ok-doubts.doubts.items = filter_same _ test _ (λ x b f' called. search rules) _ _ c.retain.ensures.filtered in
+    kept ∙ ap (filter test) c.in_ok-doubts.ensures.ownees
+    ∙ filter-both owned test (cells_by_id p)
+    ∙ filter_agree_all (λ x. owned x && test x) (is_in_doubt r w) (cells_by_id p) (λ k d within.
+    let x = get_or (cells_by_id p) k d in
+    let in_table = held-within p x (id_at p.cells x) (held-id p x (cells-held p c.cells-cells.ensures.placed k d within)) in
+    let is = lt-ltb x c.cells-cells.result (subst (λ n. x < n) (sym c.cells-cells.ensures.count) in_table) in
+    ap (λ b. owned x && (b && is_marked_lost w x)) is)

@@ -1,8 +1,8 @@
 use Rattle.std.proofs.Common.{◌++◌, [], ◌∷◌, ℕ, sym, ap, ◌∙◌, arith}
 use Rattle.graph_meaning.specs.Roles.{owner_in, has_owner}
 use Rattle.ownee_check.proofs.CellsById.{nth-held, passing-more, passing-same}
-use Rattle.plain_collection.proofs.owned.ownees_of.Goals as goal
-use Rattle.plain_collection.proofs.owned.ownees_of.Goals.{then-has_owner+in_ok-push, else-has_owner}
+use Rattle.ownee_check.proofs.ownees.ownees_of.Goals as goal
+use Rattle.ownee_check.proofs.ownees.ownees_of.Goals.{then-has_owner+in_ok-push, else-has_owner}
 
 pub prove-unreachable-requires : goal.prove-unreachable-requires
 prove-unreachable-requires c =

@@ -1,7 +1,7 @@
 use Rattle.std.proofs.Common.{◌≡◌, take, filter}
 use Rattle.graph_meaning.specs.Roles.{owner_in, has_owner}
 use Rattle.ownee_check.specs.Cells.{cells_by_id}
-use Rattle.plain_collection.proofs.owned.ownees_of.Given as goal
+use Rattle.ownee_check.proofs.ownees.ownees_of.Given as goal
 
 -- of the objects so far
 abbrev pub invariant-loop-number : goal.invariant-loop-number
