@@ -1,7 +1,7 @@
 pub mod Adding
 pub mod ByHeap
 pub mod ByName
-pub mod Inserting
+pub mod IdSet
 pub mod Kept
 pub mod Marking
 pub mod Owners

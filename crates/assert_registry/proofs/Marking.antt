@@ -1,8 +1,9 @@
 -- Flags and roles of cells, set for one object after another.
-use Rattle.std.proofs.Common.{◌≡◌, ◌≢◌, ℕ, zero, suc, ◌<◌, Bool, true, false, ◌||◌, ◌⊎◌, inl, inr, ⊎_elim, List, [], ◌∷◌, length, get_or, set, replicate, Option, None, Some, sym, ap, refl, subst, ◌∙◌}
+use Rattle.std.proofs.Common.{◌≡◌, ◌≢◌, ℕ, zero, suc, ◌+◌, ◌<◌, ◌≤◌, Bool, true, false, ◌||◌, ◌⊎◌, inl, inr, ⊎_elim, List, [], ◌∷◌, length, get_or, set, drop, replicate, Option, None, Some, sym, ap, refl, subst, ◌∙◌}
 use Rattle.std.specs.Option.{option_and_then, option_map_or}
 use Rattle.std.proofs.lemmas.Bool.{cases_eq, ne_eqb, or_left, or_right}
-use Rattle.std.proofs.lemmas.List.{get_or-set_same, get_or-set_other}
+use Rattle.std.proofs.Math.ListN.{drop_of_length-le}
+use Rattle.std.proofs.lemmas.List.{drop_more, get_or-set_same, get_or-set_other}
 use Rattle.graph_meaning.specs.declared.roles.OwnerRole.{OwnerRole}
 use Rattle.graph_meaning.specs.declared.roles.OwnerRole.TheVariants.{NotOwned}
 use Rattle.graph_meaning.specs.Reach.{has_id}
@@ -11,6 +12,10 @@ use Rattle.object_table.specs.Placed.{PlacedTable, IsPlaced, id_in}
 use Rattle.assert_registry.specs.Assertions.{owner_of}
 use Rattle.assert_registry.specs.ByCell.{holds_one_of, owner_at, IsRoleBy}
 use Rattle.assert_registry.proofs.Owners.{is_at-other}
+
+-- the objects that are left, the next first
+pub drop_next : (ids : List ℕ) (i id : ℕ) → i < length ids → id ≡ get_or ids i id → drop i ids ≡ id ∷ drop (i + 1) ids
+drop_next ids i id within is = drop_more ids i id within ∙ ap (λ x. x ∷ drop (i + 1) ids) (sym is)
 
 module _ (p : PlacedTable) (placed : IsPlaced p) (id cell : ℕ) (held : id_in p cell ≡ Some id) where
   -- no other cell holds the object
@@ -58,6 +63,17 @@ module _ (p : PlacedTable) (placed : IsPlaced p) (id cell : ℕ) (held : id_in p
       go : (o : Option ℕ) → o ≢ Some id → option_and_then (owner_of ((id, owner) ∷ rest)) o ≡ option_and_then (owner_of rest) o
       go None apart = refl
       go (Some x) apart = rw (is_at-other x id (λ e. apart (ap Some e))) refl
+
+-- no object is left
+pub flag_all : (p : PlacedTable) (flags : List Bool) (ids : List ℕ) (i : ℕ) → length ids ≤ i → (cell : ℕ) →
+    (get_or flags cell false || holds_one_of p (drop i ids) cell) ≡ get_or flags cell false
+flag_all p flags ids i past cell =
+    ap (λ left. get_or flags cell false || holds_one_of p left cell) (drop_of_length-le ids past) ∙ none (get_or flags cell false) (id_in p cell)
+  where
+    none : (b : Bool) (o : Option ℕ) → (b || option_map_or (has_id []) o false) ≡ b
+    none true o = refl
+    none false None = refl
+    none false (Some x) = refl
 
 -- A cell has the role that these owners give its object; or it has none yet, and the owners that are left give it the same.
 abbrev pub HasRoleSoFar : PlacedTable → List (ℕ × ℕ) → List (ℕ × ℕ) → List OwnerRole → ℕ → Type 0

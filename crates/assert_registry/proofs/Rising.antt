@@ -1,20 +1,13 @@
 -- Numbers that rise are the list of those that stand in it.
-use Rattle.std.proofs.Common.{◌≡◌, ◌≢◌, ℕ, zero, suc, ◌<◌, Bool, true, false, ◌||◌, ◌&&◌, ⊎_elim, List, [], ◌∷◌, sym, ap, refl, ◌∙◌, arith, eqb-true}
-use Rattle.std.specs.Prelude.{◌==◌}
-use Rattle.std.specs.BTreeSet.{insert_key}
+use Rattle.std.proofs.Common.{◌≡◌, ◌≢◌, ℕ, zero, suc, ◌<◌, true, false, ◌||◌, ⊎_elim, List, [], ◌∷◌, sym, ap, refl, ◌∙◌, arith, eqb-true}
 use Rattle.std.specs.List.{AllPairs}
 use Rattle.std.specs.List.Sorted.{IsStrictlySortedBy}
-use Rattle.std.specs.Map.{values_of}
 use Rattle.std.specs.Ordering.{nat_cmp}
-use Rattle.std.proofs.lemmas.Bool.{false≢true, cases_eq, ne_eqb, or_right, or_cases, false_from_ne_true}
-use Rattle.std.proofs.lemmas.List.Kept.{AllPairs-filter, AllPairs-from_increasing}
+use Rattle.std.proofs.lemmas.Bool.{false≢true, cases_eq, ne_eqb, or_cases, false_from_ne_true}
+use Rattle.std.proofs.lemmas.List.Kept.{AllPairs-from_increasing}
 use Rattle.std.proofs.lemmas.Map.Keys.{IsStrictlyIncreasing-from_sorted}
-use Rattle.graph_meaning.specs.Heap.{Table, ids, is_live}
-use Rattle.graph_meaning.specs.Laws.{IdsRise}
 use Rattle.graph_meaning.specs.Reach.{has_id}
-use Rattle.graph_meaning.proofs.HeapLemmas.{has_id-ids}
-use Rattle.graph_meaning.proofs.Membership.{has_id-head, has_id-filter, has_id-insert_key}
-use Rattle.assert_registry.specs.ByCell.{live_owners}
+use Rattle.graph_meaning.proofs.Membership.{has_id-head}
 
 abbrev pub Rise : List ℕ → Type 0
 Rise xs = AllPairs (λ x y. x < y) xs
@@ -73,40 +66,3 @@ same_rising (x ∷ xs) (y ∷ ys) rise_xs rise_ys same =
             let e : has_id (x ∷ xs) z ≡ has_id xs z = ap (λ b. b || has_id xs z) (ne_eqb x z ne) in
             let f : has_id (y ∷ ys) z ≡ has_id ys z = ap (λ b. b || has_id ys z) (ne_eqb y z (λ g. ne (first ∙ g))) in
             sym e ∙ same z ∙ f
-
--- ---- owners that are live, gathered one after another
-
--- the next owner is live
-pub gather_live : (t : Table) (keys rest : List ℕ) (owner id : ℕ) → is_live t owner ≡ true →
-    (has_id (insert_key nat_cmp keys owner) id || (has_id rest id && is_live t id)) ≡ (has_id keys id || (has_id (owner ∷ rest) id && is_live t id))
-gather_live t keys rest owner id live =
-    ap (λ b. b || (has_id rest id && is_live t id)) (has_id-insert_key keys owner id) ∙ go (owner == id) (λ e. ap (is_live t) (sym (eqb-true owner id e)) ∙ live)
-  where
-    go : (b : Bool) → (b ≡ true → is_live t id ≡ true) → ((b || has_id keys id) || (has_id rest id && is_live t id)) ≡ (has_id keys id || ((b || has_id rest id) && is_live t id))
-    go true here = sym (or_right (has_id keys id) (true && is_live t id) (here refl))
-    go false here = refl
-
--- the next owner is not live
-pub gather_gone : (t : Table) (keys rest : List ℕ) (owner id : ℕ) → is_live t owner ≡ false →
-    (has_id keys id || (has_id rest id && is_live t id)) ≡ (has_id keys id || (has_id (owner ∷ rest) id && is_live t id))
-gather_gone t keys rest owner id gone =
-    ap (λ b. has_id keys id || b) (go (owner == id) (λ e. ap (is_live t) (sym (eqb-true owner id e)) ∙ gone))
-  where
-    go : (b : Bool) → (b ≡ true → is_live t id ≡ false) → (has_id rest id && is_live t id) ≡ ((b || has_id rest id) && is_live t id)
-    go true here = rw (here refl) (and_false (has_id rest id))
-      where
-        and_false : (c : Bool) → (c && false) ≡ false
-        and_false true = refl
-        and_false false = refl
-    go false here = refl
-
--- all were gathered
-pub gather_all : (t : Table) (owners : List (ℕ × ℕ)) (keys : List ℕ) → IdsRise t → IsStrictlySortedBy nat_cmp keys →
-    ((id : ℕ) → (has_id keys id || (has_id [] id && is_live t id)) ≡ (has_id (values_of owners) id && is_live t id)) → keys ≡ live_owners t owners
-gather_all t owners keys rise sorted same =
-    same_rising keys (live_owners t owners) (Rise-sorted keys sorted) (AllPairs-filter (λ x y. x < y) (has_id (values_of owners)) (ids t) rise.rising)
-    (λ id. sym (or_none (has_id keys id)) ∙ same id ∙ ap (λ b. has_id (values_of owners) id && b) (sym (has_id-ids t id)) ∙ sym (has_id-filter (has_id (values_of owners)) (ids t) id))
-  where
-    or_none : (b : Bool) → (b || false) ≡ b
-    or_none true = refl
-    or_none false = refl

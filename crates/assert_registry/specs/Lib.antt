@@ -1,4 +1,4 @@
 pub mod Assertions
 pub mod ByCell
-pub mod Inserting
+pub mod IdSet
 pub mod Laws

@@ -2,6 +2,7 @@
 //! be.
 #![tactic(auto)]
 
+mod id_set;
 mod ids;
 mod laws;
 mod registry;

@@ -9,20 +9,21 @@ ghost use Rattle.graph_meaning.specs.Step.{refusal_where};
 ghost use Rattle.assert_registry.specs.Assertions.{no_assertions, kind_room, owner_of, with_room, live_part, AreConsistent};
 ghost use Rattle.assert_registry.specs.ByCell.{SpeakOfTable, AreRolesBy};
 
-use crate::ids::{insert_all, is_live};
+use crate::id_set::IdSet;
+use crate::ids::is_live;
 use crate::roles::{add_owners, live_owners, set_dead, set_limits, set_owners, set_unshared};
 use graph_meaning::{Refusal, Roles, Stop};
 use heap_base::{ObjId, OutOfMemory};
 use object_table::ObjectTable;
 use std::alloc::Global;
-use std::collections::{BTreeMap, BTreeSet};
+use std::collections::BTreeMap;
 use std::marker::Model;
 
 /// What a trace asserts of objects and types. Contracts see it as `Assertions`.
 #[derive(Drop)]
 pub struct AssertRegistry {
-    dead: BTreeSet<ObjId>,
-    unshared: BTreeSet<ObjId>,
+    dead: IdSet,
+    unshared: IdSet,
     // the limit of each type, by its number
     limits: Vec<Option<u32>>,
     // the owner of each ownee
@@ -36,9 +37,9 @@ impl Model for AssertRegistry {
 
     ghost Value = { Assertions };
 
-    ghost view = { λ r. record { dead = r.dead.keys; unshared = r.unshared.keys; limits = r.limits.items; owners = r.owners.entries } };
+    ghost view = { λ r. record { dead = r.dead; unshared = r.unshared; limits = r.limits.items; owners = r.owners.entries } };
 
-    ghost invariant = { λ r. AreConsistent (record { dead = r.dead.keys; unshared = r.unshared.keys; limits = r.limits.items; owners = r.owners.entries }) × (vec_len r.limits < 2 ^ 32) };
+    ghost invariant = { λ r. AreConsistent (record { dead = r.dead; unshared = r.unshared; limits = r.limits.items; owners = r.owners.entries }) × (vec_len r.limits < 2 ^ 32) };
 }
 
 impl AssertRegistry {
@@ -47,8 +48,8 @@ impl AssertRegistry {
         ensures { IfOk result (λ r. r ≡ no_assertions) }
     {
         Ok(AssertRegistry {
-            dead: BTreeSet::new(alloc),
-            unshared: BTreeSet::new(alloc),
+            dead: IdSet::new(alloc),
+            unshared: IdSet::new(alloc),
             limits: Vec::new(alloc),
             owners: BTreeMap::new(alloc),
             alloc,
@@ -60,8 +61,7 @@ impl AssertRegistry {
         ensures done { OnOk result (self.new ≡ record self.old { dead = insert_key nat_cmp self.old.dead id }) }
         ensures err { OnErr result (self.new ≡ self.old) }
     {
-        self.dead.insert(id)?;
-        Ok(())
+        self.dead.insert(id)
     }
 
     /// All these objects are asserted dead from now on. When out of memory, none of them is, and
@@ -70,7 +70,7 @@ impl AssertRegistry {
         ensures done { OnOk result (self.new ≡ record self.old { dead = fold (insert_key nat_cmp) self.old.dead ids.now }) }
         ensures err { OnErr result (self.new ≡ self.old) }
     {
-        insert_all(self.alloc, &mut self.dead, ids)
+        self.dead.insert_all(ids)
     }
 
     /// The object is asserted unshared from now on. When out of memory, nothing has changed.
@@ -78,8 +78,7 @@ impl AssertRegistry {
         ensures done { OnOk result (self.new ≡ record self.old { unshared = insert_key nat_cmp self.old.unshared id }) }
         ensures err { OnErr result (self.new ≡ self.old) }
     {
-        self.unshared.insert(id)?;
-        Ok(())
+        self.unshared.insert(id)
     }
 
     /// Makes room for the limits of so many types, with the numbers from 0. When out of memory, nothing has
@@ -143,8 +142,8 @@ impl AssertRegistry {
         ensures by_assertions { IfOk result (AreRolesBy self.now table.now) }
     {
         let mut roles = Roles::make(self.alloc, table.cells(), table.kinds())?;
-        set_dead(&mut roles, table, &self.dead);
-        set_unshared(&mut roles, table, &self.unshared);
+        set_dead(&mut roles, table, self.dead.as_slice());
+        set_unshared(&mut roles, table, self.unshared.as_slice());
         set_limits(&mut roles, table.kinds(), &self.limits);
         set_owners(&mut roles, table, &self.owners);
         let live = live_owners(self.alloc, table, &self.owners)?;
@@ -157,8 +156,8 @@ impl AssertRegistry {
     pub fn keep(&mut self, table: &ObjectTable)
         ensures { self.new ≡ live_part table.now.table self.old }
     {
-        self.dead.retain(|id| is_live(table, *id));
-        self.unshared.retain(|id| is_live(table, *id));
+        self.dead.retain_live(table);
+        self.unshared.retain_live(table);
         self.owners.retain(|ownee, _| is_live(table, *ownee));
     }
 }

@@ -1,5 +1,7 @@
 ghost use Rattle.std.specs.Prelude.{◌≡◌, ◌||◌, ℕ, [], ◌<◌, length, map, IsSome, IfOk, IsTrue, Some, None, false, slice_index_or};
+ghost use Rattle.std.specs.List.Sorted.{IsStrictlySortedBy};
 ghost use Rattle.std.specs.Map.{keys_of};
+ghost use Rattle.std.specs.Ordering.{nat_cmp};
 ghost use Rattle.graph_meaning.specs.declared.roles.OwnerRole.TheVariants.{NotOwned};
 ghost use Rattle.graph_meaning.specs.Heap.{is_live};
 ghost use Rattle.graph_meaning.specs.Laws.{AllLive, IdsRise};
@@ -8,19 +10,19 @@ ghost use Rattle.object_table.specs.Placed.{id_in, IsPlaced};
 ghost use Rattle.assert_registry.specs.Assertions.{limit_of};
 ghost use Rattle.assert_registry.specs.ByCell.{HaveCells, holds_one_of, owner_at, IsRoleBy, live_owners};
 
-use crate::ids::is_live;
+use crate::id_set::IdSet;
 use graph_meaning::{OwnerRole, Roles};
 use heap_base::{ObjId, OutOfMemory};
 use object_table::ObjectTable;
 use std::alloc::Global;
-use std::collections::{BTreeMap, BTreeSet};
+use std::collections::BTreeMap;
 
 /// Says of the cells of these objects that they are asserted dead.
-pub(crate) fn set_dead(roles: &mut Roles, table: &ObjectTable, dead: &BTreeSet<ObjId>)
+pub(crate) fn set_dead(roles: &mut Roles, table: &ObjectTable, dead: &[ObjId])
     requires placed { IsPlaced table.now }
     requires cells { HaveCells table.now roles.old }
-    requires live { AllLive table.now.table dead.now.keys }
-    ensures set { (cell : ℕ) → slice_index_or roles.new.dead cell false ≡ (slice_index_or roles.old.dead cell false || holds_one_of table.now dead.now.keys cell) }
+    requires live { AllLive table.now.table dead.now }
+    ensures set { (cell : ℕ) → slice_index_or roles.new.dead cell false ≡ (slice_index_or roles.old.dead cell false || holds_one_of table.now dead.now cell) }
     ensures cells { HaveCells table.now roles.new }
     ensures rest { roles.new ≡ record roles.old { dead = roles.new.dead } }
 {
@@ -30,11 +32,11 @@ pub(crate) fn set_dead(roles: &mut Roles, table: &ObjectTable, dead: &BTreeSet<O
 }
 
 /// Says of the cells of these objects that they are asserted unshared.
-pub(crate) fn set_unshared(roles: &mut Roles, table: &ObjectTable, unshared: &BTreeSet<ObjId>)
+pub(crate) fn set_unshared(roles: &mut Roles, table: &ObjectTable, unshared: &[ObjId])
     requires placed { IsPlaced table.now }
     requires cells { HaveCells table.now roles.old }
-    requires live { AllLive table.now.table unshared.now.keys }
-    ensures set { (cell : ℕ) → slice_index_or roles.new.unshared cell false ≡ (slice_index_or roles.old.unshared cell false || holds_one_of table.now unshared.now.keys cell) }
+    requires live { AllLive table.now.table unshared.now }
+    ensures set { (cell : ℕ) → slice_index_or roles.new.unshared cell false ≡ (slice_index_or roles.old.unshared cell false || holds_one_of table.now unshared.now cell) }
     ensures cells { HaveCells table.now roles.new }
     ensures rest { roles.new ≡ record roles.old { unshared = roles.new.unshared } }
 {
@@ -74,30 +76,30 @@ pub(crate) fn set_owners(roles: &mut Roles, table: &ObjectTable, owners: &BTreeM
     }
 }
 
-/// The owners that are live.
+/// The owners that are live, each once, by id.
 pub(crate) fn live_owners(
     alloc: Global,
     table: &ObjectTable,
     owners: &BTreeMap<ObjId, ObjId>,
-) -> Result<BTreeSet<ObjId>, OutOfMemory>
+) -> Result<Vec<ObjId>, OutOfMemory>
     requires { IdsRise table.now.table }
-    ensures { IfOk result (λ ids. ids.keys ≡ live_owners table.now.table owners.now.entries) }
+    ensures { IfOk result (λ ids. ids.items ≡ live_owners table.now.table owners.now.entries) }
 {
-    let mut live = BTreeSet::new(alloc);
+    let mut ids = IdSet::new(alloc);
     for owner in owners.values() {
-        if is_live(table, *owner) {
-            live.insert(*owner)?;
-        }
+        ids.insert(*owner)?;
     }
-    Ok(live)
+    ids.retain_live(table);
+    Ok(ids.into_sorted_vec())
 }
 
-/// Adds the cells of these objects to those of the owners, by id.
-pub(crate) fn add_owners(roles: &mut Roles, table: &ObjectTable, owners: &BTreeSet<ObjId>)
+/// Adds the cells of these objects, which are given by id, to those of the owners.
+pub(crate) fn add_owners(roles: &mut Roles, table: &ObjectTable, owners: &[ObjId])
     requires cells { HaveCells table.now roles.old }
-    requires live { AllLive table.now.table owners.now.keys }
+    requires live { AllLive table.now.table owners.now }
+    requires rising { IsStrictlySortedBy nat_cmp owners.now }
     requires none { roles.old.owners ≡ [] }
-    ensures added { map (id_in table.now) roles.new.owners ≡ map Some owners.now.keys }
+    ensures added { map (id_in table.now) roles.new.owners ≡ map Some owners.now }
     ensures rest { roles.new ≡ record roles.old { owners = roles.new.owners } }
 {
     for id in owners {

@@ -1,13 +1,11 @@
-use Rattle.std.proofs.Common.{◌≡◌, ◌||◌, ◌&&◌, ℕ}
-use Rattle.std.specs.List.Sorted.{IsStrictlySortedBy}
+use Rattle.std.proofs.Common.{◌≡◌, fold}
+use Rattle.std.specs.BTreeSet.{insert_key}
 use Rattle.std.specs.Map.{values_of}
 use Rattle.std.specs.Ordering.{nat_cmp}
-use Rattle.graph_meaning.specs.Heap.{is_live}
-use Rattle.graph_meaning.specs.Reach.{has_id}
+use Rattle.assert_registry.specs.IdSet.{set_of}
 use Rattle.assert_registry.proofs.roles.live_owners.Given as goal
 
+-- with the owners that are left
 abbrev pub invariant-loop-owner : goal.invariant-loop-owner
-invariant-loop-owner l = record {
-  sorted : IsStrictlySortedBy nat_cmp l.live.keys;
-  gathered : (id : ℕ) → (has_id l.live.keys id || (has_id l.owner-iterator id && is_live l.table.table id)) ≡ (has_id (values_of l.owners.entries) id && is_live l.table.table id);
-}
+invariant-loop-owner l =
+    fold (insert_key nat_cmp) l.ids l.owner-iterator ≡ set_of (values_of l.owners.entries)

@@ -1,5 +1,4 @@
 use Rattle.std.proofs.Common.{◌≡◌, filter, refl, rules}
-use Rattle.std.proofs.lemmas.Fn.{filter_same}
 use Rattle.std.proofs.lemmas.List.Elements.{All-filter}
 use Rattle.std.proofs.lemmas.Map.Made.{filter_same_pairs}
 use Rattle.graph_meaning.specs.Heap.{is_live}
@@ -10,12 +9,12 @@ pub invariant_of-self : goal.invariant_of-self
 invariant_of-self c =
     let t = c.args.table.now.table in
     let (consistent, room) = c.self.invariant in
-    let owners : c.retain-3.new.self.entries ≡ filter (λ o. is_live t o.0) c.self.inside.owners.entries =
-    filter_same_pairs _ (λ o. is_live t o.0) _ (λ k v b w f' s. search rules) _ _ c.retain-3.ensures.filtered in (
+    let owners : c.retain.new.self.entries ≡ filter (λ o. is_live t o.0) c.self.inside.owners.entries =
+    filter_same_pairs _ (λ o. is_live t o.0) _ (λ k v b w f' s. search rules) _ _ c.retain.ensures.filtered in (
       record {
-        dead = c.retain.ensures.ordered;
-        unshared = c.retain-2.ensures.ordered;
-        owners = c.retain-3.ensures.ordered;
+        dead = c.retain_live.ensures.rising;
+        unshared = c.retain_live-2.ensures.rising;
+        owners = c.retain.ensures.ordered;
         others = rw owners (All-filter (λ o. is_live t o.0) IsByAnother c.self.inside.owners.entries consistent.others);
       },
       room,
@@ -24,8 +23,6 @@ invariant_of-self c =
 pub returns : goal.returns
 returns c =
     let t = c.args.table.now.table in
-    let dead : c.retain.new.self.keys ≡ filter (is_live t) c.self.inside.dead.keys = filter_same _ (is_live t) _ (λ x b f' s. search rules) _ _ c.retain.ensures.filtered in
-    let unshared : c.retain-2.new.self.keys ≡ filter (is_live t) c.self.inside.unshared.keys = filter_same _ (is_live t) _ (λ x b f' s. search rules) _ _ c.retain-2.ensures.filtered in
-    let owners : c.retain-3.new.self.entries ≡ filter (λ o. is_live t o.0) c.self.inside.owners.entries =
-    filter_same_pairs _ (λ o. is_live t o.0) _ (λ k v b w f' s. search rules) _ _ c.retain-3.ensures.filtered in
-    rw (← c.self.view_is, dead, unshared, owners) refl
+    let owners : c.retain.new.self.entries ≡ filter (λ o. is_live t o.0) c.self.inside.owners.entries =
+    filter_same_pairs _ (λ o. is_live t o.0) _ (λ k v b w f' s. search rules) _ _ c.retain.ensures.filtered in
+    rw (← c.self.view_is, c.retain_live.ensures.live, c.retain_live-2.ensures.live, owners) refl

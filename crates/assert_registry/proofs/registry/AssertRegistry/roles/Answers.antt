@@ -12,15 +12,23 @@ use Rattle.graph_meaning.proofs.HeapLemmas.{has_id-ids}
 use Rattle.graph_meaning.proofs.Membership.{All-has_id}
 use Rattle.assert_registry.specs.Assertions.{Assertions, limit_of, AreConsistent, AreOfSeenTypes}
 use Rattle.assert_registry.specs.ByCell.{IsRoleBy, holds_one_of, owner_at}
+use Rattle.assert_registry.specs.IdSet.{set_of}
+use Rattle.assert_registry.proofs.IdSet.{All-set_of, holds_one_of-set_of, sorted-live_owners}
 use Rattle.assert_registry.proofs.Marking.{get_or-replicate_same}
 use Rattle.assert_registry.proofs.RolesOfTable.{roles_of_table}
 use Rattle.assert_registry.proofs.registry.AssertRegistry.roles.Goals as goal
 
 pub set_dead-requires-clause-live : goal.set_dead-requires-clause-live
-set_dead-requires-clause-live c = subst (λ (a : Assertions). AllLive c.args.table.now.table a.dead) (sym c.self.view_is) c.requires.dead
+set_dead-requires-clause-live c =
+    let t = c.args.table.now.table in
+    let set : set_of c.as_slice.result.now ≡ c.args.self.now.dead = c.as_slice.ensures ∙ ap (λ (a : Assertions). a.dead) c.self.view_is in
+    All-set_of (λ id. IsTrue (is_live t id)) c.as_slice.result.now (subst (AllLive t) (sym set) c.requires.dead)
 
 pub set_unshared-requires-clause-live : goal.set_unshared-requires-clause-live
-set_unshared-requires-clause-live c = subst (λ (a : Assertions). AllLive c.args.table.now.table a.unshared) (sym c.self.view_is) c.requires.unshared
+set_unshared-requires-clause-live c =
+    let t = c.args.table.now.table in
+    let set : set_of c.as_slice-2.result.now ≡ c.args.self.now.unshared = c.as_slice-2.ensures ∙ ap (λ (a : Assertions). a.unshared) c.self.view_is in
+    All-set_of (λ id. IsTrue (is_live t id)) c.as_slice-2.result.now (subst (AllLive t) (sym set) c.requires.unshared)
 
 pub set_owners-requires-clause-live : goal.set_owners-requires-clause-live
 set_owners-requires-clause-live c = subst (λ (a : Assertions). AllLive c.args.table.now.table (keys_of a.owners)) (sym c.self.view_is) c.requires.ownees
@@ -37,7 +45,11 @@ add_owners-requires-clause-live c =
     let t = c.args.table.now.table in
     let owners = c.self.inside.owners.entries in
     let live : All (λ x. IsTrue (is_live t x)) (ids t) = All-weaker (λ x. IsTrue (has_id (ids t) x)) (λ x. IsTrue (is_live t x)) (λ x at. sym (has_id-ids t x) ∙ at) (ids t) (All-has_id (ids t)) in
-    rw c.in_ok-live.ensures (All-filter (has_id (values_of owners)) (λ x. IsTrue (is_live t x)) (ids t) live)
+    rw (c.deref-2.ensures.value, c.in_ok-live.ensures) (All-filter (has_id (values_of owners)) (λ x. IsTrue (is_live t x)) (ids t) live)
+
+pub add_owners-requires-clause-rising : goal.add_owners-requires-clause-rising
+add_owners-requires-clause-rising c =
+    rw (c.deref-2.ensures.value, c.in_ok-live.ensures) (sorted-live_owners c.args.table.now.table c.self.inside.owners.entries c.cells.ensures.sound.ids)
 
 -- The roles were set part by part: no later step changed what an earlier one set.
 module _ (c : goal.After-drop-live) where
@@ -65,22 +77,26 @@ module _ (c : goal.After-drop-live) where
 pub returns-clause-by_assertions : goal.returns-clause-by_assertions
 returns-clause-by_assertions c =
     let p = c.args.table.now in
-    let dead = c.self.inside.dead.keys in
-    let unshared = c.self.inside.unshared.keys in
+    let dead = c.as_slice.result.now in
+    let unshared = c.as_slice-2.result.now in
     rw (← c.self.view_is) (record {
       dead =
           λ cell. ap (λ fs. get_or fs cell false) (dead_set c) ∙ c.set_dead.ensures.set cell
           ∙ ap (λ (r : RoleTable). get_or r.dead cell false || holds_one_of p dead cell) c.in_ok-roles.ensures
-          ∙ ap (λ b. b || holds_one_of p dead cell) (get_or-replicate_same c.cells.result cell false);
+          ∙ ap (λ b. b || holds_one_of p dead cell) (get_or-replicate_same c.cells.result cell false)
+          ∙ sym (holds_one_of-set_of p dead cell)
+          ∙ ap (λ ids. holds_one_of p ids cell) c.as_slice.ensures;
       unshared =
           λ cell. ap (λ fs. get_or fs cell false) (unshared_set c) ∙ c.set_unshared.ensures.set cell
           ∙ ap (λ fs. get_or fs cell false || holds_one_of p unshared cell) (none_before c)
-          ∙ ap (λ b. b || holds_one_of p unshared cell) (get_or-replicate_same c.cells.result cell false);
+          ∙ ap (λ b. b || holds_one_of p unshared cell) (get_or-replicate_same c.cells.result cell false)
+          ∙ sym (holds_one_of-set_of p unshared cell)
+          ∙ ap (λ ids. holds_one_of p ids cell) c.as_slice-2.ensures;
       ownees =
           λ cell. subst (λ (rs : List OwnerRole). IsRoleBy p (owner_at p c.self.inside.owners.entries cell) (get_or rs cell NotOwned))
           (sym (ap (λ (r : RoleTable). r.ownees) c.add_owners.ensures.rest)) (c.set_owners.ensures.set cell);
       limits = λ kind. ap (λ ls. get_or ls kind None) (limits_set c) ∙ c.set_limits.ensures.set kind ∙ ap (λ ls. get_or ls kind None) c.deref.ensures.value;
-      owners = c.add_owners.ensures.added ∙ ap (map Some) c.in_ok-live.ensures;
+      owners = c.add_owners.ensures.added ∙ ap (map Some) (c.deref-2.ensures.value ∙ c.in_ok-live.ensures);
     })
 
 pub returns-clause-of_table : goal.returns-clause-of_table
