@@ -8,7 +8,7 @@ use std::marker::Model;
 /// A value for each of so many cells: the same one for all that were not set. What stands behind the last cell that was set is
 /// written nowhere, so cells of which none is set cost no time. Contracts see the list of the values.
 #[derive(Drop)]
-pub(crate) struct ByCell<T> {
+pub struct ByCell<T> {
     // has room for all cells
     front: Vec<T>,
     rest: T,
@@ -28,7 +28,7 @@ impl<T> Model for ByCell<T> {
 
 impl<T: Copy> ByCell<T> {
     /// The same value for each cell. It takes the memory of all later calls.
-    pub(crate) fn make(alloc: Global, cells: u32, value: T) -> Result<ByCell<T>, OutOfMemory>
+    pub fn make(alloc: Global, cells: u32, value: T) -> Result<ByCell<T>, OutOfMemory>
         ensures { IfOk result (λ b. b ≡ replicate cells value) }
     {
         Ok(ByCell {
@@ -39,7 +39,7 @@ impl<T: Copy> ByCell<T> {
     }
 
     /// The same values.
-    pub(crate) fn copy(&self) -> Result<ByCell<T>, OutOfMemory>
+    pub fn copy(&self) -> Result<ByCell<T>, OutOfMemory>
         ensures { IfOk result (λ b. b ≡ self.now) }
     {
         Ok(ByCell {
@@ -49,8 +49,15 @@ impl<T: Copy> ByCell<T> {
         })
     }
 
+    /// How many cells there are.
+    pub fn cells(&self) -> u32
+        ensures { result ≡ length self.now }
+    {
+        self.cells
+    }
+
     /// The value of a cell.
-    pub(crate) fn get(&self, cell: u32) -> T
+    pub fn get(&self, cell: u32) -> T
         requires { cell < length self.now }
         ensures { (other : T) → result ≡ slice_index_or self.now cell other }
     {
@@ -61,7 +68,7 @@ impl<T: Copy> ByCell<T> {
     }
 
     /// Sets the value of a cell.
-    pub(crate) fn set(&mut self, cell: u32, value: T)
+    pub fn set(&mut self, cell: u32, value: T)
         requires { cell < length self.old }
         ensures { self.new ≡ slice_set self.old cell value }
     {

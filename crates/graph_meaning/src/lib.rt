@@ -15,6 +15,7 @@ mod roles;
 mod shown_paths;
 mod views;
 
+pub use by_cell::ByCell;
 pub use collection::{Collection, Verdict, VerdictList};
 pub use event::Event;
 pub use examples::{

@@ -3,4 +3,4 @@ use Rattle.path_cert.specs.declared.frontier.Frontier.{Frontier}
 use Rattle.path_cert.specs.Frontiers.{Front}
 
 abbrev pub front_of : Frontier → Front
-front_of f = record { arrivals = f.arrivals.items; order = f.order.items }
+front_of f = record { arrivals = f.arrivals; order = f.order.items }

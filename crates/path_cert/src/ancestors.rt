@@ -3,6 +3,7 @@ ghost use Rattle.path_cert.specs.Ancestors.{AreAncestors, AncestorOf};
 ghost use Rattle.std.specs.Prelude.{◌≡◌, ◌<◌, length, IfOk, None, slice_index_or};
 
 use crate::arrival::Arrival;
+use graph_meaning::ByCell;
 use heap_base::{END_STEPS, OutOfMemory};
 use std::alloc::Global;
 
@@ -14,7 +15,7 @@ pub(crate) const ANCESTOR_LEVEL: u32 = END_STEPS + 1;
 /// order in which objects got their levels. Where no path leaves steps out, nothing is kept.
 pub(crate) fn ancestors_of(
     alloc: Global,
-    arrivals: &[Arrival],
+    arrivals: &ByCell<Arrival>,
     order: &[u32],
 ) -> Result<Vec<Option<u32>>, OutOfMemory>
     ensures { IfOk result (λ ancestors. AreAncestors arrivals.now ancestors.items) }
@@ -22,9 +23,9 @@ pub(crate) fn ancestors_of(
     if !has_long_path(arrivals, order) {
         return Ok(Vec::new(alloc));
     }
-    let mut ancestors = vec![in alloc; None; arrivals.len()]?;
+    let mut ancestors = vec![in alloc; None; arrivals.cells() as usize]?;
     for cell in order {
-        if (*cell as usize) < arrivals.len() {
+        if *cell < arrivals.cells() {
             ancestors[*cell as usize] = ancestor_of(arrivals, ancestors.as_slice(), *cell);
         }
     }
@@ -32,17 +33,19 @@ pub(crate) fn ancestors_of(
 }
 
 // Whether a path to one of these objects, which stand by their levels, leaves steps out.
-fn has_long_path(arrivals: &[Arrival], order: &[u32]) -> bool {
-    let last = order.last().and_then(|cell| arrivals.get(*cell as usize));
-    last.is_some_and(|arrival| arrival.level > 2 * END_STEPS)
+fn has_long_path(arrivals: &ByCell<Arrival>, order: &[u32]) -> bool {
+    match order.last() {
+        Some(last) if *last < arrivals.cells() => arrivals.get(*last).level > 2 * END_STEPS,
+        _ => false,
+    }
 }
 
 // The ancestor of the object in a cell, where that of the object before it on its path is known.
-fn ancestor_of(arrivals: &[Arrival], ancestors: &[Option<u32>], cell: u32) -> Option<u32>
+fn ancestor_of(arrivals: &ByCell<Arrival>, ancestors: &[Option<u32>], cell: u32) -> Option<u32>
     requires { cell < length arrivals.now }
     ensures { AreAncestors arrivals.now ancestors.now → AncestorOf arrivals.now cell result }
 {
-    let arrival = arrivals[cell as usize];
+    let arrival = arrivals.get(cell);
     if arrival.level > ANCESTOR_LEVEL {
         known_ancestor(ancestors, arrival.from)
     } else if arrival.level == ANCESTOR_LEVEL {

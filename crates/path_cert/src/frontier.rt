@@ -7,6 +7,7 @@ ghost use Rattle.std.specs.Prelude.{◌≡◌, ◌==◌, ◌≤◌, ◌<◌, ◌
 
 use crate::arrival::{Arrival, NOWHERE};
 use crate::objects::object_id;
+use graph_meaning::ByCell;
 use heap_base::OutOfMemory;
 use object_table::ObjectTable;
 use std::alloc::Global;
@@ -15,62 +16,62 @@ use std::alloc::Global;
 // room for each cell once.
 #[derive(Drop)]
 pub(crate) struct Frontier {
-    pub(crate) arrivals: Vec<Arrival>,
+    pub(crate) arrivals: ByCell<Arrival>,
     pub(crate) order: Vec<u32>,
-    ghost once: { count_by is_new arrivals.items + vec_len order ≡ length arrivals.items },
-    ghost room: { length arrivals.items ≤ vec_capacity order },
+    ghost once: { count_by is_new arrivals + vec_len order ≡ length arrivals },
+    ghost room: { length arrivals ≤ vec_capacity order },
 }
 
 impl Frontier {
     pub(crate) fn begin(alloc: Global, cells: u32) -> Result<Frontier, OutOfMemory>
-        ensures arrivals { IfOk result (λ f. f.arrivals.items ≡ replicate cells NOWHERE) }
+        ensures arrivals { IfOk result (λ f. f.arrivals ≡ replicate cells NOWHERE) }
         ensures order { IfOk result (λ f. f.order.items ≡ []) }
     {
-        let arrivals = vec![in alloc; NOWHERE; cells as usize]?;
+        let arrivals = ByCell::make(alloc, cells, NOWHERE)?;
         let order = Vec::with_capacity(alloc, cells as usize)?;
         Ok(Frontier { arrivals, order })
     }
 
     // Arrives at the object in a cell, which was not arrived at before.
     fn put(&mut self, cell: u32, arrival: Arrival)
-        requires cell { cell < length self.old.arrivals.items }
-        requires new { is_new (arrival_in self.old.arrivals.items cell) ≡ true }
+        requires cell { cell < length self.old.arrivals }
+        requires new { is_new (arrival_in self.old.arrivals cell) ≡ true }
         requires level { 0 < arrival.level }
-        ensures arrivals { self.new.arrivals.items ≡ slice_set self.old.arrivals.items cell arrival }
+        ensures arrivals { self.new.arrivals ≡ slice_set self.old.arrivals cell arrival }
         ensures order { self.new.order.items ≡ self.old.order.items ++ cell ∷ [] }
     {
         self.order.push_reserved(cell);
-        self.arrivals[cell as usize] = arrival;
+        self.arrivals.set(cell, arrival);
     }
 
     // Arrives at the object in a cell by a source reference, unless an earlier one led to it.
     pub(crate) fn arrive_first(&mut self, cell: u32, arrival: Arrival)
-        requires cell { cell < length self.old.arrivals.items }
+        requires cell { cell < length self.old.arrivals }
         requires level { 0 < arrival.level }
-        ensures arrivals { self.new.arrivals.items ≡ slice_set self.old.arrivals.items cell (if is_new (arrival_in self.old.arrivals.items cell) then arrival else arrival_in self.old.arrivals.items cell) }
-        ensures order { self.new.order.items ≡ (if is_new (arrival_in self.old.arrivals.items cell) then self.old.order.items ++ cell ∷ [] else self.old.order.items) }
+        ensures arrivals { self.new.arrivals ≡ slice_set self.old.arrivals cell (if is_new (arrival_in self.old.arrivals cell) then arrival else arrival_in self.old.arrivals cell) }
+        ensures order { self.new.order.items ≡ (if is_new (arrival_in self.old.arrivals cell) then self.old.order.items ++ cell ∷ [] else self.old.order.items) }
     {
-        if self.arrivals[cell as usize].level == 0 {
+        if self.arrivals.get(cell).level == 0 {
             self.put(cell, arrival);
         }
     }
 
     // Arrives at the object in a cell by an edge, unless it is of an earlier level, or an object with a lower id leads to it.
     pub(crate) fn arrive(&mut self, table: &ObjectTable, cell: u32, arrival: Arrival)
-        requires cell { cell < length self.old.arrivals.items }
+        requires cell { cell < length self.old.arrivals }
         requires level { 0 < arrival.level }
         requires from { IsSome (id_in table.now arrival.from) }
-        requires known { (arrival_in self.old.arrivals.items cell).level ≡ arrival.level → IsSome (id_in table.now (arrival_in self.old.arrivals.items cell).from) }
-        ensures arrivals { self.new.arrivals.items ≡ slice_set self.old.arrivals.items cell (better table.now (arrival_in self.old.arrivals.items cell) arrival) }
-        ensures order { self.new.order.items ≡ (if is_new (arrival_in self.old.arrivals.items cell) then self.old.order.items ++ cell ∷ [] else self.old.order.items) }
+        requires known { (arrival_in self.old.arrivals cell).level ≡ arrival.level → IsSome (id_in table.now (arrival_in self.old.arrivals cell).from) }
+        ensures arrivals { self.new.arrivals ≡ slice_set self.old.arrivals cell (better table.now (arrival_in self.old.arrivals cell) arrival) }
+        ensures order { self.new.order.items ≡ (if is_new (arrival_in self.old.arrivals cell) then self.old.order.items ++ cell ∷ [] else self.old.order.items) }
     {
-        let known = self.arrivals[cell as usize];
+        let known = self.arrivals.get(cell);
         if known.level == 0 {
             self.put(cell, arrival);
         } else if known.level == arrival.level
             && object_id(table, arrival.from) < object_id(table, known.from)
         {
-            self.arrivals[cell as usize] = arrival;
+            self.arrivals.set(cell, arrival);
         }
     }
 }

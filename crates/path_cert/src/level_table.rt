@@ -17,7 +17,7 @@ use crate::objects::{edge_cell, step_to};
 use crate::references::{from_owner, from_root};
 use crate::start::Start;
 use crate::trail::Trail;
-use graph_meaning::{PathFrom, PathView};
+use graph_meaning::{ByCell, PathFrom, PathView};
 use heap_base::{END_STEPS, OutOfMemory};
 use object_table::ObjectTable;
 use std::alloc::Global;
@@ -29,7 +29,7 @@ use std::marker::Model;
 pub struct Levels {
     alloc: Global,
     start: Start,
-    arrivals: Vec<Arrival>,
+    arrivals: ByCell<Arrival>,
     // the ancestors of objects that long paths lead to
     ancestors: Vec<Option<u32>>,
 }
@@ -40,11 +40,11 @@ impl Model for Levels {
 
     ghost Value = { LevelTable };
 
-    ghost view = { λ l. record { start = l.start; arrivals = l.arrivals.items } };
+    ghost view = { λ l. record { start = l.start; arrivals = l.arrivals } };
 
     ghost use Rattle.path_cert.specs.Ancestors.{AreAncestors};
 
-    ghost invariant = { λ l. AreAncestors l.arrivals.items l.ancestors.items };
+    ghost invariant = { λ l. AreAncestors l.arrivals l.ancestors.items };
 }
 
 /// Where a walk back over a path stands: at the object in a cell, before which so many steps are left.
@@ -60,11 +60,11 @@ impl Levels {
     pub(crate) fn of(
         alloc: Global,
         start: Start,
-        arrivals: Vec<Arrival>,
+        arrivals: ByCell<Arrival>,
         ancestors: Vec<Option<u32>>,
     ) -> Levels
-        requires { AreAncestors arrivals.items ancestors.items }
-        ensures { result ≡ record { start = start; arrivals = arrivals.items } }
+        requires { AreAncestors arrivals ancestors.items }
+        ensures { result ≡ record { start = start; arrivals = arrivals } }
     {
         Levels {
             alloc,
@@ -79,7 +79,7 @@ impl Levels {
         requires { cell < length self.now.arrivals }
         ensures { result ≡ level_in self.now cell }
     {
-        match self.arrivals[cell as usize].level {
+        match self.arrivals.get(cell).level {
             0 => None,
             level => Some(level),
         }
@@ -163,7 +163,7 @@ impl Levels {
         while left > 0 {
             let waypoint = self.skip_hidden(Waypoint { cell, left }, trail.total);
             left = waypoint.left - 1;
-            let arrival = self.arrivals[waypoint.cell as usize];
+            let arrival = self.arrivals.get(waypoint.cell);
             trail.take(left, table, arrival.slot, waypoint.cell)?;
             cell = arrival.from;
         }
@@ -181,7 +181,7 @@ impl Levels {
         if total.saturating_sub(left) != END_STEPS as usize {
             return waypoint;
         }
-        let level = self.arrivals[cell as usize].level;
+        let level = self.arrivals.get(cell).level;
         match self.ancestor(cell) {
             Some(ancestor) if level >= ANCESTOR_LEVEL => Waypoint {
                 cell: ancestor,
@@ -205,7 +205,7 @@ impl Levels {
         ensures { IfOk result (IsStart table.now self.now cell) }
     {
         match self.start {
-            Start::Roots => from_root(table, self.arrivals[cell as usize].from),
+            Start::Roots => from_root(table, self.arrivals.get(cell).from),
             Start::Owners => from_owner(table, cell),
         }
     }

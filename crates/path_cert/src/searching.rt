@@ -39,7 +39,7 @@ pub fn levels(
     }
     search.take_levels(table, shut);
     let Frontier { arrivals, order } = search;
-    let ancestors = ancestors_of(alloc, arrivals.as_slice(), order.as_slice())?;
+    let ancestors = ancestors_of(alloc, &arrivals, order.as_slice())?;
     Ok(Levels::of(alloc, start, arrivals, ancestors))
 }
 
@@ -78,7 +78,7 @@ impl Frontier {
     fn take_owner(&mut self, table: &ObjectTable, owner: u32)
         requires placed { IsPlaced table.now }
         requires owner { IsSome (id_in table.now owner) }
-        requires each { length self.old.arrivals.items ≡ length table.now.cells }
+        requires each { length self.old.arrivals ≡ length table.now.cells }
         ensures taken { (ways : List Way) → HasTaken table.now Owners ways (front_of self.old) → HasTaken table.now Owners (ways ++ ways_from table.now.table (id_at table.now.cells owner ∷ [])) (front_of self.new) }
         ensures grows { FrontGrows table.now (front_of self.old) (front_of self.new) }
     {
@@ -121,7 +121,7 @@ impl Frontier {
         requires from { from ≤ length self.old.order.items }
         requires safe { IsUnderWay table.now level (front_of self.old) }
         ensures safe { IsUnderWay table.now level (front_of self.new) }
-        ensures arrivals { AreByObjects (record { placed = table.now; shut = shut.now; level = level }) (drop from self.old.order.items) self.old.arrivals.items self.new.arrivals.items }
+        ensures arrivals { AreByObjects (record { placed = table.now; shut = shut.now; level = level }) (drop from self.old.order.items) self.old.arrivals self.new.arrivals }
         ensures grows { FrontGrows table.now (front_of self.old) (front_of self.new) }
     {
         for place in from..self.order.len() {
@@ -139,7 +139,7 @@ impl Frontier {
         requires level { 1 < level }
         requires safe { IsUnderWay table.now level (front_of self.old) }
         ensures safe { IsUnderWay table.now level (front_of self.new) }
-        ensures arrivals { (to : ℕ) → (id : ℕ) → id_in table.now to ≡ Some id → arrival_in self.new.arrivals.items to ≡ by_object (record { placed = table.now; shut = []; level = level }) cell (arrival_in self.old.arrivals.items to) id }
+        ensures arrivals { (to : ℕ) → (id : ℕ) → id_in table.now to ≡ Some id → arrival_in self.new.arrivals to ≡ by_object (record { placed = table.now; shut = []; level = level }) cell (arrival_in self.old.arrivals to) id }
         ensures grows { FrontGrows table.now (front_of self.old) (front_of self.new) }
     {
         let edges = table.edges_at(cell);

@@ -3,7 +3,7 @@ use Rattle.std.proofs.lemmas.List.{length-set}
 use Rattle.path_cert.specs.Ancestors.{AreAncestors}
 use Rattle.path_cert.proofs.AncestorSteps.{ancestors-set}
 use Rattle.path_cert.proofs.ancestors.ancestors_of.Goals as goal
-use Rattle.path_cert.proofs.ancestors.ancestors_of.Goals.{then-cell-arrivals, else-cell-arrivals}
+use Rattle.path_cert.proofs.ancestors.ancestors_of.Goals.{then-cell-cells, else-cell-cells}
 
 pub loop-cell-preserved : goal.loop-cell-preserved
 loop-cell-preserved c =
@@ -12,13 +12,13 @@ loop-cell-preserved c =
     let cell = get_or c.args.order.now c.loop-cell.cell-index 0 in
     let was = c.loop-cell.invariant in
     let each = was.each in
-    elim c.if-cell-arrivals.branch [
-      | then-cell-arrivals w ↦
-          let within : get_or c.args.order.now c.loop-cell.cell-index 0 < length c.loop-cell.ancestors.items = (let less = w.if-cell-arrivals.true in omega (arith, less, each)) in
+    elim c.if-cell-cells.branch [
+      | then-cell-cells w ↦
+          let within : get_or c.args.order.now c.loop-cell.cell-index 0 < length c.loop-cell.ancestors.items = (let less = w.if-cell-cells.true in omega (arith, less, each)) in
           let one = w.ancestor_of.ensures (subst (AreAncestors arrivals) (sym w.as_slice.ensures.value) was.ancestors) in
           rw w.ancestors-is (record {
             each = length-set ancestors cell w.ancestor_of.result ∙ each;
             ancestors = ancestors-set arrivals ancestors cell w.ancestor_of.result within was.ancestors one;
           })
-      | else-cell-arrivals w ↦ rw w.ancestors-is was
+      | else-cell-cells w ↦ rw w.ancestors-is was
     ]

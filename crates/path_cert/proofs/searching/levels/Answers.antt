@@ -6,7 +6,6 @@ use Rattle.path_cert.specs.declared.start.Start.TheVariants.{Owners}
 use Rattle.path_cert.specs.Levels.{LevelTable, AreLevelsOf, search_of, sources_of, is_new}
 use Rattle.path_cert.specs.Frontiers.{HasTaken, FrontGrows}
 use Rattle.path_cert.specs.Fronts.{front_of}
-use Rattle.path_cert.specs.Ancestors.{AreAncestors}
 use Rattle.path_cert.proofs.ByIds.{by_id-held, owners-held}
 use Rattle.path_cert.proofs.FirstLevel.{nothing-arrived}
 use Rattle.path_cert.proofs.LevelSteps.{at-first}
@@ -18,8 +17,7 @@ take_owners-requires-clause-owners c =
     owners-held c.args.table.now.cells (length c.args.table.now.table.kinds) c.args.roles.now c.owners.result.now c.owners.ensures c.requires.roles
 
 pub of-requires : goal.of-requires
-of-requires c =
-    subst (λ arrivals. AreAncestors arrivals c.in_ok-ancestors.ancestors.items) c.as_slice.ensures.value c.in_ok-ancestors.ensures
+of-requires c = c.in_ok-ancestors.ensures
 
 pub returns : goal.returns
 returns c =

@@ -37,8 +37,8 @@ loop-place-preserved c =
           rw w.self-is (record {
             safe = w.take_object.ensures.safe;
             arrivals =
-                subst (λ ys. AreByObjects r ys f.arrivals w.take_object.new.self.arrivals.items) (sym more)
-                (by_objects-open r xs cell f.arrivals g.arrivals was.arrivals w.take_object.new.self.arrivals.items w.if-not-shut-cell.true
+                subst (λ ys. AreByObjects r ys f.arrivals w.take_object.new.self.arrivals) (sym more)
+                (by_objects-open r xs cell f.arrivals g.arrivals was.arrivals w.take_object.new.self.arrivals w.if-not-shut-cell.true
                 w.take_object.ensures.arrivals);
             grows = Grows-trans p f g (front_of w.take_object.new.self) was.grows w.take_object.ensures.grows;
           })
@@ -56,4 +56,4 @@ returns-clause-arrivals c =
     let f = front_of c.args.self.now in
     let rest = length-drop c.args.from c.args.self.now.order.items in
     let all = take_all (c.loop-place.place - c.args.from) (drop c.args.from c.args.self.now.order.items) (omega arith) in
-    subst (λ ys. AreByObjects r ys f.arrivals c.loop-place.self.arrivals.items) all c.loop-place.invariant.arrivals
+    subst (λ ys. AreByObjects r ys f.arrivals c.loop-place.self.arrivals) all c.loop-place.invariant.arrivals

@@ -15,4 +15,4 @@ invariant-loop-from l = record {
 }
 
 abbrev pub decreases-loop-from : goal.decreases-loop-from
-decreases-loop-from l = length l.self.arrivals.items - l.from
+decreases-loop-from l = length l.self.arrivals - l.from

@@ -64,7 +64,7 @@ returns-clause-arrivals c to id at_to =
     let p = c.args.table.now in
     let slots = slots_in c.args.table.now c.args.cell in
     let r : Round = record { placed = c.args.table.now; shut = []; level = c.args.level } in
-    let known = arrival_in c.args.self.now.arrivals.items to in
+    let known = arrival_in c.args.self.now.arrivals to in
     let all =
     edges-all slots c.loop-slot.slot (omega (arith, c.edges_at-edges.ensures.edges.count, c.len-slot-end.ensures.count, c.loop-slot-test.false, c.loop-slot.auto.slot-end))
     ∙ sym (edges-cell p c.args.cell (id_at p.cells c.args.cell) (held-id p c.args.cell c.requires.cell)) in

@@ -9,6 +9,6 @@ use Rattle.path_cert.proofs.frontier.Frontier.take_object.Given as goal
 abbrev pub invariant-loop-slot : goal.invariant-loop-slot
 invariant-loop-slot l = record {
   safe : IsUnderWay l.table l.level (front_of l.self);
-  arrivals : AreBy (record { placed = l.table; shut = []; level = l.level }) l.cell (edges_of (take l.slot (slots_in l.table l.cell))) l.fn.self.arrivals.items l.self.arrivals.items;
+  arrivals : AreBy (record { placed = l.table; shut = []; level = l.level }) l.cell (edges_of (take l.slot (slots_in l.table l.cell))) l.fn.self.arrivals l.self.arrivals;
   grows : FrontGrows l.table (front_of l.fn.self) (front_of l.self);
 }

@@ -11,7 +11,7 @@ use Rattle.path_cert.proofs.frontier.Frontier.take_owner.Given as goal
 
 abbrev pub invariant-loop-slot : goal.invariant-loop-slot
 invariant-loop-slot l = record {
-  each : length l.self.arrivals.items ≡ length l.table.cells;
+  each : length l.self.arrivals ≡ length l.table.cells;
   taken : (ways : List Way) → HasTaken l.table Owners ways (front_of l.fn.self) →
       HasTaken l.table Owners (ways ++ ways_by l.table.table (id_at l.table.cells l.owner) (edges_of (take l.slot (slots_in l.table l.owner)))) (front_of l.self);
   grows : FrontGrows l.table (front_of l.fn.self) (front_of l.self);

@@ -1,5 +1,4 @@
-use Rattle.std.proofs.Common.{◌≡◌, ◌-◌, ◌<◌, length, inr, ap, ◌∙◌, arith}
-use Rattle.std.proofs.lemmas.List.{get_or_default}
+use Rattle.std.proofs.Common.{◌≡◌, ◌-◌, inr, ap, ◌∙◌, arith}
 use Rattle.graph_meaning.specs.Roles.{id_at}
 use Rattle.path_cert.specs.declared.arrival.Arrival.{Arrival}
 use Rattle.path_cert.specs.declared.arrival.TheConstants.{NOWHERE}
@@ -14,10 +13,8 @@ returns-in-Some c p s levels held =
     let l = c.args.self.now in
     let cell = c.args.waypoint.cell in
     let a = arrival_in c.args.self.now.arrivals c.args.waypoint.cell in
-    let many : length c.self.inside.arrivals.items ≡ length c.args.self.now.arrivals = ap (λ (l : LevelTable). length l.arrivals) c.self.view_is in
-    let within : c.args.waypoint.cell < length c.self.inside.arrivals.items = omega (arith, many) in
-    let read = c.index.ensures ∙ get_or_default c.self.inside.arrivals.items cell c.index.result.now NOWHERE within ∙ ap (λ (l : LevelTable). arrival_in l.arrivals cell) c.self.view_is in
-    let level : c.index.result.now.level ≡ (arrival_in c.args.self.now.arrivals c.args.waypoint.cell).level = ap (λ (a : Arrival). a.level) read in
+    let read = c.get-level.ensures NOWHERE ∙ ap (λ (l : LevelTable). arrival_in l.arrivals cell) c.self.view_is in
+    let level : c.get-level.result.level ≡ (arrival_in c.args.self.now.arrivals c.args.waypoint.cell).level = ap (λ (a : Arrival). a.level) read in
     let ancestor = c.ancestor.ensures p s l.start (id_at p.cells cell) c.in-Some.ancestor levels (held-id p cell held) c.in-Some.is in
     let near = steps-near l.start a.level c.args.waypoint.left c.requires.left in
     let above = ancestor.above in

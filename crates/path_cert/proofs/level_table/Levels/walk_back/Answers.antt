@@ -1,7 +1,6 @@
 use Rattle.std.proofs.Common.{◌≡◌, suc, ◌+◌, ◌-◌, ◌<◌, List, ◌∷◌, ◌++◌, length, sym, ap, refl, subst, ◌∙◌, arith}
 use Rattle.std.specs.Prelude.{IsSome}
 use Rattle.graph_meaning.specs.declared.paths.PathStep.{PathStep}
-use Rattle.std.proofs.lemmas.List.{get_or_default}
 use Rattle.std.specs.Prelude.{Result, Ok, Err, IfOk}
 use Rattle.std.specs.Option.{IfSome}
 use Rattle.heap_base.specs.declared.errors.OutOfMemory.{OutOfMemory}
@@ -57,8 +56,8 @@ loop-left-smaller c =
     let fewer = skips.left in
     omega (arith, some, fewer)
 
-pub index-arrival-requires : goal.index-arrival-requires
-index-arrival-requires c =
+pub get-arrival-requires : goal.get-arrival-requires
+get-arrival-requires c =
     let levels = c.requires.table.1 in
     let k : Walk = record { placed = c.args.table.now; search = c.requires.table.0; levels = c.args.self.now; to = c.args.to; after = c.requires.shown.0 } in
     let before : Waypoint = record { cell = c.loop-left.cell; left = c.loop-left.left } in
@@ -88,12 +87,7 @@ loop-left-preserved c =
     let skips = c.skip_hidden-waypoint.ensures p c.requires.table.0 c.requires.table.1 held_before in
     let start : Walk = record { placed = c.args.table.now; search = c.requires.table.0; levels = c.args.self.now; to = c.args.to; after = c.requires.shown.0 } in
     let there = walk-skipped start c.loop-left.trail c.requires.table.1 before c.skip_hidden-waypoint.result skips first in
-    let below : c.skip_hidden-waypoint.result.cell < length c.args.table.now.cells = held-within p cell there.way.to there.leads.held in
-    let each = c.requires.table.1.each in
-    let many : length c.self.inside.arrivals.items ≡ length c.args.self.now.arrivals = ap (λ (l : LevelTable). length l.arrivals) c.self.view_is in
-    let within : c.skip_hidden-waypoint.result.cell < length c.self.inside.arrivals.items = omega (arith, below, each, many) in
-    let read =
-    c.index-arrival.ensures ∙ get_or_default c.self.inside.arrivals.items cell c.index-arrival.result.now NOWHERE within ∙ ap (λ (l : LevelTable). arrival_in l.arrivals cell) c.self.view_is in
+    let read = c.get-arrival.ensures NOWHERE ∙ ap (λ (l : LevelTable). arrival_in l.arrivals cell) c.self.view_is in
     let some = skipped-some c.args.self.now c.loop-left.trail.total before c.skip_hidden-waypoint.result skips (omega arith) in
     let one : c.skip_hidden-waypoint.result.left ≡ suc (c.skip_hidden-waypoint.result.left - 1) = omega (arith, some) in
     record {
