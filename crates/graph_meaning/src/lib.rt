@@ -47,7 +47,7 @@ pub use laws::{
     without_force_the_sweep_is_left,
 };
 pub use lists::Sequence;
-pub use paths::{PathFrom, PathStep, PathView, Shown, StepList};
+pub use paths::{PathFrom, PathStep, PathView, Shown, ShownPath, StepList};
 pub use reaction::React;
 pub use refusal::{FieldName, Refusal, Stop};
 pub use roles::{OwnerRole, Roles};

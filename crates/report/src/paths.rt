@@ -12,7 +12,7 @@ pub(crate) fn put_shown(text: &mut Vec<u8>, shown: &Shown) -> Result<(), OutOfMe
 {
     match shown {
         Shown::LeftOut => put_left_out(text),
-        Shown::Path(path) => put_path(text, path),
+        Shown::Path(path) => put_path(text, path.view()),
     }
 }
 
@@ -23,9 +23,9 @@ pub(crate) fn put_both(text: &mut Vec<u8>, first: &Shown, second: &Shown) -> Res
     let (Shown::Path(first), Shown::Path(second)) = (first, second) else {
         return put_left_out(text);
     };
-    put_path(text, first)?;
+    put_path(text, first.view())?;
     put(text, b" | ")?;
-    put_path(text, second)
+    put_path(text, second.view())
 }
 
 fn put_left_out(text: &mut Vec<u8>) -> Result<(), OutOfMemory>

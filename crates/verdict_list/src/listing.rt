@@ -68,6 +68,7 @@ fn first_verdicts<T: HeapCounts>(
     let references = references_of(alloc, traced, &unshared, shown.saturating_sub(before))?;
     let mut list = with_room(alloc, before + unshared.len())?;
     let plain = PlainPaths {
+        alloc,
         table: counted.table,
         levels: &levels,
         most: paths,
@@ -101,6 +102,7 @@ pub fn all_verdicts<T: HeapCounts>(
     prove!(cells < u32::MAX);
     let mut list = first_verdicts(alloc, counted, paths)?;
     let checked = CheckedTable {
+        alloc,
         table: counted.table,
         roles: counted.roles,
         check,

@@ -14,10 +14,12 @@ use heap_base::OutOfMemory;
 use object_table::ObjectTable;
 use ownee_check::OwnershipCheck;
 use path_cert::{object_id, object_kind};
+use std::alloc::Global;
 
 /// A table with its roles, of which it is known which ownees violate.
 #[derive(Clone, Copy)]
 pub(crate) struct CheckedTable<'a> {
+    pub(crate) alloc: Global,
     pub(crate) table: &'a ObjectTable,
     pub(crate) roles: &'a Roles,
     pub(crate) check: &'a OwnershipCheck,
@@ -25,17 +27,16 @@ pub(crate) struct CheckedTable<'a> {
 
 // The path to a violating ownee, where it is to be shown.
 fn ownee_path(
-    table: &ObjectTable,
-    check: &OwnershipCheck,
+    checked: CheckedTable<'_>,
     cell: u32,
     is_shown: bool,
 ) -> Result<Shown, OutOfMemory>
-    requires check { (h : Heap) × AreViolating table.now h check.now }
-    requires ownee { IsTrue (has_id check.now.ownees cell) }
-    ensures { IfOk result (λ s. (h : Heap) → AreViolating table.now h check.now → s ≡ path_if is_shown (shown_path (unowned_way h (id_at table.now.cells cell)))) }
+    requires check { (h : Heap) × AreViolating checked.table.now h checked.check.now }
+    requires ownee { IsTrue (has_id checked.check.now.ownees cell) }
+    ensures { let c = checked.entry in IfOk result (λ s. (h : Heap) → AreViolating c.table.now h c.check.now → s ≡ path_if is_shown (shown_path (unowned_way h (id_at c.table.now.cells cell)))) }
 {
     if is_shown {
-        Ok(shown(check.path(table, cell)?))
+        shown(checked.alloc, checked.check.path(checked.table, cell)?)
     } else {
         Ok(Shown::LeftOut)
     }
@@ -52,12 +53,8 @@ fn ownee_verdict(
     requires ownee { IsTrue (has_id checked.check.now.ownees cell) }
     ensures { let c = checked.entry in IfOk result (λ v. (h : Heap) → ChecksHeap c h → v ≡ verdict_if is_shown (ownedby_in c.table.now h cell)) }
 {
-    let CheckedTable {
-        table,
-        roles,
-        check,
-    } = checked;
-    let path = ownee_path(table, check, cell, is_shown)?;
+    let CheckedTable { table, roles, .. } = checked;
+    let path = ownee_path(checked, cell, is_shown)?;
     let kind = object_kind(table, cell)?;
     let id = object_id(table, cell);
     let owner = owner_of(table, roles, cell);

@@ -8,7 +8,7 @@ ghost use Rattle.std.specs.Option.{option_map};
 ghost use Rattle.std.specs.Prelude.{◌≡◌, true, length, IfOk, IsSome, IfSome, Option};
 ghost use Rattle.verdict_list.specs.Listed.{path_if, ShowsPaths};
 
-use graph_meaning::{PathView, Roles, Shown};
+use graph_meaning::{PathView, Roles, Shown, ShownPath};
 use heap_base::OutOfMemory;
 use object_paths::PlainLevels;
 use object_table::ObjectTable;
@@ -17,6 +17,7 @@ use std::alloc::Global;
 /// The plain paths that verdicts show: in this table, by its levels, if these were made, and for so many of the first verdicts.
 #[derive(Clone, Copy)]
 pub(crate) struct PlainPaths<'a> {
+    pub(crate) alloc: Global,
     pub(crate) table: &'a ObjectTable,
     pub(crate) levels: &'a Option<PlainLevels>,
     pub(crate) most: u32,
@@ -41,12 +42,12 @@ pub(crate) fn plain_levels(
 }
 
 /// The path as a verdict shows it, if there is one.
-pub(crate) fn shown(path: Option<PathView>) -> Shown
-    ensures { (w : Option Way) → path ≡ option_map view_of w → result ≡ shown_path w }
+pub(crate) fn shown(alloc: Global, path: Option<PathView>) -> Result<Shown, OutOfMemory>
+    ensures { IfOk result (λ s. (w : Option Way) → path ≡ option_map view_of w → s ≡ shown_path w) }
 {
     match path {
-        Some(path) => Shown::Path(path),
-        None => Shown::LeftOut,
+        Some(path) => Ok(Shown::Path(ShownPath::of(alloc, path)?)),
+        None => Ok(Shown::LeftOut),
     }
 }
 
@@ -62,7 +63,7 @@ pub(crate) fn plain_path(
     ensures { IfOk result (λ s. (h : Heap) → ShowsPaths plain.entry h → s ≡ path_if is_shown (shown_path (plain_way h (id_at plain.entry.table.now.cells cell)))) }
 {
     match plain.levels {
-        Some(levels) if is_shown => Ok(shown(levels.path(plain.table, cell)?)),
+        Some(levels) if is_shown => shown(plain.alloc, levels.path(plain.table, cell)?),
         _ => Ok(Shown::LeftOut),
     }
 }

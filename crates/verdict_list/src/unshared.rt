@@ -11,7 +11,7 @@ ghost use Rattle.verdict_list.specs.Listed.{path_if, reference_path, unshared_at
 
 use crate::counts::HeapCounts;
 use crate::shown_paths::PlainPaths;
-use graph_meaning::{Shown, Verdict, VerdictList};
+use graph_meaning::{Shown, ShownPath, Verdict, VerdictList};
 use heap_base::OutOfMemory;
 use path_cert::{object_id, object_kind};
 use reference_search::{CellReference, FirstReferences, TracedTable, first_references};
@@ -51,7 +51,7 @@ fn reference_path(
     match (reference, plain.levels) {
         (Some(reference), Some(levels)) => {
             let path = levels.reference_path(plain.table, reference)?;
-            Ok(Shown::Path(path))
+            Ok(Shown::Path(ShownPath::of(plain.alloc, path)?))
         }
         _ => Ok(Shown::LeftOut),
     }
