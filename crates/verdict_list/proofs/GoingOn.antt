@@ -1,6 +1,6 @@
 -- A list of verdicts of which so many of the first carry their paths, one verdict after another.
 use Rattle.std.proofs.Common.{◌≡◌, ℕ, zero, suc, ◌+◌, ◌-◌, ◌<◌, Option, None, Some, Bool, true, false, nat_lt, List, [], ◌∷◌, ◌++◌, length, ◌≤◌}
-use Rattle.std.proofs.Common.{get_or, map, take, drop, sym, ap, refl, subst, ◌∙◌, arith}
+use Rattle.std.proofs.Common.{get_or, map, drop, sym, ap, refl, subst, ◌∙◌, arith}
 use Rattle.std.specs.Prelude.{min}
 use Rattle.std.specs.List.{slice_get}
 use Rattle.std.specs.Option.{IfSome, is_some}
@@ -46,6 +46,12 @@ unfolding first_with_paths
 length-first zero vs = length-map vs without_paths
 length-first (suc n) [] = refl
 length-first (suc n) (v ∷ vs) = ap suc (length-first n vs)
+
+-- what stands at a place of the front of a list stands there in the list
+pub slice_get-front : {X : Type 0} (xs ys : List X) (n : ℕ) (x : X) → slice_get xs n ≡ Some x → slice_get (xs ++ ys) n ≡ Some x
+slice_get-front [] ys n x here = absurd (cc)
+slice_get-front (y ∷ xs) ys zero x here = here
+slice_get-front (y ∷ xs) ys (suc n) x here = slice_get-front xs ys n x here
 
 -- ---- a list that goes on with a verdict on each of these
 

@@ -14,7 +14,7 @@ use crate::over_limit::over_limit;
 use crate::ownees::{CheckedTable, push_ownees};
 use crate::past_limit::past_limits;
 use crate::shown_paths::{PlainPaths, plain_levels};
-use crate::unshared::{SharedObjects, push_unshared, references_of};
+use crate::unshared::{LastPaths, SharedObjects, push_unshared, references_of};
 use crate::violating::{Assertion, violators};
 use graph_meaning::VerdictList;
 use heap_base::OutOfMemory;
@@ -66,7 +66,7 @@ fn first_verdicts<T: HeapCounts>(
     let places = past_limits(alloc, traced, shows_kinds)?;
     let counts = kind_counts(alloc, counted, &kinds, &places)?;
     let references = references_of(alloc, traced, &unshared, shown.saturating_sub(before))?;
-    let mut list = with_room(alloc, before + unshared.len())?;
+    let mut list = with_room(alloc, before + references.len())?;
     let plain = PlainPaths {
         alloc,
         table: counted.table,
@@ -79,7 +79,13 @@ fn first_verdicts<T: HeapCounts>(
         cells: &unshared,
         references: &references,
     };
-    push_unshared(&mut list, plain, counted.counts, shared)?;
+    let last = LastPaths {
+        alloc,
+        table: counted.table,
+        levels,
+        most: paths,
+    };
+    push_unshared(&mut list, last, counted.counts, shared)?;
     Ok(list)
 }
 

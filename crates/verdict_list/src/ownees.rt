@@ -26,11 +26,7 @@ pub(crate) struct CheckedTable<'a> {
 }
 
 // The path to a violating ownee, where it is to be shown.
-fn ownee_path(
-    checked: CheckedTable<'_>,
-    cell: u32,
-    is_shown: bool,
-) -> Result<Shown, OutOfMemory>
+fn ownee_path(checked: CheckedTable<'_>, cell: u32, is_shown: bool) -> Result<Shown, OutOfMemory>
     requires check { (h : Heap) × AreViolating checked.table.now h checked.check.now }
     requires ownee { IsTrue (has_id checked.check.now.ownees cell) }
     ensures { let c = checked.entry in IfOk result (λ s. (h : Heap) → AreViolating c.table.now h c.check.now → s ≡ path_if is_shown (shown_path (unowned_way h (id_at c.table.now.cells cell)))) }

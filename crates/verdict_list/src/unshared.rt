@@ -1,4 +1,5 @@
 //! The verdicts on objects that are asserted unshared.
+ghost use Rattle.assert_registry.specs.Laws.{StandFor};
 ghost use Rattle.graph_meaning.specs.Assertions.{references};
 ghost use Rattle.graph_meaning.specs.Heap.{Heap};
 ghost use Rattle.graph_meaning.specs.Roles.{AreRolesOf, RoleTable, id_at};
@@ -13,6 +14,8 @@ use crate::counts::HeapCounts;
 use crate::shown_paths::PlainPaths;
 use graph_meaning::{Shown, ShownPath, Verdict, VerdictList};
 use heap_base::OutOfMemory;
+use object_paths::PlainLevels;
+use object_table::ObjectTable;
 use path_cert::{object_id, object_kind};
 use reference_search::{CellReference, FirstReferences, TracedTable, first_references};
 use std::alloc::Global;
@@ -125,8 +128,8 @@ pub(crate) struct SharedObjects<'a> {
     pub(crate) references: &'a [FirstReferences],
 }
 
-/// Puts the verdicts on these objects last. The first references to those that show their paths are known, and the levels are there then.
-pub(crate) fn push_unshared<T: HeapCounts>(
+// Puts the verdicts on these objects last. The first references to those that show their paths are known, and the levels are there then.
+fn push_all<T: HeapCounts>(
     list: &mut VerdictList,
     plain: PlainPaths<'_>,
     traced: &T,
@@ -147,5 +150,66 @@ pub(crate) fn push_unshared<T: HeapCounts>(
         let verdict = unshared_verdict(plain, traced, shared.cells[place], found)?;
         list.push(verdict)?;
     }
+    Ok(())
+}
+
+/// The plain paths that the last verdicts of a list show. Its levels are let go behind the last of these paths, so that they don't stand
+/// beside a long list.
+#[derive(Drop)]
+pub(crate) struct LastPaths<'a> {
+    pub(crate) alloc: Global,
+    pub(crate) table: &'a ObjectTable,
+    pub(crate) levels: Option<PlainLevels>,
+    pub(crate) most: u32,
+}
+
+/// Puts the verdicts on these objects last. The first references to those that show their paths are known, and the levels are there then.
+pub(crate) fn push_unshared<T: HeapCounts>(
+    list: &mut VerdictList,
+    paths: LastPaths<'_>,
+    traced: &T,
+    shared: SharedObjects<'_>,
+) -> Result<(), OutOfMemory>
+    requires room { length list.old + length shared.cells.now < 2 ^ 32 }
+    requires cells { All (λ cell. IsSome (id_in paths.table.now cell)) shared.cells.now }
+    requires words { (T.counts traced.now).cells ≡ length paths.table.now.cells }
+    requires references { (h : Heap) × AreFirstOf paths.table.now h shared.cells.now shared.references.now }
+    requires shown { length shared.references.now ≡ min (length shared.cells.now) (paths.most - length list.old) }
+    requires levels { (r : RoleTable) × IfSome paths.levels (ArePlainLevels paths.table.now r) }
+    requires there { 0 < length shared.references.now → IsSome paths.levels }
+    ensures length { OnOk result (length list.new ≡ length list.old + length shared.entry.cells.now) }
+    ensures verdicts { let p = paths.entry.table.now in OnOk result ((h : Heap) (r : RoleTable) → StandFor p r h → IfSome paths.entry.levels (ArePlainLevels p r) → AreFirstOf p h shared.entry.cells.now shared.entry.references.now → GoesOn paths.entry.most list.old (map (unshared_at p (T.counts traced.now) h) shared.entry.cells.now) list.new) }
+{
+    let LastPaths {
+        alloc,
+        table,
+        levels,
+        most,
+    } = paths;
+    let (first, rest) = shared.cells.split_at(shared.references.len());
+    let plain = PlainPaths {
+        alloc,
+        table,
+        levels: &levels,
+        most,
+    };
+    let shown = SharedObjects {
+        cells: first,
+        references: shared.references,
+    };
+    push_all(list, plain, traced, shown)?;
+    std::mem::drop(levels);
+    list.reserve(rest.len() as u32)?;
+    let plain = PlainPaths {
+        alloc,
+        table,
+        levels: &None,
+        most,
+    };
+    let left_out = SharedObjects {
+        cells: rest,
+        references: &[],
+    };
+    push_all(list, plain, traced, left_out)?;
     Ok(())
 }

@@ -71,7 +71,7 @@ returns-clause-verdicts g c h are =
     subst (λ vs. GoesOn n c.push_instances.new.list vs c.push_unshared.new.list)
     (map_held (id_in p) (unshared_verdict count h) c.deref-6.result.now (violating_unshared h)
     (ap (map (id_in p)) c.deref-6.ensures.value ∙ c.in_ok-unshared.ensures.violators h are))
-    (c.in_ok-push_unshared.ensures.verdicts h shows
+    (c.in_ok-push_unshared.ensures.verdicts h r stand c.in_ok-levels.ensures.levels
     (rw (c.deref-6.ensures.value, c.deref-7.ensures.value)
     ((rw c.deref-3.ensures.value at c.in_ok-references.ensures.first) h (record { stand = stand; keeps = keeps })))) in
     first_three n c.in_ok-list.list c.push_dead.new.list c.push_instances.new.list c.push_unshared.new.list count h c.in_ok-list.ensures dead instances unshared

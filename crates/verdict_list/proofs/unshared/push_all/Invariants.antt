@@ -5,7 +5,7 @@ use Rattle.graph_meaning.specs.Roles.{id_at}
 use Rattle.verdict_list.specs.Listed.{ShowsPaths, KnowsFirst}
 use Rattle.verdict_list.specs.Counts.{counted_in}
 use Rattle.verdict_list.proofs.GoingOn.{HasGoneOn}
-use Rattle.verdict_list.proofs.unshared.push_unshared.Given as goal
+use Rattle.verdict_list.proofs.unshared.push_all.Given as goal
 
 abbrev pub invariant-loop-place : goal.invariant-loop-place
 invariant-loop-place g l = record {
