@@ -4,7 +4,7 @@ ghost use Rattle.heap_base.specs.Names.{is_name};
 use heap_base::{Name, OutOfMemory};
 use std::alloc::Global;
 
-const PLACES: usize = 1_024;
+const PLACES: usize = 2_048;
 
 /// Makes names, and keeps the last ones that it made: most lines name a type that was named a moment before, and a copy of a name
 /// takes no memory.
@@ -56,11 +56,11 @@ impl RecentNames {
     }
 }
 
-// Names differ in their length and their last bytes most.
+// Names differ in their length and their last bytes most. The factor puts names that end in other digits at other places.
 fn place_of(text: &[u8]) -> usize {
     let sum = text.iter().rev().take(4).fold(
         text.len(),
-        |sum, b| sum.wrapping_mul(31).wrapping_add(*b as usize),
+        |sum, b| sum.wrapping_mul(131).wrapping_add(*b as usize),
     );
     sum % PLACES
 }
