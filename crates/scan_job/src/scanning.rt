@@ -11,6 +11,9 @@ use heap_base::{MOST_SLOTS, Task};
 use object_table::Edges;
 use steal_pool::{Job, Outbox};
 
+/// The words of so many cells are near at hand in any case: 64 KiB, which a processor's cache holds.
+const NEAR_CELLS: u32 = 8_192;
+
 impl<'a> Job<ScanShared<'a>> for ScanJob {
     ghost use Rattle.scan_job.specs.Jobs.{scan_meaning};
 
@@ -44,13 +47,16 @@ impl<'a> Job<ScanShared<'a>> for ScanJob {
 }
 
 impl ScanJob {
-    // Looks at the words of what the edges of an object lead to.
+    // Looks at the words of what the edges of an object lead to, where there are so many that most lie far away.
     fn prefetch_targets(&mut self, shared: &ScanShared<'_>, edges: &Edges<'_>)
         requires ready { IsReady self.old shared.now }
         requires edges { (cell : ℕ) × AreEdgesAt shared.now.table.now cell edges.now }
         ensures ready { IsReady self.new shared.now }
         ensures same { IsSameJob self.old self.new }
     {
+        if self.cells <= NEAR_CELLS {
+            return;
+        }
         for slot in 0..edges.len() {
             if let Some(target) = edges.at(slot) {
                 self.prefetch(shared, target);
