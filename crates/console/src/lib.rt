@@ -3,6 +3,7 @@
 #![tactic(auto)]
 
 mod ending;
+mod memory;
 mod options;
 mod program;
 mod stream;

@@ -1,4 +1,5 @@
 use crate::ending::Messages;
+use crate::memory::keep_freed_memory;
 use crate::stream::Remembering;
 use crate::words::{NoWords, borrowed_words, exit_code_of, program_words};
 use heap_base::{Status, StdSink, StdSource};
@@ -59,6 +60,7 @@ where
     requires runs { (words : _) (source : _) (sink : _) → F.pre run words source sink }
     requires tells { (words : _) → T.pre tell_refused words }
 {
+    keep_freed_memory(rt.alloc());
     let owned = program_words(rt)?;
     let words = borrowed_words(rt.alloc(), &owned)?;
     let mut stdin = Remembering::over(rt.stdin());
