@@ -20,5 +20,6 @@ pub mod Refusals
 pub mod Searches
 pub mod Shown
 pub mod Sound
+pub mod StoredSlots
 pub mod StrongSlots
 pub mod Tables

@@ -9,3 +9,4 @@ pub mod Paged
 pub mod Parts
 pub mod Placed
 pub mod Residents
+pub mod Stored

@@ -3,6 +3,7 @@ ghost use Rattle.object_table.specs.Chains.{next_in};
 
 use crate::object::Object;
 use heap_base::OutOfMemory;
+use std::mem::size_of;
 
 /// A cell of a table: it holds an object, or it is empty and leads to the next empty cell, if there is one.
 #[derive(Drop)]
@@ -10,6 +11,9 @@ pub enum Cell {
     Taken(Object),
     Empty(Option<u32>),
 }
+
+// A table has as many cells as it ever had objects at once, so they are kept small.
+const _: () = prove!(size_of::<Cell>() <= 40);
 
 impl Cell {
     /// An equal cell.

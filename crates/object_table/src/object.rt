@@ -2,12 +2,12 @@ ghost use Rattle.std.specs.Prelude.{◌≡◌, ◌<◌, ◌≤◌, length, map, 
 ghost use Rattle.heap_base.specs.declared.limits.TheConstants.{MOST_KINDS, MOST_SLOTS};
 ghost use Rattle.object_table.specs.Edges.{cell_edge};
 ghost use Rattle.object_table.specs.Packing.{CanBePacked};
-ghost use Rattle.object_table.specs.Residents.{Resident, StrongHoldKept, no_edge, slot_after, holders_in, resident_cleared};
+ghost use Rattle.object_table.specs.Residents.{StrongHoldKept, no_edge, slot_after, holders_in, resident_cleared};
 
 use crate::edges::Edges;
 use crate::slot::{PackedSlot, Slot, clear_slots_to, keep_slots};
+use arrayvec::ArrayVec;
 use heap_base::{ObjId, OutOfMemory};
-use smallvec::SmallVec;
 use std::alloc::Global;
 use std::marker::Model;
 
@@ -17,25 +17,37 @@ const OWN_SLOTS: usize = 4;
 /// An object as it stands in a cell: its id, the number of its type, and its slots.
 #[derive(Drop)]
 pub struct Object {
-    id: ObjId,
-    // below `MOST_KINDS`, so that the flag beside it takes no memory
-    kind: u16,
-    // set when a slot is made weak; where it is not set, no slot is weak
-    has_weak: bool,
-    slots: SmallVec<PackedSlot, OWN_SLOTS>,
+    stored: Stored,
+}
+
+// Both variants begin with the flag, the number of the type and the id, in this order: so these share eight bytes with the
+// mark of the variant, and an object takes 32 bytes. The number of the type is below `MOST_KINDS`. The flag is set when a
+// slot is made weak: where it is not set, no slot is weak.
+#[derive(Drop)]
+enum Stored {
+    Few {
+        has_weak: bool,
+        kind: u16,
+        id: ObjId,
+        slots: ArrayVec<PackedSlot, OWN_SLOTS>,
+    },
+    Many {
+        has_weak: bool,
+        kind: u16,
+        id: ObjId,
+        slots: Vec<PackedSlot>,
+    },
 }
 
 impl Model for Object {
-    ghost use Rattle.std.specs.Prelude.{length, ◌≡◌, ◌≤◌, false, All};
-    ghost use Rattle.heap_base.specs.declared.limits.TheConstants.{MOST_SLOTS};
-    ghost use Rattle.object_table.specs.Packing.{CanBePacked};
     ghost use Rattle.object_table.specs.Residents.{Resident};
+    ghost use Rattle.object_table.specs.Stored.{resident_of, IsStored};
 
     ghost Value = { Resident };
 
-    ghost view = { λ o. record { id = o.id; kind = o.kind; slots = o.slots.items } };
+    ghost view = { λ o. resident_of o.stored };
 
-    ghost invariant = { λ o. (length o.slots.items ≤ MOST_SLOTS) × (o.has_weak ≡ false → All (λ s. s.weak ≡ false) o.slots.items) };
+    ghost invariant = { λ o. IsStored o.stored };
 }
 
 impl Object {
@@ -45,43 +57,76 @@ impl Object {
         requires slots { slots ≤ MOST_SLOTS }
         ensures { IfOk result (λ o. o ≡ record { id = id; kind = kind; slots = replicate slots no_edge }) }
     {
-        let empty = Slot {
+        let empty = PackedSlot::pack(Slot {
             held: None,
             weak: false,
+        });
+        let kind = kind as u16;
+        let stored = if slots as usize <= OWN_SLOTS {
+            Stored::Few {
+                has_weak: false,
+                kind,
+                id,
+                slots: own_slots(empty, slots as usize),
+            }
+        } else {
+            Stored::Many {
+                has_weak: false,
+                kind,
+                id,
+                slots: vec![in alloc; empty; slots as usize]?,
+            }
         };
-        let slots = SmallVec::from_elem(alloc, PackedSlot::pack(empty), slots as usize)?;
-        Ok(Object {
-            id,
-            kind: kind as u16,
-            has_weak: false,
-            slots,
-        })
+        Ok(Object { stored })
     }
 
     /// An equal object, with slots of its own.
     pub fn copy(&self) -> Result<Object, OutOfMemory>
         ensures { IfOk result (λ o. o ≡ self.now) }
     {
-        Ok(Object {
-            id: self.id,
-            kind: self.kind,
-            has_weak: self.has_weak,
-            slots: SmallVec::from_slice(*self.slots.allocator(), self.slots.as_slice())?,
-        })
+        let stored = match &self.stored {
+            Stored::Few {
+                has_weak,
+                kind,
+                id,
+                slots,
+            } => Stored::Few {
+                has_weak: *has_weak,
+                kind: *kind,
+                id: *id,
+                slots: slots.clone()?,
+            },
+            Stored::Many {
+                has_weak,
+                kind,
+                id,
+                slots,
+            } => Stored::Many {
+                has_weak: *has_weak,
+                kind: *kind,
+                id: *id,
+                slots: Vec::from_slice(*slots.allocator(), slots.as_slice())?,
+            },
+        };
+        Ok(Object { stored })
     }
 
     /// Its id.
     pub fn id(&self) -> ObjId
         ensures { result ≡ self.now.id }
     {
-        self.id
+        match &self.stored {
+            Stored::Few { id, .. } | Stored::Many { id, .. } => *id,
+        }
     }
 
     /// The number of its type.
     pub fn kind(&self) -> u32
         ensures { result ≡ self.now.kind }
     {
-        u32::from(self.kind)
+        match &self.stored {
+            Stored::Few { kind, .. } | Stored::Many { kind, .. } => u32::from(*kind),
+        }
     }
 
     /// How many slots it has.
@@ -89,7 +134,7 @@ impl Object {
         ensures count { result ≡ length self.now.slots }
         ensures few { result ≤ MOST_SLOTS }
     {
-        self.slots.len() as u32
+        self.packed().len() as u32
     }
 
     /// One of its slots.
@@ -98,14 +143,14 @@ impl Object {
         ensures found { slice_get self.now.slots slot ≡ Some result }
         ensures packed { CanBePacked result }
     {
-        self.slots[slot as usize].slot()
+        self.packed()[slot as usize].slot()
     }
 
     /// What its slots lead to.
     pub fn edges(&self) -> Edges<'_>
         ensures { result ≡ map cell_edge self.now.slots }
     {
-        Edges::of(self.slots.as_slice())
+        Edges::of(self.packed())
     }
 
     /// Puts one of its slots.
@@ -114,8 +159,26 @@ impl Object {
         requires packed { CanBePacked value }
         ensures { self.new ≡ record self.old { slots = slice_set self.old.slots slot value } }
     {
-        self.has_weak = self.has_weak || value.weak;
-        self.slots[slot as usize] = PackedSlot::pack(value);
+        let weak = value.weak;
+        let packed = PackedSlot::pack(value);
+        match &mut self.stored {
+            Stored::Few {
+                has_weak,
+                slots,
+                ..
+            } => {
+                *has_weak = *has_weak || weak;
+                slots[slot as usize] = packed;
+            }
+            Stored::Many {
+                has_weak,
+                slots,
+                ..
+            } => {
+                *has_weak = *has_weak || weak;
+                slots[slot as usize] = packed;
+            }
+        }
     }
 
     /// Empties the slots that hold what stood in a cell that is not kept, as weak ones alone do. So it looks at the slots only
@@ -124,8 +187,18 @@ impl Object {
         requires { StrongHoldKept kept.now self.old }
         ensures { self.new ≡ record self.old { slots = map (slot_after kept.now) self.old.slots } }
     {
-        if self.has_weak {
-            keep_slots(self.slots.as_mut_slice(), kept);
+        match &mut self.stored {
+            Stored::Few {
+                has_weak,
+                slots,
+                ..
+            } if *has_weak => keep_slots(slots.as_mut_slice(), kept),
+            Stored::Many {
+                has_weak,
+                slots,
+                ..
+            } if *has_weak => keep_slots(slots.as_mut_slice(), kept),
+            _ => {}
         }
     }
 
@@ -134,6 +207,30 @@ impl Object {
         ensures cleared { self.new ≡ resident_cleared marked.now self.old }
         ensures count { result ≡ holders_in marked.now self.old }
     {
-        clear_slots_to(self.slots.as_mut_slice(), marked)
+        match &mut self.stored {
+            Stored::Few { slots, .. } => clear_slots_to(slots.as_mut_slice(), marked),
+            Stored::Many { slots, .. } => clear_slots_to(slots.as_mut_slice(), marked),
+        }
     }
+
+    // Its slots.
+    fn packed(&self) -> &[PackedSlot]
+        ensures slots { result.now ≡ self.now.slots }
+        ensures few { length result.now ≤ MOST_SLOTS }
+    {
+        match &self.stored {
+            Stored::Few { slots, .. } => slots.as_slice(),
+            Stored::Many { slots, .. } => slots.as_slice(),
+        }
+    }
+}
+
+// So many slots as this one, no more than an object has room for.
+fn own_slots(slot: PackedSlot, count: usize) -> ArrayVec<PackedSlot, OWN_SLOTS>
+    requires { count ≤ OWN_SLOTS }
+    ensures { result.items ≡ replicate count slot }
+{
+    let mut slots = ArrayVec::from([slot; OWN_SLOTS]);
+    slots.truncate(count);
+    slots
 }
