@@ -1,5 +1,5 @@
 -- Entries in the order of their keys: what an edit at the place of a key, or at the gap for it, does.
-use Rattle.std.proofs.Common.{◌≡◌, ℕ, zero, suc, ◌<◌, ◌≤◌, List, [], ◌∷◌, length, take, drop, set, get_or, true, None, is_some, Ordering, Less, Equal, Greater, refl, ◌∙◌, ap, arith}
+use Rattle.std.proofs.Common.{◌≡◌, ℕ, zero, suc, ◌<◌, ◌≤◌, List, [], ◌∷◌, length, take, drop, set, get_or, Some, None, Ordering, Less, Equal, Greater, refl, ◌∙◌, ap, arith}
 use Rattle.std.specs.List.{All, AllPairs, HoldsAt, insert, remove}
 use Rattle.std.specs.List.Sorted.{IsPartitionPoint}
 use Rattle.std.specs.Ordering.{ordering_reverse}
@@ -62,10 +62,10 @@ module _ {K X : Type 0} {R : K → K → Ordering} (o : IsTotalOrder R) where
       rw (gap.1 0 e (omega arith) (omega arith)) (lookup-gap k es zero (omega arith) (λ j d l b. absurd (omega arith), λ j d l b. gap.1 (suc j) d (omega arith) (omega arith)))
   lookup-gap k (e ∷ es) (suc i) h gap = rw (gap.0 0 e (omega arith) (omega arith)) (lookup-gap k es i (omega arith) (gap_tail k e es i gap))
 
-  pub lookup-place : (k : K) (es : List (K × X)) (i : ℕ) → RisesBy es → i < length es → HoldsAt (λ e. R k e.0 ≡ Equal) es i → is_some (lookup (is_at (R k)) es) ≡ true
-  lookup-place k [] i rises h equal = absurd (omega arith)
-  lookup-place k (e ∷ es) zero rises h equal = rw (equal e)
-  lookup-place k (e ∷ es) (suc i) rises h equal = rw (above_first k e es i rises (omega arith) equal) (lookup-place k es i (rises_tail e es rises) (omega arith) equal)
+  pub lookup-place : (k : K) (es : List (K × X)) (i : ℕ) (d : K × X) → RisesBy es → i < length es → HoldsAt (λ e. R k e.0 ≡ Equal) es i → lookup (is_at (R k)) es ≡ Some (get_or es i d).1
+  lookup-place k [] i d rises h equal = absurd (omega arith)
+  lookup-place k (e ∷ es) zero d rises h equal = rw (equal e)
+  lookup-place k (e ∷ es) (suc i) d rises h equal = rw (above_first k e es i rises (omega arith) equal) (lookup-place k es i d (rises_tail e es rises) (omega arith) equal)
 
   pub rises-insert : (k : K) (v : X) (es : List (K × X)) (i : ℕ) → RisesBy es → i ≤ length es → IsGap k es i → RisesBy (insert es i (k, v))
   rises-insert k v [] zero rises h gap = λ i j d l b. absurd (omega arith)

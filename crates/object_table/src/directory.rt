@@ -36,11 +36,11 @@ impl Directory {
         })
     }
 
-    /// Where an id may stand in a list of `count`: from the first place on, and before the second.
-    pub fn guess(&self, id: ObjId, count: usize) -> (usize, usize)
+    /// Where the id with this number may stand in a list of `count`: from the first place on, and before the second.
+    pub fn guess(&self, number: u32, count: usize) -> (usize, usize)
         ensures { (result.0 ≤ result.1) × (result.1 ≤ count) }
     {
-        let block = self.block(id);
+        let block = self.block(number);
         let end = self.start(block + 1).unwrap_or(count).min(count);
         let begin = self.start(block).unwrap_or(end).min(end);
         (begin, end)
@@ -49,7 +49,7 @@ impl Directory {
     /// Takes up an id that is put behind these.
     pub fn add(&mut self, id: ObjId, ids: &[(ObjId, u32)]) -> Result<(), OutOfMemory> {
         let most = blocks_for(ids.len());
-        if self.block(id) >= most {
+        if self.block(id.number()) >= most {
             self.lay(ids, id, most)?;
         }
         self.reach(id, ids.len())
@@ -68,7 +68,9 @@ impl Directory {
     /// memory.
     pub fn keep_from(&mut self, first: usize, ids: &[(ObjId, u32)]) {
         let known = match first.checked_sub(1) {
-            Some(last) => ids.get(last).map_or(0, |entry| self.block(entry.0) + 1),
+            Some(last) => ids
+                .get(last)
+                .map_or(0, |entry| self.block(entry.0.number()) + 1),
             None => 0,
         };
         self.starts.truncate(known);
@@ -92,7 +94,7 @@ impl Directory {
 
     // Lets each block up to that of the id begin at this place, where it does not begin earlier.
     fn reach(&mut self, id: ObjId, place: usize) -> Result<(), OutOfMemory> {
-        let block = self.block(id);
+        let block = self.block(id.number());
         if self.starts.len() <= block {
             let start = u32::try_from(place).unwrap_or(u32::MAX);
             self.starts.resize(block + 1, start)?;
@@ -100,11 +102,11 @@ impl Directory {
         Ok(())
     }
 
-    // The block of an id; ids below the first have that of the first.
-    fn block(&self, id: ObjId) -> usize
+    // The block of the id with this number; ids below the first have that of the first.
+    fn block(&self, number: u32) -> usize
         ensures { result < 2 ^ 32 }
     {
-        let span = id.number().saturating_sub(self.first);
+        let span = number.saturating_sub(self.first);
         (u64::from(span) >> self.shift) as usize
     }
 

@@ -59,44 +59,52 @@ impl Ids {
         requires { RisesById self.now }
         ensures { result ≡ lookup (is_at (nat_cmp id)) self.now }
     {
-        let near = self.near(id);
-        match near.binary_search_by_key(&id.number(), |entry| entry.0.number()) {
+        self.find_number(id.number())
+    }
+
+    /// The cell of the id with this number, and `None` where it is not there.
+    pub fn find_number(&self, number: u32) -> Option<u32>
+        requires { RisesById self.now }
+        ensures { result ≡ lookup (is_at (nat_cmp number)) self.now }
+    {
+        let near = self.near(number);
+        match near.binary_search_by_key(&number, |entry| entry.0.number()) {
             Ok(place) => Some(near[place].1),
             Err(_) => None,
         }
     }
 
-    /// Whether the object with this id stands in a marked cell.
-    pub fn is_marked_id(&self, id: ObjId, marked: &[bool]) -> bool
+    /// Whether the object whose id has this number stands in a marked cell.
+    pub fn is_marked(&self, number: u32, marked: &[bool]) -> bool
         requires { RisesById self.now }
-        ensures { result ≡ is_marked_id self.now marked.now id }
+        ensures { result ≡ is_marked_id self.now marked.now number }
     {
-        match self.find(id) {
+        match self.find_number(number) {
             Some(cell) => is_flagged(marked, cell),
             None => false,
         }
     }
 
-    // A part of the list in which the id stands, where it stands in the list: mostly a short one.
-    fn near(&self, id: ObjId) -> &[(ObjId, u32)]
+    // A part of the list in which the id with this number stands, where it stands in the list: mostly a short one.
+    fn near(&self, number: u32) -> &[(ObjId, u32)]
         requires { RisesById self.now }
         ensures rising { RisesById result.now }
-        ensures same { lookup (is_at (nat_cmp id)) result.now ≡ lookup (is_at (nat_cmp id)) self.now }
+        ensures same { lookup (is_at (nat_cmp number)) result.now ≡ lookup (is_at (nat_cmp number)) self.now }
     {
-        let (begin, end) = self.directory.guess(id, self.entries.len());
-        let begin = self.begin(begin, id);
-        let end = self.end(end, id);
+        let (begin, end) = self.directory.guess(number, self.entries.len());
+        let begin = self.begin(begin, number);
+        let end = self.end(end, number);
         &self.entries[begin..end]
     }
 
     // The place, or 0 where the id may stand before it.
-    fn begin(&self, place: usize, id: ObjId) -> usize
+    fn begin(&self, place: usize, number: u32) -> usize
         requires rising { RisesById self.now }
         requires in_range { place ≤ length self.now }
         ensures bound { result ≤ place }
-        ensures below { All (λ e. e.0 < id) (take result self.now) }
+        ensures below { All (λ e. e.0 < number) (take result self.now) }
     {
-        if place > 0 && self.entries[place - 1].0.number() >= id.number() {
+        if place > 0 && self.entries[place - 1].0.number() >= number {
             0
         } else {
             place
@@ -104,13 +112,13 @@ impl Ids {
     }
 
     // The place, or the end of the list where the id may stand from it on.
-    fn end(&self, place: usize, id: ObjId) -> usize
+    fn end(&self, place: usize, number: u32) -> usize
         requires rising { RisesById self.now }
         requires in_range { place ≤ length self.now }
         ensures bound { (place ≤ result) × (result ≤ length self.now) }
-        ensures above { All (λ e. id < e.0) (drop result self.now) }
+        ensures above { All (λ e. number < e.0) (drop result self.now) }
     {
-        if place < self.entries.len() && self.entries[place].0.number() <= id.number() {
+        if place < self.entries.len() && self.entries[place].0.number() <= number {
             self.entries.len()
         } else {
             place

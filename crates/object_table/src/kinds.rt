@@ -4,10 +4,11 @@ ghost use Rattle.graph_meaning.specs.Heap.{is_seen};
 ghost use Rattle.graph_meaning.specs.Step.{with_kind};
 ghost use Rattle.heap_base.specs.declared.limits.TheConstants.{MOST_KINDS};
 
+use crate::blocks::Blocks;
+use crate::entry::Entry;
 use crate::guesses::Guesses;
 use heap_base::{Name, OutOfMemory};
 use std::alloc::Global;
-use std::collections::BTreeMap;
 use std::marker::Model;
 
 /// The type names that were seen, no more than there may be, in the order in which they first came. Contracts see their
@@ -15,10 +16,9 @@ use std::marker::Model;
 #[derive(Drop)]
 pub struct Kinds {
     names: Vec<Name>,
-    // the place of each name, by its text
-    numbers: BTreeMap<String, u32>,
+    // each name with its place, by its bytes
+    places: Blocks,
     guesses: Guesses,
-    alloc: Global,
 }
 
 impl Model for Kinds {
@@ -30,7 +30,7 @@ impl Model for Kinds {
 
     ghost view = { λ k. k.names.items };
 
-    ghost invariant = { λ k. IsIndexed k.names.items k.numbers };
+    ghost invariant = { λ k. IsIndexed k.names.items k.places };
 }
 
 impl Kinds {
@@ -40,9 +40,8 @@ impl Kinds {
     {
         Kinds {
             names: Vec::new(alloc),
-            numbers: BTreeMap::new(alloc),
+            places: Blocks::make(alloc),
             guesses: Guesses::make(alloc),
-            alloc,
         }
     }
 
@@ -50,15 +49,14 @@ impl Kinds {
     pub fn copy(&self) -> Result<Kinds, OutOfMemory>
         ensures { IfOk result (λ k. k ≡ self.now) }
     {
-        let mut names = Vec::with_capacity(self.alloc, self.names.len())?;
+        let mut names = Vec::with_capacity(*self.names.allocator(), self.names.len())?;
         for name in &self.names {
             names.push(name.copy()?)?;
         }
         Ok(Kinds {
             names,
-            numbers: self.numbers.clone()?,
+            places: self.places.copy()?,
             guesses: self.guesses.copy()?,
-            alloc: self.alloc,
         })
     }
 
@@ -73,7 +71,10 @@ impl Kinds {
                 }
             }
         }
-        self.numbers.get(name.as_str()).copied()
+        match self.places.search(name) {
+            Ok(place) => Some(self.places.at(place).number()),
+            Err(_) => None,
+        }
     }
 
     /// How many names there are.
@@ -124,11 +125,14 @@ impl Kinds {
         ensures seen { OnOk result (self.new ≡ with_kind self.old name.now) }
         ensures err { OnErr result (self.new ≡ self.old) }
     {
+        let Err(gap) = self.places.search(name) else {
+            unreachable!()
+        };
         let number = self.names.len() as u32;
         self.guesses.reserve()?;
-        let key = String::from_str(self.alloc, name.as_str())?;
+        let entry = Entry::make(name.copy()?, number);
         self.names.push(name.copy()?)?;
-        let Ok(_) = self.numbers.insert(key, number) else {
+        let Ok(()) = self.places.insert(gap, entry) else {
             self.names.pop();
             return Err(OutOfMemory);
         };

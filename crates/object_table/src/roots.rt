@@ -7,11 +7,11 @@ ghost use Rattle.heap_base.specs.declared.limits.TheConstants.{MOST_ROOTS};
 ghost use Rattle.graph_meaning.specs.Heap.{name_cmp};
 ghost use Rattle.object_table.specs.Blocks.{roots_cleared};
 ghost use Rattle.object_table.specs.Located.{RisesById, is_marked_id};
-ghost use Rattle.object_table.specs.Ordered.{RootsAreOrdered, IsNamedAt, IsGapFor};
+ghost use Rattle.object_table.specs.Ordered.{EntriesAreOrdered, IsNamedAt, IsGapFor};
 
 use crate::blocks::Blocks;
+use crate::entry::Entry;
 use crate::ids::Ids;
-use crate::root::Root;
 use heap_base::{Name, ObjId, OutOfMemory};
 use std::alloc::Global;
 use std::marker::Model;
@@ -25,13 +25,13 @@ pub struct Roots {
 
 impl Model for Roots {
     ghost use Rattle.std.specs.Prelude.{List, ℕ};
-    ghost use Rattle.object_table.specs.Ordered.{RootsAreOrdered};
+    ghost use Rattle.object_table.specs.Ordered.{EntriesAreOrdered};
 
     ghost Value = { List (List ℕ × ℕ) };
 
     ghost view = { λ r. r.blocks };
 
-    ghost invariant = { λ r. RootsAreOrdered r.blocks };
+    ghost invariant = { λ r. EntriesAreOrdered r.blocks };
 }
 
 impl Roots {
@@ -69,12 +69,12 @@ impl Roots {
         self.blocks.at(place as usize).name()
     }
 
-    /// The object that the root at this place holds.
-    pub fn id(&self, place: u32) -> ObjId
+    /// The number of the id of the object that the root at this place holds.
+    pub fn number(&self, place: u32) -> u32
         requires { place < length self.now }
         ensures { IfSome (slice_get self.now place) (λ r. result ≡ r.1) }
     {
-        self.blocks.at(place as usize).id()
+        self.blocks.at(place as usize).number()
     }
 
     /// Whether a root has this name.
@@ -91,14 +91,15 @@ impl Roots {
         ensures err { OnErr result (self.new ≡ self.old) }
         ensures memory { OnErr result (lookup (is_at (name_cmp name.now)) self.old ≡ None) }
     {
+        let number = id.number();
         match self.search(name) {
             Ok(place) => {
-                self.blocks.hold(place, id);
+                self.blocks.set_number(place, number);
                 Ok(())
             }
             Err(place) => {
                 let name = name.copy()?;
-                self.blocks.insert(place, Root::make(name, id))?;
+                self.blocks.insert(place, Entry::make(name, number))?;
                 Ok(())
             }
         }
@@ -130,7 +131,7 @@ impl Roots {
         ensures in_range { IsSearchInRange result (length self.now) }
         ensures found { IfOk result (IsNamedAt name.now self.now) }
         ensures gap { IfErr result (IsGapFor name.now self.now) }
-        ensures ordered { RootsAreOrdered self.now }
+        ensures ordered { EntriesAreOrdered self.now }
     {
         self.blocks.search(name)
     }

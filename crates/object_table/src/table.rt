@@ -316,7 +316,7 @@ impl ObjectTable {
         requires in_range { root < length self.now.table.roots }
         ensures cell { IfSome (slice_get self.now.table.roots root) (λ r. id_in self.now result ≡ Some r.1) }
     {
-        match self.ids.find(self.roots.id(root)) {
+        match self.ids.find_number(self.roots.number(root)) {
             Some(cell) => cell,
             None => unreachable!(),
         }

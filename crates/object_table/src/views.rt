@@ -86,7 +86,7 @@ pub fn roots_view(alloc: Global, roots: &Roots) -> Result<RootList, OutOfMemory>
     let mut views = RootList::empty(alloc);
     for root in 0..roots.len() {
         let name = roots.name(root).copy()?;
-        views.push((name, roots.id(root).number()))?;
+        views.push((name, roots.number(root)))?;
     }
     Ok(views)
 }

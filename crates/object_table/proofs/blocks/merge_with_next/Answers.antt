@@ -1,6 +1,6 @@
 use Rattle.std.proofs.Common.{◌≡◌, ◌+◌, ◌<◌, ◌∙◌, length, get_or, arith}
 use Rattle.std.proofs.lemmas.List.{get_or_default}
-use Rattle.object_table.specs.Blocks.{all_roots, NoneEmpty}
+use Rattle.object_table.specs.Blocks.{all_entries, NoneEmpty}
 use Rattle.object_table.proofs.Parted.{merge_is, unmerge_is}
 use Rattle.object_table.proofs.blocks.merge_with_next.Goals as goal
 use Rattle.object_table.proofs.blocks.merge_with_next.Goals.{After-append, After-remove}
@@ -17,7 +17,7 @@ module _ (c : After-append) where
 module _ (c : After-remove) where
   merged : c.args.at + 1 < length c.args.blocks.now.items →
       c.replace-next.result ≡ get_or c.args.blocks.now.items (c.args.at + 1) c.replace-next.result →
-      (all_roots c.remove.new.self.items ≡ all_roots c.args.blocks.now.items) × NoneEmpty c.remove.new.self.items
+      (all_entries c.remove.new.self.items ≡ all_entries c.args.blocks.now.items) × NoneEmpty c.remove.new.self.items
   merged h is_next =
       rw c.remove.ensures.items
       (merge_is c.args.blocks.now.items c.args.at c.index_mut-this.result.now c.replace-next.result c.replace-next.new.dest c.append.new.self h

@@ -1,4 +1,4 @@
-use Rattle.std.proofs.Common.{◌≤◌, length, arith}
+use Rattle.std.proofs.Common.{◌<◌, length, arith}
 use Rattle.object_table.specs.Blocks.{IsLaid}
 use Rattle.object_table.proofs.Parted.{parted, length_is, split_laid, split_same}
 use Rattle.object_table.proofs.blocks.split.Goals as goal
@@ -13,8 +13,8 @@ pub returns-clause-laid : goal.returns-clause-laid
 returns-clause-laid c =
     let laid : IsLaid 0 c.reserve.new.self.items = rw c.reserve.ensures.items c.requires.laid in
     let p = parted c.reserve.new.self.items c.args.at c.index_mut-block.result.now laid (rw c.reserve.ensures.items c.requires.in_range) c.index_mut-block.ensures.value in
-    let long : 2 ≤ length c.index_mut-block.result.now.roots = rw (c.index_mut-block.ensures.value, c.reserve.ensures.items) (c.requires.long c.index_mut-block.result.now) in
-    rw c.in_ok-insert.ensures.items (split_laid _ _ _ _ _ _ p (omega (arith, c.len-half.ensures)) (omega (arith, c.len-half.ensures)) c.in_ok-tail.ensures.front c.in_ok-tail.ensures.tail)
+    let long : c.args.kept < length c.index_mut-block.result.now.entries = rw (c.index_mut-block.ensures.value, c.reserve.ensures.items) (c.requires.long c.index_mut-block.result.now) in
+    rw c.in_ok-insert.ensures.items (split_laid _ _ _ _ _ _ p c.requires.kept (omega arith) c.in_ok-tail.ensures.front c.in_ok-tail.ensures.tail)
 
 pub returns-clause-same : goal.returns-clause-same
 returns-clause-same c =

@@ -12,11 +12,11 @@ module _ (c : After-start-start) where
 pub returns-then-len-eq1-clause-some : goal.returns-then-len-eq1-clause-some
 returns-then-len-eq1-clause-some c = rw c.remove.ensures.items (none_empty_removed c.args.blocks.now.items c.args.at (none_empty 0 c.args.blocks.now.items c.requires.laid))
 
--- the block has this root alone
+-- the block has this entry alone
 pub returns-then-len-eq1-clause-taken : goal.returns-then-len-eq1-clause-taken
 returns-then-len-eq1-clause-taken c =
     let b = holder _ _ c.args.place c.index.result.now.start _ c.requires.laid c.requires.run c.index.ensures refl in
-    let one : length c.index.result.now.roots ≡ 1 = omega (arith, c.len.ensures, c.if-len-eq1.true) in
+    let one : length c.index.result.now.entries ≡ 1 = omega (arith, c.len.ensures, c.if-len-eq1.true) in
     rw c.remove.ensures.items
     (take_run_is _ _ _ _ _ b.parted one b.parted.start b.begins (b.ends c.requires.inside))
 
@@ -36,10 +36,10 @@ returns-else-len-eq1-clause-some c =
     let b = block (goal.at.returns-else-len-eq1-clause-some c).After-start-start in
     let h = b.ends c.requires.inside in
     let same =
-    ap (λ r. length r.roots)
+    ap (λ r. length r.entries)
     (c.index.ensures ∙ get_or_default c.args.blocks.now.items c.args.at c.index.result.now c.index_mut-block.result.now c.requires.run.in_range
     ∙ sym c.index_mut-block.ensures.value) in
-    let shorter = ap (λ r. length r.roots + 1) c.remove-else-len-eq1.ensures ∙ length-remove c.index_mut-block.result.now.roots (c.args.place - c.start-start.result) h in
+    let shorter = ap (λ r. length r.entries + 1) c.remove-else-len-eq1.ensures ∙ length-remove c.index_mut-block.result.now.entries (c.args.place - c.start-start.result) h in
     none_empty_set c.args.blocks.now.items c.args.at c.remove-else-len-eq1.new.self c.requires.laid (omega (arith, same, shorter, b.parted.some, c.len.ensures, c.if-len-eq1.false))
 
 pub returns-else-len-eq1-clause-taken : goal.returns-else-len-eq1-clause-taken
@@ -48,4 +48,4 @@ returns-else-len-eq1-clause-taken c =
     let h = b.ends c.requires.inside in
     take_is c.args.blocks.now.items c.args.at c.args.place c.start-start.result c.index_mut-block.result.now c.remove-else-len-eq1.new.self b.parted
     (b.start ∙ b.parted.start) b.begins h
-    (ap (λ r. r.roots) c.remove-else-len-eq1.ensures)
+    (ap (λ r. r.entries) c.remove-else-len-eq1.ensures)

@@ -8,7 +8,7 @@ use Rattle.object_table.proofs.blocks.Blocks.search.Goals as goal
 pub returns-then-after-eq0-clause-gap : goal.returns-then-after-eq0-clause-gap
 returns-then-after-eq0-clause-gap c =
     let point =
-    IsPartitionPoint-from_clause (λ r. not (begins_above c.args.name.now r.roots)) c.deref.result.now c.partition_point-after.result
+    IsPartitionPoint-from_clause (λ r. not (begins_above c.args.name.now r.entries)) c.deref.result.now c.partition_point-after.result
     c.partition_point-after.ensures.partitioned
     (rw c.deref.ensures.value (runs_parted c.self.inside.blocks.items c.args.name.now c.self.invariant (rw c.self.view_is c.requires.rising)))
     (λ a r f' called. search rules) in
@@ -62,7 +62,7 @@ returns-in-Err-clause-in_range c =
 pub returns-in-Err-clause-gap : goal.returns-in-Err-clause-gap
 returns-in-Err-clause-gap c =
     let point =
-    IsPartitionPoint-from_clause (λ r. not (begins_above c.args.name.now r.roots)) c.deref.result.now c.partition_point-after.result
+    IsPartitionPoint-from_clause (λ r. not (begins_above c.args.name.now r.entries)) c.deref.result.now c.partition_point-after.result
     c.partition_point-after.ensures.partitioned
     (rw c.deref.ensures.value (runs_parted c.self.inside.blocks.items c.args.name.now c.self.invariant (rw c.self.view_is c.requires.rising)))
     (λ a r f' called. search rules) in

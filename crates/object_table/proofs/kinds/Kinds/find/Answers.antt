@@ -1,6 +1,7 @@
 use Rattle.std.proofs.Common.{◌≡◌, ◌∙◌, Some, ap, sym, arith, slice_get}
 use Rattle.std.proofs.lemmas.Option.{slice_get-get_or}
 use Rattle.std.proofs.lemmas.Slice.Eq.{bytes_eq-Decides}
+use Rattle.object_table.proofs.Indexes.{named_place, no_place}
 use Rattle.object_table.proofs.Positions.{position_named}
 use Rattle.object_table.proofs.kinds.Kinds.find.Goals as goal
 
@@ -12,3 +13,14 @@ returns-then-eq c =
     let at : slice_get c.args.self.now c.in-Some.guess ≡ Some c.in-Some-get.guessed.now =
     grind (arith, slice_get-get_or c.deref.result.now c.in-Some.guess c.in-Some-get.guessed.now, c.in-Some-get.ensures.lookup, c.deref.ensures.value, c.self.view_is) in
     sym (position_named c.args.self.now c.in-Some.guess c.args.name.now (rw (← c.self.view_is) c.self.invariant.distinct) (at ∙ ap Some same))
+
+-- a search found it among the entries
+pub returns-in-Ok : goal.returns-in-Ok
+returns-in-Ok c =
+    rw (← c.self.view_is, c.number.ensures)
+    (sym (named_place c.self.inside.names.items c.self.inside.places c.self.invariant c.args.name.now c.in-Ok.place c.at.result.now c.in-Ok.ensures.in_range c.in-Ok.ensures.found c.at.ensures))
+
+pub returns-in-Err : goal.returns-in-Err
+returns-in-Err c =
+    rw (← c.self.view_is)
+    (sym (no_place c.self.inside.names.items c.self.inside.places c.self.invariant c.args.name.now c.in-Err.field-0 c.in-Err.ensures.in_range c.in-Err.ensures.gap))

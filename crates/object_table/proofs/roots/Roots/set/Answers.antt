@@ -17,16 +17,16 @@ insert-requires-clause-room c =
 pub invariant_of-self-in-Err : goal.invariant_of-self-in-Err
 invariant_of-self-in-Err c =
     let none = lookup_none c.args.self.now c.args.name.now c.in-Err.place c.in-Err.ensures.in_range c.in-Err.ensures.gap in
-    rw (c.in_ok-insert-in-Err.ensures.inserted, c.make.ensures, c.in_ok-name-in-Err.ensures, c.self.view_is)
+    rw (c.in_ok-insert-in-Err.ensures.inserted, c.make.ensures, c.in_ok-name-in-Err.ensures, c.number-number.ensures.value, c.self.view_is)
     (IsOrdered-insert c.args.self.now c.args.name.now c.in-Err.place c.args.id c.in-Err.ensures.ordered c.in-Err.ensures.in_range
     c.in-Err.ensures.gap (c.requires none))
 
 pub returns-in_ok-insert-in-Err-clause-set : goal.returns-in_ok-insert-in-Err-clause-set
 returns-in_ok-insert-in-Err-clause-set c =
-    rw (c.in_ok-insert-in-Err.ensures.inserted, c.make.ensures, c.in_ok-name-in-Err.ensures, c.self.view_is)
+    rw (c.in_ok-insert-in-Err.ensures.inserted, c.make.ensures, c.in_ok-name-in-Err.ensures, c.number-number.ensures.value, c.self.view_is)
     (insert_is c.args.self.now c.args.name.now c.in-Err.place c.args.id c.in-Err.ensures.in_range c.in-Err.ensures.gap)
 
 -- a name that is there stays, and holds the object
 pub returns-in-Ok-clause-set : goal.returns-in-Ok-clause-set
 returns-in-Ok-clause-set c =
-    set_is c.args.self.now c.hold.new.self c.args.name.now c.in-Ok.place c.args.id c.in-Ok.ensures.ordered c.in-Ok.ensures.in_range c.in-Ok.ensures.found (rw c.self.view_is at c.hold.ensures)
+    set_is c.args.self.now c.set_number.new.self c.args.name.now c.in-Ok.place c.args.id c.in-Ok.ensures.ordered c.in-Ok.ensures.in_range c.in-Ok.ensures.found (rw (c.number-number.ensures.value, c.self.view_is) at c.set_number.ensures)

@@ -8,12 +8,12 @@ returns c =
     record {
       cell =
           rw (← c.self.view_is)
-          (root_in (parts_in c.self.inside) c.self.invariant c.in-Some.cell c.id.result (slice_get c.self.inside.roots c.args.root)
-          (sym c.find.ensures ∙ c.in-Some.is) c.id.ensures);
+          (root_in (parts_in c.self.inside) c.self.invariant c.in-Some.cell c.number.result (slice_get c.self.inside.roots c.args.root)
+          (sym c.find_number.ensures ∙ c.in-Some.is) c.number.ensures);
     }
 
 -- what a root names is live
 pub unreachable-requires : goal.unreachable-requires
 unreachable-requires c =
-    false≢true (sym (ap is_some (sym c.find.ensures ∙ c.in-None.is))
-    ∙ root_found (parts_in c.self.inside) c.self.invariant c.args.root c.id.result (rw (← c.self.view_is) at c.requires.in_range) c.id.ensures)
+    false≢true (sym (ap is_some (sym c.find_number.ensures ∙ c.in-None.is))
+    ∙ root_found (parts_in c.self.inside) c.self.invariant c.args.root c.number.result (rw (← c.self.view_is) at c.requires.in_range) c.number.ensures)
