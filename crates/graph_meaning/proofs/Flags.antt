@@ -1,13 +1,14 @@
 -- One more owner and its flag.
-use Rattle.std.proofs.Common.{◌≡◌, ◌≢◌, ℕ, ◌+◌, ◌<◌, Bool, true, false, ◌||◌, ⊎_elim, List, [], ◌∷◌, ◌++◌, length, get_or, set, sym, refl, ap, subst, ◌∙◌, arith, eq-eqb}
+use Rattle.std.proofs.Common.{◌≡◌, ◌≢◌, ℕ, zero, suc, ◌+◌, ◌<◌, Bool, true, false, ◌||◌, ⊎_elim, List, [], ◌∷◌, ◌++◌, length, replicate, get_or, set, sym, refl, ap, subst, ◌∙◌, arith, eq-eqb}
 use Rattle.std.specs.Prelude.{sum_by}
 use Rattle.std.proofs.lemmas.Bool.{cases_eq, ne_eqb, or_right}
 use Rattle.std.proofs.lemmas.List.{length-append, length-set, get_or-set_same, get_or-set_other}
+use Rattle.std.proofs.lemmas.List.Folds.{list_any_at}
 use Rattle.std.proofs.lemmas.List.Sums.{sum_by-set, sum_by-le}
 use Rattle.heap_base.specs.Counting.{bit}
 use Rattle.heap_base.proofs.Counting.{bit-le}
 use Rattle.graph_meaning.specs.Reach.{has_id}
-use Rattle.graph_meaning.specs.Owners.{IsFlagged}
+use Rattle.graph_meaning.specs.Owners.{IsFlagged, is_any_set}
 use Rattle.graph_meaning.proofs.Membership.{has_id-append}
 
 module _ (flags : List Bool) (owners : List ℕ) (cell : ℕ) (flagged : IsFlagged flags owners) (within : cell < length flags) (new : has_id owners cell ≡ false) where
@@ -55,3 +56,13 @@ module _ (flags : List Bool) (owners : List ℕ) (cell : ℕ) (flagged : IsFlagg
     each = λ x inside. ⊎_elim (same_flag x) (other_flag x inside) (cases_eq x cell);
     many = more_owners;
   }
+
+-- ---- whether a flag is set
+
+pub none_set : (many : ℕ) → is_any_set (replicate many false) ≡ false
+none_set zero = refl
+none_set (suc many) = none_set many
+
+pub one_set : (flags : List Bool) (place : ℕ) → place < length flags → is_any_set (set flags place true) ≡ true
+one_set flags place within =
+    list_any_at (λ flag. flag) (set flags place true) place false (let e = length-set flags place true in omega (arith, e, within)) (get_or-set_same flags place true false within)

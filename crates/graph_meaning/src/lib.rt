@@ -3,6 +3,7 @@
 #![tactic(auto)]
 
 mod by_cell;
+mod cell_flags;
 mod collection;
 mod event;
 mod examples;

@@ -1,8 +1,10 @@
 ghost use Rattle.std.specs.Prelude.{◌≡◌, ◌<◌, ◌++◌, ◌∷◌, [], IfOk, slice_set, slice_index_or, true, false, None};
+ghost use Rattle.graph_meaning.specs.Owners.{is_any_set};
 ghost use Rattle.graph_meaning.specs.Reach.{has_id};
 ghost use Rattle.graph_meaning.specs.Roles.{no_roles, cells_of, kinds_of, owner_in, has_owner};
 
 use crate::by_cell::{ByCell, copy_with_room};
+use crate::cell_flags::CellFlags;
 use heap_base::OutOfMemory;
 use std::alloc::Global;
 use std::marker::Model;
@@ -33,8 +35,8 @@ impl OwnerRole {
 /// ownee it is, by number of a type its limit, and the cells of the owners in order. Contracts see a `RoleTable`.
 #[derive(Drop)]
 pub struct Roles {
-    dead: ByCell<bool>,
-    unshared: ByCell<bool>,
+    dead: CellFlags,
+    unshared: CellFlags,
     ownees: ByCell<OwnerRole>,
     limits: Vec<Option<u32>>,
     owners: Vec<u32>,
@@ -59,8 +61,8 @@ impl Roles {
     pub fn make(alloc: Global, cells: u32, kinds: u32) -> Result<Roles, OutOfMemory>
         ensures { IfOk result (λ r. r ≡ no_roles cells kinds) }
     {
-        let dead = ByCell::make(alloc, cells, false)?;
-        let unshared = ByCell::make(alloc, cells, false)?;
+        let dead = CellFlags::make(alloc, cells)?;
+        let unshared = CellFlags::make(alloc, cells)?;
         let ownees = ByCell::make(alloc, cells, OwnerRole::NotOwned)?;
         let limits = vec![in alloc; None; kinds as usize]?;
         let owners = Vec::with_capacity(alloc, cells as usize)?;
@@ -94,7 +96,7 @@ impl Roles {
         requires { cell < cells_of self.old }
         ensures { self.new ≡ record self.old { dead = slice_set self.old.dead cell true } }
     {
-        self.dead.set(cell, true);
+        self.dead.set(cell);
     }
 
     /// The object in the cell is asserted unshared.
@@ -102,7 +104,7 @@ impl Roles {
         requires { cell < cells_of self.old }
         ensures { self.new ≡ record self.old { unshared = slice_set self.old.unshared cell true } }
     {
-        self.unshared.set(cell, true);
+        self.unshared.set(cell);
     }
 
     /// Says whose ownee the object in the cell is.
@@ -139,12 +141,26 @@ impl Roles {
         self.dead.get(cell)
     }
 
+    /// Whether any object is asserted dead.
+    pub fn has_dead(&self) -> bool
+        ensures { result ≡ is_any_set self.now.dead }
+    {
+        self.dead.any()
+    }
+
     /// Whether the object in the cell is asserted unshared.
     pub fn unshared(&self, cell: u32) -> bool
         requires { cell < cells_of self.now }
         ensures { result ≡ slice_index_or self.now.unshared cell false }
     {
         self.unshared.get(cell)
+    }
+
+    /// Whether any object is asserted unshared.
+    pub fn has_unshared(&self) -> bool
+        ensures { result ≡ is_any_set self.now.unshared }
+    {
+        self.unshared.any()
     }
 
     /// Whose ownee the object in the cell is.
