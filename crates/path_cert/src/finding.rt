@@ -184,6 +184,7 @@ impl Search {
     }
 
     // Meets what the edges of the object in a cell lead to.
+    #[inline(always)]
     fn follow(&mut self, table: &ObjectTable, roles: &Roles, cell: u32) -> Result<(), OutOfMemory>
         requires each { length self.old.met_in.items ≡ length table.now.cells }
         requires placed { IsPlaced table.now }
