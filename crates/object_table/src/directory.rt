@@ -55,8 +55,13 @@ impl Directory {
         self.reach(id, ids.len())
     }
 
-    /// Takes up these ids in place of those before. It asks for no memory: there are no more blocks than there is memory for.
-    pub fn keep(&mut self, ids: &[(ObjId, u32)]) {
+    /// Takes up these ids, which are left of so many, in place of those. It asks for no memory: there are no more blocks than there is
+    /// memory for.
+    pub fn keep(&mut self, before: usize, ids: &[(ObjId, u32)]) {
+        // where none went, each block begins where it did
+        if ids.len() == before {
+            return;
+        }
         let most = blocks_for(ids.len()).min(self.starts.capacity());
         self.starts.clear();
         if let Some(last) = ids.last() {
@@ -93,12 +98,22 @@ impl Directory {
     }
 
     // Lets each block up to that of the id begin at this place, where it does not begin earlier.
+    #[inline(always)]
     fn reach(&mut self, id: ObjId, place: usize) -> Result<(), OutOfMemory> {
         let block = self.block(id.number());
         if self.starts.len() <= block {
-            let start = u32::try_from(place).unwrap_or(u32::MAX);
-            self.starts.resize(block + 1, start)?;
+            self.begin_up_to(block, place)?;
         }
+        Ok(())
+    }
+
+    // Lets all blocks up to this one that begin nowhere yet begin at this place.
+    #[inline(never)]
+    fn begin_up_to(&mut self, block: usize, place: usize) -> Result<(), OutOfMemory>
+        requires { block < 2 ^ 32 }
+    {
+        let start = u32::try_from(place).unwrap_or(u32::MAX);
+        self.starts.resize(block + 1, start)?;
         Ok(())
     }
 

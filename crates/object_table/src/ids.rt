@@ -167,8 +167,9 @@ impl Ids {
     pub fn keep(&mut self, kept: &[bool])
         ensures { self.new ≡ filter (λ e. is_flagged kept.now e.1) self.old }
     {
+        let before = self.entries.len();
         self.entries.retain(|entry| is_flagged(kept, entry.1));
-        self.directory.keep(&self.entries);
+        self.directory.keep(before, &self.entries);
     }
 
     /// Takes the ids away from this place on whose cells are not kept. Those before it are.

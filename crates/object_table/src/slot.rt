@@ -67,8 +67,11 @@ impl PackedSlot {
     pub fn edge(self) -> Option<u32>
         ensures { result ≡ cell_edge self }
     {
-        let slot = self.slot();
-        if slot.weak { None } else { slot.held }
+        if self.word == 0 || self.word % 2 == 1 {
+            None
+        } else {
+            Some(self.word / 2 - 1)
+        }
     }
 
     /// The slot after the cells that are not kept were emptied.
