@@ -1,13 +1,14 @@
 -- What violates an assertion, by cells and by ids.
 use Rattle.std.proofs.Common.{◌≡◌, ℕ, zero, suc, ◌+◌, ◌<◌, ◌≤◌, Bool, true, false, ◌&&◌, List, [], ◌∷◌, ◌++◌, length, map, get_or, take, drop, ◌||◌}
-use Rattle.std.proofs.Common.{eqb-true, Option, Some, IsTrue, sym, ap, refl, subst, ◌∙◌, arith}
+use Rattle.std.proofs.Common.{eqb-true, eq-eqb, Option, Some, IsTrue, sym, ap, refl, subst, ◌∙◌, arith}
 use Rattle.std.specs.Prelude.{nat_le, ◌==◌, Result, Ok, Err, IfOk}
 use Rattle.std.specs.List.{All, filter, slice_get}
 use Rattle.std.specs.Option.{IsSome, is_some, option_map_or}
 use Rattle.std.proofs.Math.Seq.{drop-cons}
 use Rattle.std.proofs.lemmas.Bool.{false≢true, false_from_ne_true}
 use Rattle.std.proofs.lemmas.Bool.Decides.{nat_tests}
-use Rattle.std.proofs.lemmas.List.{append-nil, drop_all, length-map}
+use Rattle.std.proofs.lemmas.List.{append-nil, length-map}
+use Rattle.std.proofs.lemmas.List.Folds.{list_any_at}
 use Rattle.std.proofs.lemmas.List.Kept.{AllPairs-filter}
 use Rattle.std.proofs.lemmas.List.Elements.{All-contains}
 use Rattle.std.proofs.lemmas.Option.{slice_get_within, get_or_from_slice_get, slice_get-get_or}
@@ -16,18 +17,19 @@ use Rattle.graph_meaning.specs.Assertions.{is_traced, traced_ids, reference_coun
 use Rattle.graph_meaning.specs.Collecting.{violating_dead, violating_unshared}
 use Rattle.graph_meaning.specs.Heap.{Heap, Table, ids, is_live}
 use Rattle.graph_meaning.specs.Laws.{RefersToLive, IsOrdered, IdsRise, AllLive}
+use Rattle.graph_meaning.specs.Owners.{is_any_set}
 use Rattle.graph_meaning.specs.Reach.{has_id}
 use Rattle.graph_meaning.specs.Roles.{RoleTable}
 use Rattle.graph_meaning.proofs.HeapLemmas.{has_id-ids}
 use Rattle.graph_meaning.proofs.Membership.{has_id-filter, has_id-Contains}
-use Rattle.object_table.specs.Placed.{PlacedTable, id_in}
+use Rattle.object_table.specs.Placed.{PlacedTable, IsPlaced, id_in}
 use Rattle.assert_registry.specs.Laws.{StandFor}
 use Rattle.assert_registry.proofs.Rising.{Rise, Rise-sorted, Rise-head, Rise-tail, same_rising}
 use Rattle.verdict_list.specs.Counts.{CountTable}
 use Rattle.verdict_list.specs.Counts.{AreCountsOf}
 use Rattle.verdict_list.specs.declared.violating.Assertion.{Assertion}
 use Rattle.verdict_list.specs.declared.violating.Assertion.TheVariants.{Dead, Unshared}
-use Rattle.verdict_list.specs.Violating.{is_violated_in, is_violated_by, violators}
+use Rattle.verdict_list.specs.Violating.{flags_of, is_violated_in, is_violated_by, violators}
 
 -- ---- in a heap
 
@@ -76,6 +78,33 @@ violated-agrees p r t h stand trace Dead cell id held =
 violated-agrees p r t h stand trace Unshared cell id held =
     ap (λ b. b && nat_le 2 (t.references cell)) (stand.unshared cell ∙ ap (λ o. option_map_or (has_id h.unshared) o false) held) ∙ ap (λ b. has_id h.unshared id && b) (trace.many cell id held)
 
+unset : (flags : List Bool) (cell : ℕ) → is_any_set flags ≡ false → get_or flags cell false ≡ false
+unset [] zero none = refl
+unset [] (suc cell) none = refl
+unset (true ∷ flags) cell none = cc
+unset (false ∷ flags) zero none = refl
+unset (false ∷ flags) (suc cell) none = unset flags cell none
+
+all_fail : {X : Type 0} (test : X → Bool) (xs : List X) → All (λ x. test x ≡ false) xs → filter test xs ≡ []
+all_fail test [] fails = refl
+all_fail test (x ∷ xs) fails = let first : test x ≡ false = fails zero x (omega arith) in rw first (all_fail test xs (λ k d within. fails (suc k) d (omega (arith, within))))
+
+-- where the assertion was made of no object, none violates it
+pub none_violated : (p : PlacedTable) (r : RoleTable) (t : CountTable) (h : Heap) → IsPlaced p → StandFor p r h → AreCountsOf p h t →
+    (a : Assertion) → is_any_set (flags_of a r) ≡ false → filter (is_violated_by a h) (ids p.table) ≡ []
+none_violated p r t h placed stand counts a none = all_fail (is_violated_by a h) (ids p.table) fails
+  where
+    unasked : (b : Assertion) (cell : ℕ) → is_any_set (flags_of b r) ≡ false → is_violated_in b r t cell ≡ false
+    unasked Dead cell none = ap (λ b. b && get_or t.kept cell false) (unset r.dead cell none)
+    unasked Unshared cell none = ap (λ b. b && nat_le 2 (t.references cell)) (unset r.unshared cell none)
+
+    fails : All (λ id. is_violated_by a h id ≡ false) (ids p.table)
+    fails k d within =
+        let id = get_or (ids p.table) k d in
+        let live : is_live p.table id ≡ true = sym (has_id-ids p.table id) ∙ list_any_at (λ x. x == id) (ids p.table) k d within (eq-eqb id id refl) in
+        let (cell, held) = placed.somewhere id live in
+        sym (violated-agrees p r t h stand counts a cell id held) ∙ unasked a cell none
+
 -- ---- cells that were gathered by id
 
 pub drop_next : {X : Type 0} (xs : List X) (n : ℕ) (x : X) → slice_get xs n ≡ Some x → drop n xs ≡ x ∷ drop (n + 1) xs
@@ -104,9 +133,9 @@ module _ (f : ℕ → Option ℕ) (test : ℕ → Bool) (all : List (Option ℕ)
       kept : filter test (drop n ids) ≡ filter test (drop (n + 1) ids)
       kept = ap (filter test) (drop_next ids n id at) ∙ rw fails refl
 
-  pub gathered : (ids cells : List ℕ) (n : ℕ) → length ids ≤ n → AreGathered ids cells n → map f cells ≡ all
-  gathered ids cells n past so_far =
-      sym (append-nil (map f cells)) ∙ ap (λ xs. map f cells ++ map Some (filter test xs)) (sym (drop_all n ids past)) ∙ so_far
+  pub gathered : (ids cells : List ℕ) (n : ℕ) → filter test (drop n ids) ≡ [] → AreGathered ids cells n → map f cells ≡ all
+  gathered ids cells n none so_far =
+      sym (append-nil (map f cells)) ∙ ap (λ xs. map f cells ++ map Some xs) (sym none) ∙ so_far
 
 -- ---- cells that hold these objects
 

@@ -9,6 +9,11 @@ use Rattle.verdict_list.specs.Counts.{CountTable}
 use Rattle.verdict_list.specs.declared.violating.Assertion.{Assertion}
 use Rattle.verdict_list.specs.declared.violating.Assertion.TheVariants.{Dead, Unshared}
 
+-- for each cell whether the assertion was made of its object
+abbrev pub flags_of : Assertion → RoleTable → List Bool
+flags_of Dead r = r.dead
+flags_of Unshared r = r.unshared
+
 -- whether the assertion was made of the object in a cell and is violated, by the roles and the result of a trace
 abbrev pub is_violated_in : Assertion → RoleTable → CountTable → ℕ → Bool
 is_violated_in Dead r t cell = slice_index_or r.dead cell false && slice_index_or t.kept cell false

@@ -1,12 +1,13 @@
 //! The objects that violate what was asserted of each by itself.
-ghost use Rattle.graph_meaning.specs.Heap.{Heap};
+ghost use Rattle.graph_meaning.specs.Heap.{Heap, ids};
+ghost use Rattle.graph_meaning.specs.Owners.{is_any_set};
 ghost use Rattle.graph_meaning.specs.Roles.{AreRolesOf, cells_of};
 ghost use Rattle.heap_base.specs.Counting.{IsOnce};
 ghost use Rattle.heap_base.specs.declared.limits.TheConstants.{MOST_OBJECTS};
 ghost use Rattle.object_table.specs.Placed.{id_in};
-ghost use Rattle.std.specs.Prelude.{◌≡◌, ◌<◌, ◌≤◌, length, map, All, Some, IfOk, IsSome};
+ghost use Rattle.std.specs.Prelude.{◌≡◌, ◌<◌, ◌≤◌, [], length, map, drop, filter, All, Some, IfOk, IsSome};
 ghost use Rattle.verdict_list.specs.Counts.{CountsHeap};
-ghost use Rattle.verdict_list.specs.Violating.{is_violated_in, violators};
+ghost use Rattle.verdict_list.specs.Violating.{flags_of, is_violated_by, is_violated_in, violators};
 
 use crate::counts::{CountedHeap, HeapCounts};
 use graph_meaning::Roles;
@@ -35,6 +36,32 @@ fn is_violated<T: HeapCounts>(assertion: Assertion, roles: &Roles, traced: &T, c
     }
 }
 
+// Whether the assertion was made of any object.
+fn is_made(assertion: Assertion, roles: &Roles) -> bool
+    ensures { result ≡ is_any_set (flags_of assertion roles.now) }
+{
+    match assertion {
+        Assertion::Dead => roles.has_dead(),
+        Assertion::Unshared => roles.has_unshared(),
+    }
+}
+
+// How many of the objects are asked, by id: none where the assertion was made of none. None of the others violates it.
+fn many_asked<T: HeapCounts>(counted: &CountedHeap<'_, T>, assertion: Assertion) -> u32
+    requires counts { (h : Heap) × CountsHeap counted.now.table.now counted.now.roles.now (T.counts counted.now.counts.now) h }
+    ensures few { result ≤ length counted.now.table.now.table.objects }
+    ensures others { let c = counted.now in (h : Heap) → CountsHeap c.table.now c.roles.now (T.counts c.counts.now) h → filter (is_violated_by assertion h) (drop result (ids c.table.now.table)) ≡ [] }
+{
+    // what is true of every table
+    let all = counted.table.cells();
+    prove!(all < u32::MAX);
+    if is_made(assertion, counted.roles) {
+        counted.table.live()
+    } else {
+        0
+    }
+}
+
 /// The cells of the objects that violate the assertion, by id.
 pub(crate) fn violators<T: HeapCounts>(
     alloc: Global,
@@ -52,7 +79,7 @@ pub(crate) fn violators<T: HeapCounts>(
     let all = counted.table.cells();
     prove!(all < u32::MAX);
     let mut cells = Vec::new(alloc);
-    for number in 0..counted.table.live() {
+    for number in 0..many_asked(counted, assertion) {
         let cell = counted.table.nth_cell(number);
         if is_violated(assertion, counted.roles, counted.counts, cell) {
             cells.push(cell)?;

@@ -1,6 +1,6 @@
-use Rattle.std.proofs.Common.{◌≡◌, ℕ, ◌<◌, ◌∷◌, [], length, map, Some, ap, sym, subst, ◌∙◌, arith}
+use Rattle.std.proofs.Common.{◌≡◌, ℕ, ◌<◌, ◌∷◌, [], length, map, drop, Some, ap, sym, subst, refl, ◌∙◌, arith}
 use Rattle.std.specs.List.{filter, slice_get}
-use Rattle.std.proofs.lemmas.List.{length-map, length-append}
+use Rattle.std.proofs.lemmas.List.{length-append}
 use Rattle.graph_meaning.specs.Heap.{Heap, Table, ids}
 use Rattle.graph_meaning.specs.Laws.{IdsRise}
 use Rattle.object_table.specs.Placed.{id_in}
@@ -25,8 +25,8 @@ module _ (g : given.Over) (c : After-nth_cell-cell g) where
   -- the object in the cell is the one with this number, by id
   nth : (id : ℕ) × (id_in c.args.counted.now.table.now c.nth_cell-cell.result ≡ Some id) × (slice_get (ids c.args.counted.now.table.now.table) c.loop-number.number ≡ Some id)
   nth =
-      nth_id c.args.counted.now.table.now c.loop-number.number c.nth_cell-cell.result c.live-number-end.result c.nth_cell-cell.ensures.cell c.loop-number-test.true
-      c.live-number-end.ensures.count
+      nth_id c.args.counted.now.table.now c.loop-number.number c.nth_cell-cell.result (length c.args.counted.now.table.now.table.objects) c.nth_cell-cell.ensures.cell
+      (omega (arith, c.loop-number-test.true, c.many_asked-number-end.ensures.few)) refl
 
   within : c.nth_cell-cell.result < length c.args.counted.now.table.now.cells
   within = held-within c.args.counted.now.table.now c.nth_cell-cell.result nth.0 nth.1
@@ -74,11 +74,12 @@ loop-number-preserved g c =
 pub returns-clause-violators : goal.returns-clause-violators
 returns-clause-violators g c h are =
     let t = c.args.counted.now.table.now.table in
+    let last : c.many_asked-number-end.result ≡ c.loop-number.number = omega (arith, c.loop-number-test.false, c.loop-number.auto.number-end) in
     gathered (id_in c.args.counted.now.table.now) (is_violated_by c.args.assertion h) (map Some (violators c.args.assertion h)) (ids t) c.loop-number.cells.items c.loop-number.number
-    (omega (arith, c.loop-number-test.false, c.live-number-end.ensures.count, length-map t.objects (λ o. o.id))) (c.loop-number.invariant.gathered h are)
+    (subst (λ (n : ℕ). filter (is_violated_by c.args.assertion h) (drop n (ids t)) ≡ []) last (c.many_asked-number-end.ensures.others h are)) (c.loop-number.invariant.gathered h are)
 
 pub returns-clause-few : goal.returns-clause-few
-returns-clause-few g c = omega (arith, c.loop-number.invariant.few, c.loop-number.auto.number-end, c.live-number-end.ensures.count, c.cells-all.ensures.sound.limits.objects)
+returns-clause-few g c = omega (arith, c.loop-number.invariant.few, c.loop-number.auto.number-end, c.many_asked-number-end.ensures.few, c.cells-all.ensures.sound.limits.objects)
 
 pub returns-clause-taken : goal.returns-clause-taken
 returns-clause-taken g c =
