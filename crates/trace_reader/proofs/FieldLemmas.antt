@@ -35,9 +35,6 @@ spelled g key is field = (
   λ other. ap Some (same_field g field (sym is ∙ other)),
 )
 
-pub not_spelled : (key : List ℕ) → ((field : FieldName) → key ≡ field_text field → ⊥) → (field : FieldName) → (None ≡ Some field) ↔ (key ≡ field_text field)
-not_spelled key other field = (λ e. absurd (cc), λ is. absurd (other field is))
-
 same_or_apart : (f g : FieldName) → (f ≡ g) ⊎ (f ≡ g → ⊥)
 same_or_apart f g =
     elim (cases_Bool (bytes_eq (field_text f) (field_text g))) as (λ _. (f ≡ g) ⊎ (f ≡ g → ⊥)) [

@@ -10,20 +10,20 @@ use graph_meaning::FieldName;
 pub fn field_spelled(key: &str) -> Option<FieldName>
     ensures { (field : FieldName) → (result ≡ Some field) ↔ (key.now ≡ field_text field) }
 {
-    match key {
-        "op" => Some(FieldName::OpField),
-        "id" => Some(FieldName::IdField),
-        "at" => Some(FieldName::AtField),
-        "to" => Some(FieldName::ToField),
-        "type" => Some(FieldName::TypeField),
-        "slot" => Some(FieldName::SlotField),
-        "name" => Some(FieldName::NameField),
-        "weak" => Some(FieldName::WeakField),
-        "slots" => Some(FieldName::SlotsField),
-        "limit" => Some(FieldName::LimitField),
-        "owner" => Some(FieldName::OwnerField),
-        "ownee" => Some(FieldName::OwneeField),
-        "thread" => Some(FieldName::ThreadField),
+    match key.as_bytes() {
+        b"op" => Some(FieldName::OpField),
+        b"id" => Some(FieldName::IdField),
+        b"at" => Some(FieldName::AtField),
+        b"to" => Some(FieldName::ToField),
+        b"type" => Some(FieldName::TypeField),
+        b"slot" => Some(FieldName::SlotField),
+        b"name" => Some(FieldName::NameField),
+        b"weak" => Some(FieldName::WeakField),
+        b"slots" => Some(FieldName::SlotsField),
+        b"limit" => Some(FieldName::LimitField),
+        b"owner" => Some(FieldName::OwnerField),
+        b"ownee" => Some(FieldName::OwneeField),
+        b"thread" => Some(FieldName::ThreadField),
         _ => None,
     }
 }
