@@ -13,6 +13,9 @@ use fast_float::Numeral;
 use heap_base::OutOfMemory;
 use json::{Reader, Scratch, Token};
 
+// A number of so many digits is below 2^64.
+const FEW_DIGITS: usize = 19;
+
 /// Whether a text is a plain object: each member whose key names a field is null, true, false, a whole number or a
 /// text. If it is one, its fields are found; if not, some of them may be.
 pub fn read_plain<'a>(
@@ -87,6 +90,38 @@ fn whole_number(text: &str) -> Option<u64>
     ensures { IfSome result (λ n. number_of text.now ≡ Some (unsigned n)) }
 {
     let bytes = text.as_bytes();
+    match number_of_few_digits(bytes) {
+        Some(n) => Some(n),
+        None => number_of_digits(bytes),
+    }
+}
+
+// The number of a text that is all digits, if they are at most `FEW_DIGITS`.
+#[inline(always)]
+fn number_of_few_digits(bytes: &[u8]) -> Option<u64>
+    ensures { IfSome result (λ n. number_of bytes.now ≡ Some (unsigned n)) }
+{
+    if bytes.is_empty() || bytes.len() > FEW_DIGITS {
+        return None;
+    }
+    let mut value = 0u64;
+    let mut at = 0;
+    'digits: while at < bytes.len() {
+        let digit = (bytes[at] as u64).wrapping_sub(b'0' as u64);
+        if digit > 9 {
+            return None;
+        }
+        value = value * 10 + digit;
+        at += 1;
+    }
+    Some(value)
+}
+
+// The number of a text that is all digits, if it is below 2^64. Never inlined, since few numbers have so many digits.
+#[inline(never)]
+fn number_of_digits(bytes: &[u8]) -> Option<u64>
+    ensures { IfSome result (λ n. number_of bytes.now ≡ Some (unsigned n)) }
+{
     if bytes.is_empty() || bytes[0] == b'-' {
         return None;
     }
