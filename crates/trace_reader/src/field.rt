@@ -9,6 +9,7 @@ use graph_meaning::{FieldName, Refusal, Stop};
 use heap_base::{Name, ObjId, OutOfMemory, ThreadNo};
 
 /// An id, in a field that must be there.
+#[inline(always)]
 pub fn id_field(object: Object<'_>, field: FieldName) -> Result<ObjId, Stop>
     ensures { Gives result (needed_field field id_value (object_data object.entry)) }
 {
@@ -16,6 +17,7 @@ pub fn id_field(object: Object<'_>, field: FieldName) -> Result<ObjId, Stop>
 }
 
 /// A slot number or a limit, in a field that must be there.
+#[inline(always)]
 pub fn count_field(object: Object<'_>, field: FieldName) -> Result<u32, Stop>
     ensures { Gives result (needed_field field count_value (object_data object.entry)) }
 {
@@ -23,6 +25,7 @@ pub fn count_field(object: Object<'_>, field: FieldName) -> Result<u32, Stop>
 }
 
 /// An id, or null for nothing, in a field that must be there.
+#[inline(always)]
 pub fn target_field(object: Object<'_>, field: FieldName) -> Result<Option<ObjId>, Stop>
     ensures { Gives result (needed_field field target_value (object_data object.entry)) }
 {
@@ -48,6 +51,7 @@ pub fn name_field(
 }
 
 /// A number of slots, 0 where the field is missing.
+#[inline(always)]
 pub fn slots_field(object: Object<'_>) -> Result<u32, Stop>
     ensures { Gives result (field_or_zero FieldName.SlotsField count_value (object_data object.entry)) }
 {
@@ -58,6 +62,7 @@ pub fn slots_field(object: Object<'_>) -> Result<u32, Stop>
 }
 
 /// A thread, number 0 where the field is missing.
+#[inline(always)]
 pub fn thread_field(object: Object<'_>) -> Result<ThreadNo, Stop>
     ensures { Gives result (field_or_zero FieldName.ThreadField thread_value (object_data object.entry)) }
 {
@@ -69,6 +74,7 @@ pub fn thread_field(object: Object<'_>) -> Result<ThreadNo, Stop>
 }
 
 /// The value of a field that must be there.
+#[inline(always)]
 pub fn needed_field<'a>(object: Object<'a>, field: FieldName) -> Result<FieldValue<'a>, Stop>
     ensures { MatchResult result (λ value. get (field_text field) (object_data object.entry) ≡ Some (value_data value))
         (λ stop. (stop ≡ Stop.Refused (Refusal.MissingField field)) × (get (field_text field) (object_data object.entry) ≡ None)) }
@@ -78,6 +84,7 @@ pub fn needed_field<'a>(object: Object<'a>, field: FieldName) -> Result<FieldVal
 }
 
 /// The value of a field, if it is one that the field may have.
+#[inline(always)]
 pub fn good_field<T>(field: FieldName, value: Option<T>) -> Result<T, Stop>
     ensures { Gives result (good_value field value) }
 {

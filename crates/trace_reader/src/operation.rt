@@ -10,6 +10,8 @@ use crate::object::Object;
 use graph_meaning::{Event, FieldName, Refusal, Stop};
 
 /// The operation that a value is: an object whose field `op` names it.
+// It is inlined with what reads the common operations, since each caller knows whether its object is plain.
+#[inline(always)]
 #[tactic(auto, unfolding(crate::specs::Meaning::event_in))]
 pub fn event_of_object(names: &mut RecentNames, object: Object<'_>) -> Result<Event, Stop>
     ensures { Gives result (event_in (object_data object.entry)) }
@@ -23,6 +25,7 @@ pub fn event_of_object(names: &mut RecentNames, object: Object<'_>) -> Result<Ev
 }
 
 // The operation of this name. The fields of each are tested in the order in which they are read here.
+#[inline(always)]
 #[tactic(auto, unfolding(crate::specs::Meaning::operation))]
 fn operation_named(names: &mut RecentNames, op: &str, object: Object<'_>) -> Result<Event, Stop>
     ensures { Gives result (operation op.now (object_data object.entry)) }
@@ -43,6 +46,7 @@ fn operation_named(names: &mut RecentNames, op: &str, object: Object<'_>) -> Res
     }
 }
 
+#[inline(always)]
 #[tactic(auto, unfolding(crate::specs::Meaning::alloc_in))]
 fn alloc_event(names: &mut RecentNames, object: Object<'_>) -> Result<Event, Stop>
     ensures { Gives result (alloc_in (object_data object.entry)) }
@@ -59,6 +63,7 @@ fn alloc_event(names: &mut RecentNames, object: Object<'_>) -> Result<Event, Sto
     })
 }
 
+#[inline(always)]
 #[tactic(auto, unfolding(crate::specs::Meaning::store_in))]
 fn store_event(object: Object<'_>) -> Result<Event, Stop>
     ensures { Gives result (store_in (object_data object.entry)) }
@@ -79,6 +84,7 @@ fn set_weak_event(object: Object<'_>) -> Result<Event, Stop>
     Ok(Event::SetWeak { at, slot, weak })
 }
 
+#[inline(always)]
 #[tactic(auto, unfolding(crate::specs::Meaning::root_in))]
 fn root_event(names: &mut RecentNames, object: Object<'_>) -> Result<Event, Stop>
     ensures { Gives result (root_in (object_data object.entry)) }
