@@ -1,5 +1,6 @@
 -- What the assertions make of the objects and types of a table that stands still, by cell and by number of a type.
 use Rattle.std.specs.Prelude.{◌≡◌, ◌≢◌, ◌<◌, ◌↔◌, ℕ, List, [], replicate, length, AllPairs, Bool, true, false, IsTrue, Option, None, IsSome, unwrap_or, slice_index_or}
+use Rattle.graph_meaning.specs.declared.roles.Border.{Border}
 use Rattle.graph_meaning.specs.declared.roles.OwnerRole.{OwnerRole}
 use Rattle.graph_meaning.specs.declared.roles.OwnerRole.TheVariants.{NotOwned, OwnerCell, OwnerGone}
 use Rattle.graph_meaning.specs.Reach.{has_id}
@@ -40,6 +41,10 @@ has_owner (OwnerGone id) = true
 -- whose ownee the object in a cell is
 abbrev pub owner_in : RoleTable → ℕ → OwnerRole
 owner_in r cell = slice_index_or r.ownees cell NotOwned
+
+-- whether the object in a cell is an owner, and whether it is an ownee
+abbrev pub border_in : RoleTable → ℕ → Border
+border_in r cell = record { owner = has_id r.owners cell; ownee = has_owner (owner_in r cell) }
 
 -- the id of the object that a cell holds, and 0 where it is empty
 abbrev pub id_at : List (Option ℕ) → ℕ → ℕ

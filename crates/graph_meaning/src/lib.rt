@@ -51,6 +51,6 @@ pub use lists::Sequence;
 pub use paths::{PathFrom, PathStep, PathView, Shown, ShownPath, StepList};
 pub use reaction::React;
 pub use refusal::{FieldName, Refusal, Stop};
-pub use roles::{OwnerRole, Roles};
+pub use roles::{Border, OwnerRole, Roles};
 pub use shown_paths::is_path;
 pub use views::{HeapView, ObjectList, ObjectView, RootList, SlotList};

@@ -1,7 +1,7 @@
 ghost use Rattle.std.specs.Prelude.{◌≡◌, ◌<◌, ◌++◌, ◌∷◌, [], IfOk, slice_set, slice_index_or, true, false, None};
 ghost use Rattle.graph_meaning.specs.Owners.{is_any_set};
 ghost use Rattle.graph_meaning.specs.Reach.{has_id};
-ghost use Rattle.graph_meaning.specs.Roles.{no_roles, cells_of, kinds_of, owner_in, has_owner};
+ghost use Rattle.graph_meaning.specs.Roles.{no_roles, cells_of, kinds_of, owner_in, has_owner, border_in};
 
 use crate::by_cell::{ByCell, copy_with_room};
 use crate::cell_flags::CellFlags;
@@ -31,6 +31,15 @@ impl OwnerRole {
     }
 }
 
+/// What the object in a cell is to the searches of owners, which go on from no owner and no ownee.
+#[derive(Clone, Copy, Debug, PartialEq, Eq)]
+pub struct Border {
+    /// Whether it is an owner.
+    pub owner: bool,
+    /// Whether it is an ownee, of an object that is there or of one that was freed.
+    pub ownee: bool,
+}
+
 /// What the assertions make of the objects and types of a table: by cell who is asserted dead, who unshared and whose
 /// ownee it is, by number of a type its limit, and the cells of the owners in order. Contracts see a `RoleTable`.
 #[derive(Drop)]
@@ -40,20 +49,20 @@ pub struct Roles {
     ownees: ByCell<OwnerRole>,
     limits: Vec<Option<u32>>,
     owners: Vec<u32>,
-    // whether a cell is among the owners
-    is_owner: ByCell<bool>,
+    // the same once more, where one look tells it: most objects are neither owner nor ownee
+    borders: ByCell<Border>,
 }
 
 impl Model for Roles {
     ghost use Rattle.std.specs.Prelude.{◌≡◌, ◌≤◌, length, vec_capacity};
     ghost use Rattle.graph_meaning.specs.Roles.{RoleTable};
-    ghost use Rattle.graph_meaning.specs.Owners.{IsFlagged};
+    ghost use Rattle.graph_meaning.specs.Owners.{HaveBorders};
 
     ghost Value = { RoleTable };
 
     ghost view = { λ r. record { dead = r.dead; unshared = r.unshared; ownees = r.ownees; limits = r.limits.items; owners = r.owners.items } };
 
-    ghost invariant = { λ r. (length r.unshared ≡ length r.dead) × (length r.ownees ≡ length r.dead) × (length r.is_owner ≡ length r.dead) × IsFlagged r.is_owner r.owners.items × (length r.is_owner ≤ vec_capacity r.owners) };
+    ghost invariant = { λ r. (length r.unshared ≡ length r.dead) × (length r.ownees ≡ length r.dead) × (length r.borders ≡ length r.dead) × HaveBorders r.borders r.ownees r.owners.items × (length r.borders ≤ vec_capacity r.owners) };
 }
 
 impl Roles {
@@ -66,14 +75,18 @@ impl Roles {
         let ownees = ByCell::make(alloc, cells, OwnerRole::NotOwned)?;
         let limits = vec![in alloc; None; kinds as usize]?;
         let owners = Vec::with_capacity(alloc, cells as usize)?;
-        let is_owner = ByCell::make(alloc, cells, false)?;
+        let neither = Border {
+            owner: false,
+            ownee: false,
+        };
+        let borders = ByCell::make(alloc, cells, neither)?;
         Ok(Roles {
             dead,
             unshared,
             ownees,
             limits,
             owners,
-            is_owner,
+            borders,
         })
     }
 
@@ -87,7 +100,7 @@ impl Roles {
             ownees: self.ownees.copy()?,
             limits: copy_with_room(&self.limits)?,
             owners: copy_with_room(&self.owners)?,
-            is_owner: self.is_owner.copy()?,
+            borders: self.borders.copy()?,
         })
     }
 
@@ -112,7 +125,12 @@ impl Roles {
         requires { cell < cells_of self.old }
         ensures { self.new ≡ record self.old { ownees = slice_set self.old.ownees cell owner } }
     {
+        let border = Border {
+            ownee: owner.has_owner(),
+            ..self.borders.get(cell)
+        };
         self.ownees.set(cell, owner);
+        self.borders.set(cell, border);
     }
 
     /// Sets the limit of a type, or takes it away.
@@ -130,7 +148,11 @@ impl Roles {
         ensures { self.new ≡ record self.old { owners = self.old.owners ++ cell ∷ [] } }
     {
         self.owners.push_reserved(cell);
-        self.is_owner.set(cell, true);
+        let border = Border {
+            owner: true,
+            ..self.borders.get(cell)
+        };
+        self.borders.set(cell, border);
     }
 
     /// Whether the object in the cell is asserted dead.
@@ -176,7 +198,16 @@ impl Roles {
         requires { cell < cells_of self.now }
         ensures { result ≡ has_id self.now.owners cell }
     {
-        self.is_owner.get(cell)
+        self.borders.get(cell).owner
+    }
+
+    /// Whether the object in the cell is an owner, and whether it is an ownee.
+    #[inline(always)]
+    pub fn border(&self, cell: u32) -> Border
+        requires { cell < cells_of self.now }
+        ensures { result ≡ border_in self.now cell }
+    {
+        self.borders.get(cell)
     }
 
     /// The limit of a type, if it has one.
