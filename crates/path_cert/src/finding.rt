@@ -234,5 +234,6 @@ fn is_border(roles: &Roles, cell: u32) -> bool
     requires { cell < cells_of roles.now }
     ensures { result ≡ is_border_cell roles.now cell }
 {
-    roles.is_owner(cell) || roles.owner(cell).has_owner()
+    let border = roles.border(cell);
+    border.owner || border.ownee
 }

@@ -34,16 +34,17 @@ impl ScanShared<'_> {
         requires { cell < cells_of self.now.roles.now }
         ensures { marks_at cell result ≡ marks_on (shared_graph self.now) mode tag cell }
     {
-        let role = self.roles.owner(cell);
-        let owned = role.has_owner();
-        let own = is_owned_by(tag, role);
+        let owned = self.roles.border(cell).ownee;
         match mode {
-            Mode::Owner => Marks {
-                found: owned && own,
-                disputed: owned && !own,
-                met_by_roots: false,
-            },
-            Mode::TakeUp => Marks {
+            Mode::Owner if owned => {
+                let own = is_owned_by(tag, self.roles.owner(cell));
+                Marks {
+                    found: own,
+                    disputed: !own,
+                    met_by_roots: false,
+                }
+            }
+            Mode::Owner | Mode::TakeUp => Marks {
                 found: false,
                 disputed: false,
                 met_by_roots: false,
@@ -61,12 +62,10 @@ impl ScanShared<'_> {
         requires { cell < cells_of self.now.roles.now }
         ensures { result ≡ is_put (shared_graph self.now) mode cell }
     {
-        let owner = self.roles.is_owner(cell);
-        let owned = self.roles.owner(cell).has_owner();
+        let border = self.roles.border(cell);
         match mode {
-            Mode::Owner => !(owner || owned),
-            Mode::TakeUp => !owner,
-            Mode::Root => !owner,
+            Mode::Owner => !(border.owner || border.ownee),
+            Mode::TakeUp | Mode::Root => !border.owner,
         }
     }
 
@@ -75,12 +74,10 @@ impl ScanShared<'_> {
         requires { cell < cells_of self.now.roles.now }
         ensures { result ≡ is_held (shared_graph self.now) mode cell }
     {
-        let owner = self.roles.is_owner(cell);
-        let owned = self.roles.owner(cell).has_owner();
+        let border = self.roles.border(cell);
         match mode {
-            Mode::Owner => owned && !owner,
-            Mode::TakeUp => false,
-            Mode::Root => false,
+            Mode::Owner => border.ownee && !border.owner,
+            Mode::TakeUp | Mode::Root => false,
         }
     }
 }
