@@ -9,6 +9,7 @@ use crate::victim::Victim;
 use heap_base::Task;
 
 /// A task that waits, or else one of the own deque, or else of another, beginning with the one at `from`.
+#[inline(always)]
 pub fn find_task(
     queue: &mut Queue,
     lane: &mut Lane,
