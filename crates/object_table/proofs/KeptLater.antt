@@ -45,7 +45,7 @@ times_left kept (e ∷ entries) cell left flag = go (e.1 == cell) refl (λ rest.
 
 -- ---- what a kept object holds
 
-same_slots : (kept : List Bool) (slots : List CellSlot) → All (λ s. IfSome s.held (λ cell. IsTrue (is_flagged kept cell))) slots → map (slot_after kept) slots ≡ slots
+pub same_slots : (kept : List Bool) (slots : List CellSlot) → All (λ s. IfSome s.held (λ cell. IsTrue (is_flagged kept cell))) slots → map (slot_after kept) slots ≡ slots
 same_slots kept [] all = refl
 same_slots kept (s ∷ slots) all =
     ap (λ x. x ∷ map (slot_after kept) slots) (one s.held (all 0 s (omega arith)))

@@ -1,3 +1,4 @@
+pub mod AllKept
 pub mod Chains
 pub mod Changes
 pub mod Cleared

@@ -28,6 +28,12 @@ found-here (e ∷ ids) id (suc i) d rises h is =
     let rest : found ids id ≡ Some (get_or ids i d).1 = found-here ids id i d (rises_tail e ids rises) (omega arith) is in
     grind (arith, nat_tests)
 
+-- an entry that stands at a place of the list is what a search for its id finds
+pub found-seen : (ids xs : List (ℕ × ℕ)) (id i : ℕ) (x : ℕ × ℕ) → xs ≡ ids → RisesById ids → i < length xs → x ≡ get_or xs i x → x.0 ≡ id → found ids id ≡ Some x.1
+found-seen ids xs id i x same rises h at is =
+    let there : x ≡ get_or ids i x = at ∙ ap (λ l. get_or l i x) same in
+    found-here ids id i x rises (subst (λ l. i < length l) same h) (ap (λ (e : ℕ × ℕ). e.0) (sym there) ∙ is) ∙ ap (λ e. Some e.1) (sym there)
+
 pub found-none : (ids : List (ℕ × ℕ)) (id : ℕ) → All (λ e. e.0 ≢ id) ids → found ids id ≡ None
 found-none [] id none = refl
 found-none (e ∷ ids) id none =

@@ -1,8 +1,8 @@
-ghost use Rattle.std.specs.Prelude.{◌≡◌, ℕ, ◌<◌, ◌≤◌, [], length, map, sum_by, IsTrue, None, Some, is_some, IsSome, IfSome, OnOk, slice_get, slice_set, IfOk};
+ghost use Rattle.std.specs.Prelude.{◌≡◌, ℕ, ◌-◌, ◌<◌, ◌≤◌, [], length, map, sum_by, IsTrue, None, Some, is_some, IsSome, IfSome, OnOk, slice_get, slice_set, IfOk};
 ghost use Rattle.std.specs.Option.{option_map};
 ghost use Rattle.heap_base.specs.declared.limits.TheConstants.{MOST_OBJECTS, MOST_SLOTS};
 ghost use Rattle.object_table.specs.Packing.{CanBePacked};
-ghost use Rattle.object_table.specs.Residents.{held_at, held_after, id_held, is_flagged, next_cell, with_resident, resident_cleared, holders_held};
+ghost use Rattle.object_table.specs.Residents.{held_at, held_after, id_held, is_flagged, is_taken, next_cell, with_resident, resident_cleared, holders_held};
 ghost use Rattle.object_table.specs.Residents.{StrongHoldKept, StrongLeadToKept};
 ghost use Rattle.object_table.specs.Chains.{resident_in, first_empty, IsLinked, IsFrontOf, cells_after, cell_after, empty_from, with_slots_cleared, holders_at};
 
@@ -94,6 +94,16 @@ impl Cells {
         match self.pages.at(cell) {
             Cell::Taken(object) => Some(object.id()),
             Cell::Empty(_) => None,
+        }
+    }
+
+    /// Whether the last cell holds an object. Where there is no cell, none does.
+    pub fn is_last_taken(&self) -> bool
+        ensures { result ≡ is_taken self.now.cells (length self.now.cells - 1) }
+    {
+        match self.pages.len().checked_sub(1) {
+            Some(last) => matches!(self.pages.at(last), Cell::Taken(_)),
+            None => false,
         }
     }
 

@@ -1,4 +1,4 @@
-ghost use Rattle.std.specs.Prelude.{◌≡◌, ◌-◌, ◌<◌, ◌≤◌, ◌++◌, ◌∷◌, [], All, length, take, drop, filter, Some, OnOk, OnErr, IfSome, IsTrue, slice_get, IfOk};
+ghost use Rattle.std.specs.Prelude.{◌≡◌, ◌↔◌, ◌-◌, ◌<◌, ◌≤◌, ◌++◌, ◌∷◌, [], All, length, take, drop, filter, Some, OnOk, OnErr, IfSome, IsTrue, slice_get, IfOk};
 ghost use Rattle.std.specs.Map.{lookup};
 ghost use Rattle.std.specs.Ordering.{nat_cmp};
 ghost use Rattle.std.specs.BTreeMap.{is_at};
@@ -67,10 +67,34 @@ impl Ids {
         requires { RisesById self.now }
         ensures { result ≡ lookup (is_at (nat_cmp number)) self.now }
     {
+        if let Some(cell) = self.find_without_gaps(number) {
+            return Some(cell);
+        }
         let near = self.near(number);
         match near.binary_search_by_key(&number, |entry| entry.0.number()) {
             Ok(place) => Some(near[place].1),
             Err(_) => None,
+        }
+    }
+
+    // The cell of the id with this number, where no number between the first id and the last is missing: the id then stands as
+    // far behind the first as its number is above that. It answers `None` too where a number is missing.
+    #[inline(always)]
+    fn find_without_gaps(&self, number: u32) -> Option<u32>
+        requires { RisesById self.now }
+        ensures { IfSome result (λ cell. lookup (is_at (nat_cmp number)) self.now ≡ Some cell) }
+    {
+        let first = self.entries.first()?.0.number();
+        let last = self.entries.last()?.0.number();
+        if last.wrapping_sub(first) as usize + 1 != self.entries.len() {
+            return None;
+        }
+        // a number below the first wraps to a place behind the last
+        let entry = self.entries.get(number.wrapping_sub(first) as usize)?;
+        if entry.0.number() == number {
+            Some(entry.1)
+        } else {
+            None
         }
     }
 
@@ -161,6 +185,13 @@ impl Ids {
         ensures { self.new ≡ take (length self.old - 1) self.old }
     {
         self.entries.pop();
+    }
+
+    /// Whether the cells of all ids are kept.
+    pub fn are_kept(&self, kept: &[bool]) -> bool
+        ensures { IsTrue result ↔ All (λ e. IsTrue (is_flagged kept.now e.1)) self.now }
+    {
+        self.entries.iter().all(|entry| is_flagged(kept, entry.1))
     }
 
     /// Takes the ids away whose cells are not kept.

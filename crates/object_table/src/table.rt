@@ -333,13 +333,17 @@ impl ObjectTable {
 
     /// Frees every object whose cell is not kept. Each kept object keeps its cell; a slot that held a freed one is
     /// empty then, and stays weak where it is. Cells behind the last that is kept are taken away, so what goes over all
-    /// cells goes with what lives.
+    /// cells goes with what lives. Where none is freed and the last cell is taken, it goes over the ids alone.
     pub fn keep(&mut self, kept: &[bool])
         requires each { length kept.now ≡ length self.old.cells }
         requires closed { LeadsToKept self.old.table (kept_ids self.old.cells kept.now) }
         ensures kept { self.new.table ≡ with_only (kept_ids self.old.cells kept.now) self.old.table }
         ensures cells { KeepsCells self.old self.new (kept_ids self.old.cells kept.now) }
     {
+        // nothing changes where no object is freed and no empty cell stands last
+        if self.cells.is_last_taken() && self.ids.are_kept(kept) {
+            return;
+        }
         self.cells.keep(kept);
         self.ids.keep(kept);
         self.slots = slots_of(&self.ids, &self.cells);
