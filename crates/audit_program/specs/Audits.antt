@@ -13,7 +13,7 @@ use Rattle.report.specs.Text.{collection_text, halt_text, end_text}
 use Rattle.report.specs.Report.{collections_text, report_of, part_of}
 use Rattle.trace_run.specs.declared.taken.Taken.{Taken}
 use Rattle.trace_run.specs.declared.taken.Taken.TheVariants.{GoesOn, Halts}
-use Rattle.trace_run.specs.Program.{Effect, goes_on, refuses, halts, Last, ProgramMeaning, Report, due_text}
+use Rattle.trace_run.specs.Program.{Effect, goes_on, refuses, halts, Last, ProgramMeaning, Report, due_text, text_if_due}
 
 -- a run that shows so many paths of each collection and does this about violations
 abbrev pub rules_by : ℕ → React → RunRules
@@ -71,7 +71,7 @@ behind_next s = record s {
 
 -- What a collection makes due: its text, and the halt line behind it where the run is to halt.
 abbrev pub IsDue : React → Collection → Taken → Type 0
-IsDue react c (GoesOn due) = (meant.halts react (c ∷ []) ≡ false) × (due_text due ≡ collection_text c)
+IsDue react c (GoesOn due) = (meant.halts react (c ∷ []) ≡ false) × (text_if_due due ≡ collection_text c)
 IsDue react c (Halts due last) =
     (meant.halts react (c ∷ []) ≡ true) × (due_text due ≡ collection_text c) × (last.text.items ≡ halt_text c.number (length c.verdicts)) × (last.violated ≡ true)
 

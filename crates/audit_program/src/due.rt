@@ -32,7 +32,7 @@ pub fn due_behind(alloc: Global, react: React, collection: Collection) -> Result
         };
         Ok(Taken::Halts(Due::Lines(collection), last))
     } else {
-        Ok(Taken::GoesOn(Due::Lines(collection)))
+        Ok(Taken::GoesOn(Some(Due::Lines(collection))))
     }
 }
 

@@ -16,7 +16,7 @@ use object_table::ObjectTable;
 use snapshot_text::write_snapshot;
 use std::alloc::Global;
 use trace_reader::LineReader;
-use trace_run::{Due, LastText, Program, Taken, TraceRun};
+use trace_run::{LastText, Program, Taken, TraceRun};
 
 /// A trace that a snapshot is made of has at most so many bytes: 2^28.
 pub(crate) const LONGEST_TRACE: u64 = 268_435_456;
@@ -74,17 +74,9 @@ fn take_event(making: &mut Making, event: &Event) -> Result<Taken, Stop>
             kind,
             slots,
             ..
-        } => nothing_due(
-            making.alloc,
-            alloc_object(&mut making.table, *id, kind, *slots),
-        ),
-        Event::Store { at, slot, to } => {
-            nothing_due(making.alloc, store(&mut making.table, *at, *slot, *to))
-        }
-        Event::Root { name, to } => nothing_due(
-            making.alloc,
-            set_root(&mut making.table, name, *to),
-        ),
+        } => nothing_due(alloc_object(&mut making.table, *id, kind, *slots)),
+        Event::Store { at, slot, to } => { nothing_due(store(&mut making.table, *at, *slot, *to)) }
+        Event::Root { name, to } => nothing_due(set_root(&mut making.table, name, *to)),
         Event::SetWeak { .. }
         | Event::AssertDead { .. }
         | Event::StartRegion { .. }
@@ -97,11 +89,11 @@ fn take_event(making: &mut Making, event: &Event) -> Result<Taken, Stop>
 }
 
 // An operation makes no text due.
-fn nothing_due(alloc: Global, done: Result<(), Stop>) -> Result<Taken, Stop>
+fn nothing_due(done: Result<(), Stop>) -> Result<Taken, Stop>
     ensures { (found : Result Heap Refusal) → (after : Heap) → Answers found done after → TakesEvent (effect_of_step found) result after }
 {
     match done {
-        Ok(()) => Ok(Taken::GoesOn(Due::Text(Vec::new(alloc)))),
+        Ok(()) => Ok(Taken::GoesOn(None)),
         Err(stop) => Err(stop),
     }
 }

@@ -73,10 +73,10 @@ fn take_event(program: &mut MinorProgram, event: &Event) -> Result<Taken, Stop>
         } => program.nursery.alloc_object(*id, kind, *slots)?,
         Event::Store { at, slot, to } => program.nursery.store(*at, *slot, *to)?,
         Event::Root { name, to } => program.nursery.set_root(name, *to)?,
-        Event::Collect => return Ok(Taken::GoesOn(Due::Text(collect(program)?))),
+        Event::Collect => return Ok(Taken::GoesOn(Some(Due::Text(collect(program)?)))),
         _ => return Err(Stop::Refused(Refusal::UnknownOp)),
     }
-    Ok(Taken::GoesOn(Due::Text(Vec::new(program.alloc))))
+    Ok(Taken::GoesOn(None))
 }
 
 // Makes the next collection, and gives its line.

@@ -18,7 +18,7 @@ use Rattle.audit_program.proofs.Effects.{takes-applied, takes-due, takes-refused
 pub collect-due : (s s' : AuditState) (e : Event) (text : Vec ℕ Global) → meant.halts s.rules.react (next_of s ∷ []) ≡ false → e ≡ Collect →
     text.items ≡ collection_text (next_of s) → s' ≡ behind_next s → audit_meaning.takes s e ≡ goes_on text.items s'
 collect-due s s' e text on is text_is after =
-    ap (audit_meaning.takes s) is ∙ takes-due s (Ok (GoesOn (Text text))) (on, text_is) ∙ ap (goes_on text.items) (sym after)
+    ap (audit_meaning.takes s) is ∙ takes-due s (Ok (GoesOn (Some (Text text)))) (on, text_is) ∙ ap (goes_on text.items) (sym after)
 
 -- an operation that was applied
 pub applied-due : (s s' : AuditState) (e : Event) (h : Heap) (text : List ℕ) → e ≢ Collect → step s.heap e ≡ Ok h → text ≡ [] → s' ≡ record s { heap = h } → audit_meaning.takes s e ≡ goes_on text s'

@@ -63,13 +63,12 @@ takes-collect rules old new e taken is takes =
 -- ---- operations
 
 -- an operation that was applied
-pub applied-goes_on : (rules : RunRules) (old new : Audit) (e : Event) (text : List ℕ) → e ≢ Collect → step old.heap e ≡ Ok new.heap →
-    new ≡ record old { heap = new.heap; cells = new.cells } → text ≡ [] →
-    audit_meaning.takes (auditor_state rules old) e ≡ goes_on text (auditor_state rules new)
-applied-goes_on rules old new e text other is rest empty =
+pub applied-goes_on : (rules : RunRules) (old new : Audit) (e : Event) → e ≢ Collect → step old.heap e ≡ Ok new.heap →
+    new ≡ record old { heap = new.heap; cells = new.cells } →
+    audit_meaning.takes (auditor_state rules old) e ≡ goes_on [] (auditor_state rules new)
+applied-goes_on rules old new e other is rest =
     effects.takes-applied (auditor_state rules old) e new.heap other is
     ∙ ap (λ (a : Audit). let s : AuditState = record { rules = rules; heap = new.heap; totals = record { collections = a.collections; violations = a.violations } } in goes_on [] s) (sym rest)
-    ∙ ap (λ t. goes_on t (auditor_state rules new)) (sym empty)
 
 pub no_more : (old new : Audit) → new ≡ record old { heap = new.heap; cells = new.cells } → new.collections ≤ old.collections + 1
 no_more old new rest = omega (arith, ap (λ (a : Audit). a.collections) rest)

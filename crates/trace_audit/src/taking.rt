@@ -11,7 +11,7 @@ use crate::program::TraceAudit;
 use audit_core::Auditor;
 use graph_meaning::{Collection, Event, Stop};
 use heap_base::OutOfMemory;
-use trace_run::{Due, Taken};
+use trace_run::Taken;
 
 /// Takes an event: an operation is applied, and a collection is made by `collect`.
 pub fn take_event<C: FnMut(&mut Auditor) -> Result<Collection, OutOfMemory>>(
@@ -33,7 +33,7 @@ pub fn take_event<C: FnMut(&mut Auditor) -> Result<Collection, OutOfMemory>>(
             }
         }
         _ => match audit.auditor.apply(event) {
-            Ok(()) => Ok(Taken::GoesOn(Due::Text(Vec::new(audit.alloc)))),
+            Ok(()) => Ok(Taken::GoesOn(None)),
             Err(Stop::Refused(refusal)) => Err(Stop::Refused(refusal)),
             Err(Stop::OutOfMemory) => Err(Stop::OutOfMemory),
         },

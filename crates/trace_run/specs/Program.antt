@@ -1,5 +1,5 @@
 -- What a program makes of a trace: what each event leads to, and how the report on the whole trace ends.
-use Rattle.std.specs.Prelude.{◌≡◌, ℕ, ◌+◌, ◌<◌, ◌≤◌, List, [], ◌∷◌, ◌++◌, Bool, true, false, if◌then◌else◌, Result, Ok, Err, ⊤}
+use Rattle.std.specs.Prelude.{◌≡◌, ℕ, ◌+◌, ◌<◌, ◌≤◌, List, [], ◌∷◌, ◌++◌, Bool, true, false, if◌then◌else◌, Option, None, Some, Result, Ok, Err, ⊤}
 use Rattle.std.specs.Borrow.{Bor, MutBor}
 use Rattle.heap_base.specs.declared.limits.TheConstants.{LONGEST_TRACE}
 use Rattle.heap_base.specs.declared.status.Status.{Status}
@@ -53,9 +53,14 @@ abbrev pub due_text : Due → List ℕ
 due_text (Text text) = text.items
 due_text (Lines c) = collection_text c
 
+-- the bytes of a text that is due, and none where no text is
+abbrev pub text_if_due : Option Due → List ℕ
+text_if_due None = []
+text_if_due (Some due) = due_text due
+
 -- the answer to an event is its effect, unless the program is out of memory
 abbrev pub TakesEvent : {State : Type 0} → Effect State → Result Taken Stop → State → Type 0
-TakesEvent effect (Ok (GoesOn due)) after = effect ≡ goes_on (due_text due) after
+TakesEvent effect (Ok (GoesOn due)) after = effect ≡ goes_on (text_if_due due) after
 TakesEvent effect (Ok (Halts due found)) after = (last : Last) × (effect ≡ halts (due_text due) last) × IsLast last found
 TakesEvent effect (Err (Refused r)) after = effect ≡ refuses r
 TakesEvent effect (Err OutOfMemory) after = ⊤

@@ -21,8 +21,8 @@ pub struct LastText {
 /// What an event led to.
 #[derive(Drop)]
 pub enum Taken {
-    /// This text is due, and the run goes on.
-    GoesOn(Due),
+    /// This text is due, if any is, and the run goes on.
+    GoesOn(Option<Due>),
     /// This text is due, and then the last text: the run halts.
     Halts(Due, LastText),
 }

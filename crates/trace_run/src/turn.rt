@@ -65,7 +65,8 @@ impl<P: Program + Drop, T: FnMut(&mut P, &Event) -> Result<Taken, Stop>> TraceRu
         ensures later { K.faults sink.old ≤ K.faults sink.new }
     {
         match (self.take)(&mut self.program, event) {
-            Ok(Taken::GoesOn(due)) => match write_due(self.alloc, &due, sink) {
+            Ok(Taken::GoesOn(None)) => Flow::GoesOn,
+            Ok(Taken::GoesOn(Some(due))) => match write_due(self.alloc, &due, sink) {
                 Ok(()) => Flow::GoesOn,
                 Err(error) => Flow::Ends(failed(error)),
             },

@@ -15,7 +15,7 @@ returns-in-Ok-apply g c =
     let rules = rules_by c.args.audit.now.paths c.args.audit.now.react in
     let applied = c.in-Ok-apply.ensures in
     record {
-      takes = applied-goes_on rules c.args.audit.now.auditor c.apply.new.self c.args.event.now c.new.result.items c.in_default.not-Collect applied.applied applied.rest c.new.ensures.items;
+      takes = applied-goes_on rules c.args.audit.now.auditor c.apply.new.self c.args.event.now c.in_default.not-Collect applied.applied applied.rest;
       few = no_more c.args.audit.now.auditor c.apply.new.self applied.rest;
     }
 
