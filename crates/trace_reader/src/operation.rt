@@ -24,15 +24,15 @@ pub fn event_of_object(names: &mut RecentNames, object: Object<'_>) -> Result<Ev
     operation_named(names, op, object)
 }
 
-// The operation of this name. The fields of each are tested in the order in which they are read here.
+// The operation of this name, the most common one first. The fields of each are tested in the order in which they are read here.
 #[inline(always)]
 #[tactic(auto, unfolding(crate::specs::Meaning::operation))]
 fn operation_named(names: &mut RecentNames, op: &str, object: Object<'_>) -> Result<Event, Stop>
     ensures { Gives result (operation op.now (object_data object.entry)) }
 {
     match op {
-        "alloc" => alloc_event(names, object),
         "store" => store_event(object),
+        "alloc" => alloc_event(names, object),
         "set-weak" => set_weak_event(object),
         "root" => root_event(names, object),
         "assert-dead" => dead_event(object),
