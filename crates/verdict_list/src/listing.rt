@@ -65,6 +65,9 @@ fn first_verdicts<T: HeapCounts>(
     };
     let places = past_limits(alloc, traced, shows_kinds)?;
     let counts = kind_counts(alloc, counted, &kinds, &places)?;
+    // there is room for the verdicts then
+    std::mem::drop(places);
+    std::mem::drop(kinds);
     let references = references_of(alloc, traced, &unshared, shown.saturating_sub(before))?;
     let mut list = with_room(alloc, before + references.len())?;
     let plain = PlainPaths {
