@@ -15,6 +15,7 @@ gcaudit must be built, and cargo must be able to build bench/plain_rust. Nothing
 """
 import argparse
 import hashlib
+import json
 import os
 import random
 import re
@@ -23,6 +24,7 @@ import tempfile
 from typing import NamedTuple
 
 from plot import bars
+from random_traces import generated
 from run import PROGRAM, alloc, chain, head, need_plain_rust, need_programs, row, store, timed
 
 WORKERS = (1, 2, 4)
@@ -221,6 +223,12 @@ def shared_owners(n):
     yield COLLECT
 
 
+def generated_heap(n):
+    """The trace of so many objects that `--gen 1` audits; two collections."""
+    for operation in generated(1, n):
+        yield json.dumps(operation, separators=(",", ":")) + "\n"
+
+
 class Trace(NamedTuple):
     lines: object
     size: int
@@ -244,6 +252,7 @@ TRACES = {
     "open regions": Trace(open_regions, 500_000, "{:,} objects in 64 of them"),
     "over limits": Trace(over_limits, 65_536, "{:,} objects in a chain, with 10,000 paths", ("--paths", "10000")),
     "shared owners": Trace(shared_owners, 100_000, "{:,} objects, all held by an owner for each 250"),
+    "generated": Trace(generated_heap, 500_000, "{:,} objects, as --gen 1 makes them, 2 collections"),
 }
 
 
