@@ -75,7 +75,7 @@ fn take_event(making: &mut Making, event: &Event) -> Result<Taken, Stop>
             slots,
             ..
         } => nothing_due(alloc_object(&mut making.table, *id, kind, *slots)),
-        Event::Store { at, slot, to } => { nothing_due(store(&mut making.table, *at, *slot, *to)) }
+        Event::Store { at, slot, to } => nothing_due(store(&mut making.table, *at, *slot, *to)),
         Event::Root { name, to } => nothing_due(set_root(&mut making.table, name, *to)),
         Event::SetWeak { .. }
         | Event::AssertDead { .. }
