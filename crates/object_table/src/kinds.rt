@@ -93,18 +93,7 @@ impl Kinds {
         &self.names[place as usize]
     }
 
-    /// The place of the name, which is put last where it was not seen.
-    pub fn number(&mut self, name: &Name) -> Result<u32, OutOfMemory>
-        requires { is_seen self.old name.now ≡ false → length self.old < MOST_KINDS }
-        ensures number { IfOk result (λ n. position (bytes_eq name.now) self.new ≡ Some n) }
-        ensures seen { OnOk result (self.new ≡ with_kind self.old name.now) }
-        ensures err { OnErr result (self.new ≡ self.old) }
-    {
-        let found = self.find(name);
-        self.learn(name, found)
-    }
-
-    /// The place of the name, as `number` gives it, where `find` has looked for it already.
+    /// The place of the name, for which `find` has looked; it is put last where it was not seen.
     pub fn learn(&mut self, name: &Name, found: Option<u32>) -> Result<u32, OutOfMemory>
         requires found { found ≡ position (bytes_eq name.now) self.old }
         requires room { is_seen self.old name.now ≡ false → length self.old < MOST_KINDS }

@@ -87,15 +87,8 @@ impl ObjectTable {
     pub fn alloc_refusal(&self, id: ObjId, kind: &Name, slots: u32) -> Option<Refusal>
         ensures refusal { result ≡ alloc_refusal self.now.table id kind.now slots }
     {
-        if id.number() <= self.greatest {
-            Some(Refusal::IdNotRising(id.number()))
-        } else if self.live() >= MOST_OBJECTS {
-            Some(Refusal::TooManyObjects)
-        } else if slots > MOST_SLOTS - self.slots {
-            Some(Refusal::TooManySlots)
-        } else {
-            self.kind_refusal(kind)
-        }
+        let found = self.kinds.find(kind);
+        self.refusal_of(id, kind, found, slots)
     }
 
     /// Adds an object with empty slots, none weak. It refuses, in this order, an id that is not above every id
@@ -110,10 +103,11 @@ impl ObjectTable {
         ensures lowest { OnOk result (NoneEmptyBelow self.new id) }
         ensures err { OnErr result (self.new ≡ self.old) }
     {
-        if let Some(refusal) = self.alloc_refusal(id, kind, slots) {
+        let found = self.kinds.find(kind);
+        if let Some(refusal) = self.refusal_of(id, kind, found, slots) {
             return Err(Stop::Refused(refusal));
         }
-        Ok(self.add_object(id, kind, slots)?)
+        Ok(self.add_object(id, kind, found, slots)?)
     }
 
     /// Lets a slot hold an object, or nothing; it stays weak where it is. It refuses, in this order, an `at` that is not live
@@ -180,10 +174,11 @@ impl ObjectTable {
         ensures cells { self.new.cells ≡ self.old.cells }
         ensures err { OnErr result (self.new ≡ self.old) }
     {
-        if let Some(refusal) = self.kind_refusal(name) {
+        let found = self.kinds.find(name);
+        if let Some(refusal) = self.kind_refusal(name, found) {
             return Err(Stop::Refused(refusal));
         }
-        Ok(self.kinds.number(name)?)
+        Ok(self.kinds.learn(name, found)?)
     }
 
     /// How many types were seen.
@@ -381,11 +376,28 @@ impl ObjectTable {
         slots + roots
     }
 
-    // Why a new object may not have this type.
-    fn kind_refusal(&self, kind: &Name) -> Option<Refusal>
+    // Why an object of this type, which was looked for, would be refused.
+    fn refusal_of(&self, id: ObjId, kind: &Name, found: Option<u32>, slots: u32) -> Option<Refusal>
+        requires found { found ≡ position (bytes_eq kind.now) self.now.table.kinds }
+        ensures refusal { result ≡ alloc_refusal self.now.table id kind.now slots }
+    {
+        if id.number() <= self.greatest {
+            Some(Refusal::IdNotRising(id.number()))
+        } else if self.live() >= MOST_OBJECTS {
+            Some(Refusal::TooManyObjects)
+        } else if slots > MOST_SLOTS - self.slots {
+            Some(Refusal::TooManySlots)
+        } else {
+            self.kind_refusal(kind, found)
+        }
+    }
+
+    // Why a new object may not have this type, which was looked for.
+    fn kind_refusal(&self, kind: &Name, found: Option<u32>) -> Option<Refusal>
+        requires { found ≡ position (bytes_eq kind.now) self.now.table.kinds }
         ensures { result ≡ kind_refusal self.now.table kind.now }
     {
-        if self.kinds.find(kind).is_none() && self.kinds.len() >= MOST_KINDS {
+        if found.is_none() && self.kinds.len() >= MOST_KINDS {
             Some(Refusal::TooManyTypes)
         } else {
             None
@@ -460,16 +472,22 @@ impl ObjectTable {
         }
     }
 
-    // Puts the object into the cell that comes next. All memory is taken before anything is changed that would
-    // have to be changed back, but for the last id.
-    fn add_object(&mut self, id: ObjId, kind: &Name, slots: u32) -> Result<(), OutOfMemory>
-        requires { alloc_refusal self.old.table id kind.now slots ≡ None }
+    // Puts the object, whose type was looked for, into the cell that comes next. All memory is taken before anything is changed
+    // that would have to be changed back, but for the last id.
+    fn add_object(
+        &mut self,
+        id: ObjId,
+        kind: &Name,
+        found: Option<u32>,
+        slots: u32,
+    ) -> Result<(), OutOfMemory>
+        requires fits { alloc_refusal self.old.table id kind.now slots ≡ None }
+        requires found { found ≡ position (bytes_eq kind.now) self.old.table.kinds }
         ensures added { OnOk result (self.new.table ≡ with_object self.old.table id kind.now slots) }
         ensures cells { OnOk result (TakesCell self.old self.new id) }
         ensures lowest { OnOk result (NoneEmptyBelow self.new id) }
         ensures err { OnErr result (self.new ≡ self.old) }
     {
-        let found = self.kinds.find(kind);
         let number = found.unwrap_or(self.kinds.len());
         let object = Object::make(self.alloc, id, number, slots)?;
         self.cells.reserve()?;

@@ -12,25 +12,25 @@ use Rattle.object_table.proofs.table.ObjectTable.add_object.Goals.{After-number-
 pub make-requires-clause-kind : goal.make-requires-clause-kind
 make-requires-clause-kind c =
     let t = (placed_of (parts_in c.self.inside)).table in
-    let fits = alloc_fits t c.args.id c.args.kind.now c.args.slots (rw (← c.self.view_is) at c.requires) in
-    let number = (rw (c.find-found.ensures, c.len.ensures.count) at c.unwrap_or-number.ensures) in
+    let fits = alloc_fits t c.args.id c.args.kind.now c.args.slots (rw (← c.self.view_is) at c.requires.fits) in
+    let number = (rw (rw (← c.self.view_is) at c.requires.found, c.len.ensures.count) at c.unwrap_or-number.ensures) in
     omega (arith, number, kind_number_fits t c.args.kind.now c.self.invariant.sound.limits.kinds fits.allowed_kind)
 
 pub make-requires-clause-slots : goal.make-requires-clause-slots
 make-requires-clause-slots c =
-    let fits = alloc_fits (placed_of (parts_in c.self.inside)).table c.args.id c.args.kind.now c.args.slots (rw (← c.self.view_is) at c.requires) in
+    let fits = alloc_fits (placed_of (parts_in c.self.inside)).table c.args.id c.args.kind.now c.args.slots (rw (← c.self.view_is) at c.requires.fits) in
     omega (arith, fits.room_for_slots)
 
 pub learn-requires-clause-room : goal.learn-requires-clause-room
 learn-requires-clause-room c new =
-    let fits = alloc_fits (placed_of (parts_in c.self.inside)).table c.args.id c.args.kind.now c.args.slots (rw (← c.self.view_is) at c.requires) in
+    let fits = alloc_fits (placed_of (parts_in c.self.inside)).table c.args.id c.args.kind.now c.args.slots (rw (← c.self.view_is) at c.requires.fits) in
     kind_fits (placed_of (parts_in c.self.inside)).table c.args.kind.now fits.allowed_kind new
 
 pub put-requires-clause-few : goal.put-requires-clause-few
 put-requires-clause-few c =
     rw c.reserve.ensures.cells
     (room_for_cell (parts_in c.self.inside) c.self.invariant c.args.kind.now c.args.id c.unwrap_or-number.result c.args.slots
-    (rw (c.find-found.ensures, c.len.ensures.count) at c.unwrap_or-number.ensures) (rw (← c.self.view_is) at c.requires))
+    (rw (rw (← c.self.view_is) at c.requires.found, c.len.ensures.count) at c.unwrap_or-number.ensures) (rw (← c.self.view_is) at c.requires.fits))
 
 module _ (c : After-number-self-inside) where
   abbrev before : TableParts
@@ -47,7 +47,7 @@ module _ (c : After-number-self-inside) where
   }
 
   named : c.unwrap_or-number.result ≡ unwrap_or (position (bytes_eq c.args.kind.now) c.self.inside.kinds) (length c.self.inside.kinds)
-  named = rw (c.find-found.ensures, c.len.ensures.count) at c.unwrap_or-number.ensures
+  named = rw (rw (← c.self.view_is) at c.requires.found, c.len.ensures.count) at c.unwrap_or-number.ensures
 
   -- the parts with the object
   made : after ≡ with_one before c.self.invariant.laid c.args.kind.now c.args.id c.unwrap_or-number.result c.args.slots named
@@ -65,7 +65,7 @@ module _ (c : After-number-self-inside) where
   is_table : IsTable after
   is_table =
       subst IsTable (sym made)
-      (table_with_one before c.self.invariant c.args.kind.now c.args.id c.unwrap_or-number.result c.args.slots named (rw (← c.self.view_is) at c.requires))
+      (table_with_one before c.self.invariant c.args.kind.now c.args.id c.unwrap_or-number.result c.args.slots named (rw (← c.self.view_is) at c.requires.fits))
 
   added : (placed_of after).table ≡ with_object (placed_of before).table c.args.id c.args.kind.now c.args.slots
   added =

@@ -3,7 +3,7 @@ use Rattle.graph_meaning.specs.Heap.{Table}
 use Rattle.object_table.specs.Parts.{placed_of}
 use Rattle.object_table.proofs.Refusals.{alloc_rising, alloc_full, alloc_slots, alloc_kind}
 use Rattle.object_table.proofs.Tables.{parts_in}
-use Rattle.object_table.proofs.table.ObjectTable.alloc_refusal.Goals as goal
+use Rattle.object_table.proofs.table.ObjectTable.refusal_of.Goals as goal
 
 pub returns-then-number-self : goal.returns-then-number-self
 returns-then-number-self c =
