@@ -67,9 +67,19 @@ impl Ids {
         requires { RisesById self.now }
         ensures { result ≡ lookup (is_at (nat_cmp number)) self.now }
     {
-        if let Some(cell) = self.find_without_gaps(number) {
-            return Some(cell);
+        match self.find_without_gaps(number) {
+            Some(cell) => Some(cell),
+            None => self.find_near(number),
         }
+    }
+
+    // The same where a number is missing between the first id and the last. It stands by itself so that the short way above
+    // is short where it is called.
+    #[inline(never)]
+    fn find_near(&self, number: u32) -> Option<u32>
+        requires { RisesById self.now }
+        ensures { result ≡ lookup (is_at (nat_cmp number)) self.now }
+    {
         let near = self.near(number);
         match near.binary_search_by_key(&number, |entry| entry.0.number()) {
             Ok(place) => Some(near[place].1),

@@ -1,7 +1,7 @@
 use Rattle.std.proofs.Common.{ℕ, Some, rules, refl, sym, ap, ◌∙◌}
 use Rattle.std.proofs.lemmas.List.Sorted.{answers_always}
 use Rattle.object_table.proofs.Lookups.{searched_some, searched_none}
-use Rattle.object_table.proofs.ids.Ids.find_number.Goals as goal
+use Rattle.object_table.proofs.ids.Ids.find_near.Goals as goal
 
 -- the entry that was found has the id
 pub returns-in-Ok : goal.returns-in-Ok
