@@ -1,4 +1,4 @@
-ghost use Rattle.std.specs.Prelude.{◌≡◌, ◌||◌, ℕ, [], ◌<◌, length, map, IsSome, IfOk, IsTrue, Some, None, false, slice_index_or};
+ghost use Rattle.std.specs.Prelude.{◌≡◌, ◌||◌, ℕ, [], ◌<◌, length, map, IsSome, IfOk, IfSome, IsTrue, Some, None, false, slice_index_or};
 ghost use Rattle.std.specs.List.Sorted.{IsStrictlySortedBy};
 ghost use Rattle.std.specs.Map.{keys_of};
 ghost use Rattle.std.specs.Ordering.{nat_cmp};
@@ -71,8 +71,11 @@ pub(crate) fn set_owners(roles: &mut Roles, table: &ObjectTable, owners: &BTreeM
     ensures cells { HaveCells table.now roles.new }
     ensures rest { roles.new ≡ record roles.old { ownees = roles.new.ownees } }
 {
+    let mut last = None;
     for (ownee, owner) in owners {
-        roles.set_owner(live_cell(table, *ownee), role_of(table, *owner));
+        let known = known_owner(table, last, *owner);
+        roles.set_owner(live_cell(table, *ownee), known.role);
+        last = Some(known);
     }
 }
 
@@ -116,6 +119,28 @@ fn live_cell(table: &ObjectTable, id: ObjId) -> u32
     match table.cell_of(id) {
         Some(cell) => cell,
         None => unreachable!(),
+    }
+}
+
+// An owner, and the role of its ownees.
+#[derive(Clone, Copy)]
+struct KnownOwner {
+    owner: ObjId,
+    role: OwnerRole,
+}
+
+// The owner with the role of its ownees. Ownees that follow one another by id mostly have one owner, which is looked up once.
+fn known_owner(table: &ObjectTable, last: Option<KnownOwner>, owner: ObjId) -> KnownOwner
+    requires last { IfSome last (λ l. IsRoleBy table.now (Some l.owner) l.role) }
+    ensures owner { result.owner ≡ owner }
+    ensures role { IsRoleBy table.now (Some owner) result.role }
+{
+    match last {
+        Some(known) if known.owner == owner => known,
+        _ => KnownOwner {
+            owner,
+            role: role_of(table, owner),
+        },
     }
 }
 

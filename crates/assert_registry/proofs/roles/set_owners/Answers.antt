@@ -1,4 +1,4 @@
-use Rattle.std.proofs.Common.{◌≡◌, ◌<◌, ◌∷◌, IsTrue, Some, inr, refl, length, set, ap, subst, ◌∙◌, arith}
+use Rattle.std.proofs.Common.{◌≡◌, ◌<◌, ◌∷◌, IsTrue, Some, inr, refl, length, set, ap, subst, sym, ◌∙◌, arith}
 use Rattle.std.specs.List.{All}
 use Rattle.std.specs.Map.{keys_of}
 use Rattle.std.proofs.lemmas.List.{length-set}
@@ -7,6 +7,7 @@ use Rattle.graph_meaning.specs.Heap.{is_live}
 use Rattle.graph_meaning.specs.Roles.{RoleTable}
 use Rattle.graph_meaning.specs.Laws.{AllLive}
 use Rattle.assert_registry.specs.Assertions.{owner_of}
+use Rattle.assert_registry.specs.ByCell.{IsRoleBy}
 use Rattle.assert_registry.proofs.Marking.{HasRoleSoFar, role_more}
 use Rattle.assert_registry.proofs.roles.set_owners.Goals as goal
 
@@ -18,6 +19,7 @@ loop-ownee-init c =
       live = c.requires.live;
       owned = began.6;
       set = λ cell. inr (c.requires.none cell, refl);
+      last = tt;
       rest = refl;
     })
 
@@ -35,7 +37,7 @@ loop-ownee-preserved c =
     let ownee = c.in-Some.ownee.now in
     let owner = c.in-Some.owner.now in
     let cell = c.live_cell.result in
-    let role = c.role_of.result in
+    let role = c.known_owner-known.result.role in
     let roles = c.loop-ownee.roles.ownees in
     let left = c.next.new.self in
     let first : c.loop-ownee.ownee-iterator ≡ (ownee, owner) ∷ left = c.in-Some.ensures.steps in
@@ -47,7 +49,8 @@ loop-ownee-preserved c =
       live = All-rest (λ x. IsTrue (is_live p.table x)) ownee (keys_of left) (keys_of c.loop-ownee.ownee-iterator) (ap keys_of first) i.live;
       owned = All-rest (λ o. owner_of owners o.0 ≡ Some o.1) (ownee, owner) left c.loop-ownee.ownee-iterator first i.owned;
       set =
-          λ other. role_more p c.requires.placed owners left roles ownee owner cell role c.live_cell.ensures.cell found c.role_of.ensures within
+          λ other. role_more p c.requires.placed owners left roles ownee owner cell role c.live_cell.ensures.cell found c.known_owner-known.ensures.role within
           other (subst (λ es. HasRoleSoFar p owners es roles other) first (i.set other));
+      last = subst (λ o. IsRoleBy p (Some o) role) (sym c.known_owner-known.ensures.owner) c.known_owner-known.ensures.role;
       rest = ap (λ (r : RoleTable). record r { ownees = set roles cell role }) i.rest;
     })
