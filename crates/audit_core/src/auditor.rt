@@ -67,8 +67,8 @@ impl Auditor {
         })
     }
 
-    /// Applies an operation to the heap. It refuses what `step` of the definitions refuses, for the same
-    /// reason, before memory is asked. After a refusal, and when out of memory, nothing has changed.
+    /// Applies an operation to the heap. It refuses what `step` of the definitions refuses, for the same reason, whether or not
+    /// there is memory. After a refusal, and when out of memory, nothing has changed.
     pub fn apply(&mut self, event: &Event) -> Result<(), Stop>
         requires operation { IsTrue (is_operation event.now) }
         ensures refused { RefusesBy result (result_err (step self.old.heap event.now)) }

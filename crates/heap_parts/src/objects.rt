@@ -17,10 +17,13 @@ impl HeapParts {
     ) -> Result<(), Stop>
         ensures { Steps self.old (Alloc id kind.now slots thread) result self.new }
     {
-        if let Some(refusal) = self.table.alloc_refusal(id, kind, slots) {
-            return Err(Stop::Refused(refusal));
-        }
-        self.regions.reserve(thread)?;
+        let Ok(()) = self.regions.reserve(thread) else {
+            // what is refused is refused whether or not there is memory
+            return match self.table.alloc_refusal(id, kind, slots) {
+                Some(refusal) => Err(Stop::Refused(refusal)),
+                None => Err(Stop::OutOfMemory),
+            };
+        };
         self.table.alloc_object(id, kind, slots)?;
         self.regions.note(thread, id);
         Ok(())

@@ -46,8 +46,8 @@ impl HeapParts {
         })
     }
 
-    /// Applies an operation to the heap. It refuses what `step` of the definitions refuses, for the same reason, before
-    /// memory is asked. After a refusal, and when out of memory, nothing has changed.
+    /// Applies an operation to the heap. It refuses what `step` of the definitions refuses, for the same reason, whether or not
+    /// there is memory. After a refusal, and when out of memory, nothing has changed.
     pub fn apply(&mut self, event: &Event) -> Result<(), Stop>
         requires { IsTrue (is_operation event.now) }
         ensures { Steps self.old event.now result self.new }
