@@ -70,6 +70,7 @@ impl LineCutter {
 
     /// Cuts the next line, and answers its number, from 1. `Ok(None)` comes where the source's end was read
     /// and no line is left. It reads only where it holds no whole line.
+    #[inline(always)]
     pub fn next<S: Source>(&mut self, source: &mut S) -> Result<Option<u64>, CutError>
         ensures { (took : List ℕ) × StepsOn (with_source self.old (stream_of S.left S.faults source.old)) (with_source self.new (stream_of S.left S.faults source.new)) result took }
     {
@@ -94,6 +95,7 @@ impl LineCutter {
     }
 
     // The step of a cutter that stands at no refusal.
+    #[inline(always)]
     fn cut_next<S: Source>(&mut self, source: &mut S) -> Result<Option<u64>, CutError>
         requires { self.old.stopped ≡ None }
         ensures { (took : List ℕ) × StepsOn (with_source self.old (stream_of S.left S.faults source.old)) (with_source self.new (stream_of S.left S.faults source.new)) result took }

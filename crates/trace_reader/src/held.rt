@@ -17,6 +17,7 @@ pub struct Held {
 impl Held {
     /// Reads until the bytes that are held have a cut, or a read fails. The first `searched` bytes are known to have no newline, and the trace may
     /// have `allowed` bytes more than those before the bytes that are held.
+    #[inline(always)]
     pub fn settle<S: Source>(
         &mut self,
         source: &mut S,

@@ -15,6 +15,7 @@ mod operation;
 mod plain;
 mod reader;
 mod skip;
+mod utf8;
 mod window;
 
 pub use cutter::LineCutter;

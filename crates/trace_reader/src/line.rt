@@ -10,6 +10,7 @@ use crate::object::Object;
 use crate::operation::event_of_object;
 use crate::plain::read_plain;
 use crate::reader::EventReader;
+use crate::utf8::text_of;
 use graph_meaning::{Event, Refusal, Stop};
 use json::Scratch;
 use serde_json::Value;
@@ -54,6 +55,9 @@ impl EventReader for LineReader {
         LineReader::event_of(self, line)
     }
 
+    #[inline(always)]
+    fn give_back(&mut self, _event: &mut Event) {}
+
     fn look_ahead(&mut self, _behind: &[u8]) {}
 
     fn ahead(&self) -> usize {
@@ -80,9 +84,9 @@ fn is_blank_line(line: &[u8]) -> bool
 fn event_of_line(names: &mut RecentNames, line: &[u8], scratch: &mut Scratch) -> Result<Event, Stop>
     ensures { Gives result (event_of_json (json_of line.now)) }
 {
-    match str::from_utf8(line) {
-        Ok(text) => event_of_text(names, text, scratch),
-        Err(_) => Err(Stop::Refused(Refusal::NotJson)),
+    match text_of(line) {
+        Some(text) => event_of_text(names, text, scratch),
+        None => Err(Stop::Refused(Refusal::NotJson)),
     }
 }
 

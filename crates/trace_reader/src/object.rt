@@ -64,6 +64,7 @@ fn json_field<'a>(value: &'a Value, field: FieldName) -> Option<FieldValue<'a>>
 
 impl FieldValue<'_> {
     /// The whole number below 2^64 that it is, if it is one.
+    #[inline(always)]
     pub fn as_u64(self) -> Option<u64>
         ensures { result ≡ whole_number (value_data self.entry) }
     {
@@ -75,6 +76,7 @@ impl FieldValue<'_> {
     }
 
     /// Whether it is null.
+    #[inline(always)]
     pub fn is_null(self) -> bool
         ensures { result ≡ is_some (as_null (value_data self.entry)) }
     {
@@ -99,6 +101,7 @@ impl FieldValue<'_> {
 
 impl<'a> FieldValue<'a> {
     /// The text that it is, if it is one.
+    #[inline(always)]
     pub fn as_str(self) -> Option<&'a str>
         ensures { option_map (λ s. s.now) result ≡ as_str (value_data self.entry) }
     {

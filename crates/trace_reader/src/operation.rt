@@ -1,3 +1,5 @@
+ghost use Rattle.std.specs.Prelude.{◌≡◌};
+ghost use Rattle.std.specs.Str.{bytes_eq};
 ghost use Rattle.trace_reader.specs.Objects.{object_data};
 ghost use Rattle.trace_reader.specs.Meaning.{Gives, operation, event_in, alloc_in, store_in, set_weak_in, root_in, dead_in, start_in, all_dead_in, instances_in, unshared_in, owned_in};
 
@@ -30,20 +32,43 @@ pub fn event_of_object(names: &mut RecentNames, object: Object<'_>) -> Result<Ev
 fn operation_named(names: &mut RecentNames, op: &str, object: Object<'_>) -> Result<Event, Stop>
     ensures { Gives result (operation op.now (object_data object.entry)) }
 {
-    match op {
-        "store" => store_event(object),
-        "alloc" => alloc_event(names, object),
-        "set-weak" => set_weak_event(object),
-        "root" => root_event(names, object),
-        "assert-dead" => dead_event(object),
-        "start-region" => start_event(object),
-        "assert-alldead" => all_dead_event(object),
-        "assert-instances" => instances_event(names, object),
-        "assert-unshared" => unshared_event(object),
-        "assert-ownedby" => owned_event(object),
-        "collect" => Ok(Event::Collect),
-        _ => Err(Stop::Refused(Refusal::UnknownOp)),
+    // The two most common ones by compares of their letters, in place of calls of memcmp.
+    if equals(op, "store") {
+        store_event(object)
+    } else if equals(op, "alloc") {
+        alloc_event(names, object)
+    } else {
+        match op {
+            "set-weak" => set_weak_event(object),
+            "root" => root_event(names, object),
+            "assert-dead" => dead_event(object),
+            "start-region" => start_event(object),
+            "assert-alldead" => all_dead_event(object),
+            "assert-instances" => instances_event(names, object),
+            "assert-unshared" => unshared_event(object),
+            "assert-ownedby" => owned_event(object),
+            "collect" => Ok(Event::Collect),
+            _ => Err(Stop::Refused(Refusal::UnknownOp)),
+        }
     }
+}
+
+// Whether the texts are the same. Where the name is a literal, the loop is unrolled.
+#[inline(always)]
+fn equals(text: &str, name: &str) -> bool
+    ensures { result ≡ bytes_eq text.now name.now }
+{
+    if text.len() != name.len() {
+        return false;
+    }
+    let mut at = name.len();
+    'letters: while at > 0 {
+        at -= 1;
+        if text.as_bytes()[at] != name.as_bytes()[at] {
+            return false;
+        }
+    }
+    true
 }
 
 #[inline(always)]

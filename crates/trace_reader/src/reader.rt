@@ -19,6 +19,11 @@ pub trait EventReader {
         ensures ready { ready self.new }
         ensures tells { TellsItem result (item_of_line line.now) };
 
+    /// An operation that it told comes back when it was taken. The reader may keep what it holds, to let it go later.
+    fn give_back(&mut self, event: &mut Event)
+        requires { ready self.old }
+        ensures { ready self.new };
+
     /// It is shown the bytes behind the line that was read last, as far as they are there, and may read lines of them before their
     /// turn.
     fn look_ahead(&mut self, behind: &[u8])
