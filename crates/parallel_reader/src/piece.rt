@@ -4,9 +4,10 @@ ghost use Rattle.trace_reader.specs.Meaning.{item_of_line};
 
 use crate::lines::LinesAhead;
 use graph_meaning::{Event, Stop};
-use heap_base::OutOfMemory;
+use heap_base::{Name, OutOfMemory};
 use std::alloc::Global;
 use std::marker::Model;
+use std::mem;
 use trace_reader::LineReader;
 
 /// A copy of a piece of a trace, and those of its lines that were read before their turn, by whichever thread: each was read as what it
@@ -16,6 +17,8 @@ pub struct Piece {
     number: u64,
     text: Vec<u8>,
     lines: LinesAhead,
+    // names of operations that were taken: whoever reads the piece next lets them go, so that the caller needn't
+    spent: Vec<Name>,
 }
 
 impl Model for Piece {
@@ -36,6 +39,7 @@ impl Piece {
             number: 0,
             text: Vec::new(alloc),
             lines: LinesAhead::none(alloc),
+            spent: Vec::new(alloc),
         }
     }
 
@@ -52,8 +56,9 @@ impl Piece {
         Ok(self.text.extend_from_slice(text)?)
     }
 
-    /// Reads its lines. When out of memory, it has the first of them or none.
+    /// Reads its lines, and lets go what was given back to it. When out of memory, it has the first of its lines or none.
     pub fn read(&mut self, reader: &mut LineReader) {
+        self.spent.clear();
         self.lines.read(&self.text, reader);
     }
 
@@ -64,4 +69,25 @@ impl Piece {
         self.lines.skip(&self.text, place);
         self.lines.take(&self.text, line)
     }
+
+    /// Keeps the name that an operation has, if any, until the piece is read anew.
+    pub fn give_back(&mut self, event: &mut Event) {
+        // most operations have no name, and needn't be moved
+        if !has_name(event) {
+            return;
+        }
+        if let Event::Alloc { kind: name, .. }
+        | Event::Root { name, .. }
+        | Event::AssertInstances { kind: name, .. } = mem::replace(event, Event::Collect)
+        {
+            let _ = self.spent.push(name);
+        }
+    }
+}
+
+fn has_name(event: &Event) -> bool {
+    matches!(
+        event,
+        Event::Alloc { .. } | Event::Root { .. } | Event::AssertInstances { .. }
+    )
 }

@@ -102,16 +102,34 @@ impl Pieces {
         cut.read.as_mut()?.take(place, line)
     }
 
+    /// Gives the operation of the line that was passed last to the piece in which the next line begins, if that was read. Mostly it is
+    /// the piece that it came from, and any of them can let it go.
+    pub fn give_back(&mut self, event: &mut Event) {
+        if let Some(cut) = self.cuts.get_mut(self.next)
+            && let Some(piece) = cut.read.as_mut()
+        {
+            piece.give_back(event);
+        }
+    }
+
     /// Passes the next bytes of the text, which are those of a line.
     pub fn pass(&mut self, bytes: usize) {
-        let Some(cut) = self.cuts.get_mut(self.next) else {
+        let Some(cut) = self.cuts.get(self.next) else {
             return;
         };
         self.place = self.place.saturating_add(bytes);
         // each piece ends with a line
-        if self.place < cut.length {
-            return;
+        if self.place >= cut.length {
+            self.pass_piece();
         }
+    }
+
+    // Goes on to the next piece. Never inlined: some hundred lines are passed for each piece.
+    #[inline(never)]
+    fn pass_piece(&mut self) {
+        let Some(cut) = self.cuts.get_mut(self.next) else {
+            return;
+        };
         if let Some(piece) = cut.read.take() {
             let _ = self.spare.push(piece);
         }

@@ -97,6 +97,8 @@ impl<'a, R: Threads> ParallelReader<'a, R> {
     }
 
     // Sees to it that the piece of the next line is read, unless a thread is at it: until it has come, the caller reads pieces that wait.
+    // Never inlined: most lines stand in a piece that is there.
+    #[inline(never)]
     fn fetch(&mut self) {
         for _ in 0..MOST_PIECES {
             if self.gather() {
@@ -107,6 +109,17 @@ impl<'a, R: Threads> ParallelReader<'a, R> {
             };
             piece.read(&mut self.own);
             self.pieces.put(piece);
+        }
+    }
+
+    // Has the lines of the text read, in place of those before it. Never inlined: it is called once for some thousand lines.
+    #[inline(never)]
+    fn begin(&mut self, behind: &[u8]) {
+        self.pieces.clear();
+        self.crew.start(self.rt);
+        self.cut(behind);
+        if self.pieces.count() == 0 {
+            self.pause = PAUSE;
         }
     }
 
@@ -155,6 +168,11 @@ impl<'a, R: Threads> EventReader for ParallelReader<'a, R> {
         }
     }
 
+    // A name costs least where it is let go by the thread that made it, and the caller has the most to do.
+    fn give_back(&mut self, event: &mut Event) {
+        self.pieces.give_back(event);
+    }
+
     fn look_ahead(&mut self, behind: &[u8]) {
         if !self.pieces.is_over() || behind.len() < LEAST_AHEAD {
             return;
@@ -163,12 +181,7 @@ impl<'a, R: Threads> EventReader for ParallelReader<'a, R> {
             self.pause -= 1;
             return;
         }
-        self.pieces.clear();
-        self.crew.start(self.rt);
-        self.cut(behind);
-        if self.pieces.count() == 0 {
-            self.pause = PAUSE;
-        }
+        self.begin(behind);
     }
 
     fn ahead(&self) -> usize {

@@ -24,6 +24,7 @@ pub enum Flow {
 
 impl<P: Program + Drop, T: FnMut(&mut P, &Event) -> Result<Taken, Stop>> TraceRun<P, T> {
     /// Takes one line of the trace, which this many lines stand before.
+    #[inline(always)]
     pub(crate) fn take_line<L: EventReader, K: Sink>(
         &mut self,
         reader: &mut L,
@@ -45,7 +46,11 @@ impl<P: Program + Drop, T: FnMut(&mut P, &Event) -> Result<Taken, Stop>> TraceRu
     {
         match reader.event_of(line) {
             Ok(None) => Flow::GoesOn,
-            Ok(Some(event)) => self.take_event(&event, lines, sink),
+            Ok(Some(mut event)) => {
+                let flow = self.take_event(&event, lines, sink);
+                reader.give_back(&mut event);
+                flow
+            }
             Err(Stop::Refused(refusal)) => {
                 Flow::Ends(refuse(self.alloc, lines + 1, refusal, sink))
             }

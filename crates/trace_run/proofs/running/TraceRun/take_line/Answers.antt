@@ -6,9 +6,9 @@ use Rattle.trace_run.proofs.running.TraceRun.take_line.Goals as goal
 pub returns-in-Ok-Some-clause-takes : goal.returns-in-Ok-Some-clause-takes
 returns-in-Ok-Some-clause-takes g c =
     let item = rw c.in-Ok-Some.field-0-is at c.in-Ok-Some.ensures.tells in
-    TakesLine-at g.P.Program.meaning (g.P.Program.state c.args.self.now.program) (g.P.Program.state c.take_event.new.self.program) c.args.lines
+    TakesLine-at g.P.Program.meaning (g.P.Program.state c.args.self.now.program) (g.P.Program.state c.take_event-flow.new.self.program) c.args.lines
     (event_item c.in-Ok-Some.event) (item_of_line c.args.line.now) (stream_of g.K.Sink.held g.K.Sink.faults c.args.sink.now)
-    (stream_of g.K.Sink.held g.K.Sink.faults c.take_event.new.sink) c.take_event.result item c.take_event.ensures.takes
+    (stream_of g.K.Sink.held g.K.Sink.faults c.take_event-flow.new.sink) c.take_event-flow.result item c.take_event-flow.ensures.takes
 
 pub returns-in-Err-Refused-clause-takes : goal.returns-in-Err-Refused-clause-takes
 returns-in-Err-Refused-clause-takes g c =
