@@ -1,4 +1,4 @@
-ghost use Rattle.std.specs.Prelude.{◌≡◌};
+ghost use Rattle.std.specs.Prelude.{◌≡◌, false, codes};
 ghost use Rattle.std.specs.Str.{bytes_eq};
 ghost use Rattle.trace_reader.specs.Objects.{object_data};
 ghost use Rattle.trace_reader.specs.Meaning.{Gives, operation, event_in, alloc_in, store_in, set_weak_in, root_in, dead_in, start_in, all_dead_in, instances_in, unshared_in, owned_in};
@@ -38,18 +38,29 @@ fn operation_named(names: &mut RecentNames, op: &str, object: Object<'_>) -> Res
     } else if equals(op, "alloc") {
         alloc_event(names, object)
     } else {
-        match op {
-            "set-weak" => set_weak_event(object),
-            "root" => root_event(names, object),
-            "assert-dead" => dead_event(object),
-            "start-region" => start_event(object),
-            "assert-alldead" => all_dead_event(object),
-            "assert-instances" => instances_event(names, object),
-            "assert-unshared" => unshared_event(object),
-            "assert-ownedby" => owned_event(object),
-            "collect" => Ok(Event::Collect),
-            _ => Err(Stop::Refused(Refusal::UnknownOp)),
-        }
+        other_event(names, op, object)
+    }
+}
+
+// The operation of this name, which is a less common one. Never inlined, so that `operation_named` stays small enough to be inlined.
+#[inline(never)]
+#[tactic(auto, unfolding(crate::specs::Meaning::operation))]
+fn other_event(names: &mut RecentNames, op: &str, object: Object<'_>) -> Result<Event, Stop>
+    requires store { bytes_eq op.now (codes "store") ≡ false }
+    requires alloc { bytes_eq op.now (codes "alloc") ≡ false }
+    ensures { Gives result (operation op.now (object_data object.entry)) }
+{
+    match op {
+        "set-weak" => set_weak_event(object),
+        "root" => root_event(names, object),
+        "assert-dead" => dead_event(object),
+        "start-region" => start_event(object),
+        "assert-alldead" => all_dead_event(object),
+        "assert-instances" => instances_event(names, object),
+        "assert-unshared" => unshared_event(object),
+        "assert-ownedby" => owned_event(object),
+        "collect" => Ok(Event::Collect),
+        _ => Err(Stop::Refused(Refusal::UnknownOp)),
     }
 }
 
