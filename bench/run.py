@@ -9,7 +9,8 @@ of the two times can be read. `wc -l` over the same file, in the same run, is th
 plain Rust program in bench/plain_rust runs over the same file as well, and must write the same report; once more it only reads the lines by
 serde's derive into a struct that borrows, and once by making serde_json's `Value` of each.
 --reading             lines of some kinds that change next to nothing: gcaudit with 1, 2 and 4 workers, beside plain Rust that only reads them
-                      and beside `wc -l`, each of which has one; by the clock, and the time of all processors with it
+                      and beside `wc -l`, each of which has one; by the clock, and the time of all processors with it. Ratios are the median of
+                      those of each turn
 --small               a tenth of the sizes
 --turns N             so many turns, of which the least time stands (5)
 --before PROGRAM      another program, as one built before, over the same traces in turn: the last columns say how many times as long it
@@ -23,6 +24,7 @@ gcaudit must be built: ./gcaudit examples/first.jsonl builds it. Nothing here is
 import argparse
 import os
 import shutil
+import statistics
 import subprocess
 import sys
 import tempfile
@@ -240,10 +242,23 @@ def need_plain_rust(feature=None):
     return built
 
 
+def in_turns(commands, path, turns):
+    """The runs of each command; they take turns, since a shared machine is faster at one moment than at another."""
+    return list(zip(*([timed(command, path) for command in commands] for _ in range(turns))))
+
+
+def least(runs):
+    return min(runs, key=lambda run: run.seconds)
+
+
 def best(commands, path, turns=TRIES):
-    """Of each command the run of the least time; they take turns, since a shared machine is faster at one moment than at another."""
-    runs = [[timed(command, path) for command in commands] for _ in range(turns)]
-    return [min(tries, key=lambda run: run.seconds) for tries in zip(*runs)]
+    """Of each command the run of the least time."""
+    return [least(runs) for runs in in_turns(commands, path, turns)]
+
+
+def median_part(runs, others, value):
+    """A value of the runs as a part of that of the others: the median of the parts of each turn."""
+    return statistics.median(value(run) / value(other) for run, other in zip(runs, others))
 
 
 def need_programs(*programs):
@@ -374,8 +389,16 @@ def time_traces(plain, options):
     draw(whole, options)
 
 
+def clock(run):
+    return run.seconds
+
+
+def processors(run):
+    return run.processors
+
+
 class Reading(NamedTuple):
-    """Lines of one kind, and the least run over them of gcaudit with each number of workers, and of the programs that only read."""
+    """Lines of one kind, and the runs over them of gcaudit with each number of workers, and of the programs that only read."""
     name: str
     megabytes: float
     ours: list
@@ -383,7 +406,7 @@ class Reading(NamedTuple):
 
     def beside(self, number):
         """The clock of one number of workers as a part of that of each other program."""
-        return [self.ours[number].seconds / other.seconds for other in self.others]
+        return [median_part(self.ours[number], other, clock) for other in self.others]
 
 
 def time_lines(name, lines, path, plain, options):
@@ -391,9 +414,9 @@ def time_lines(name, lines, path, plain, options):
         trace.writelines(lines(1_000_000 // options.scale))
     commands = [[PROGRAM, "--workers", str(workers)] for workers in WORKERS_THAT_READ]
     commands += [[plain, "--only-read", "--value"], [plain, "--only-read"], ["wc", "-l"]]
-    runs = best(commands, path, options.turns)
-    if any(run.status != 0 for run in runs):
-        sys.exit(f"lines {name}: one was refused: {runs[0].output.decode()}")
+    runs = in_turns(commands, path, options.turns)
+    if any(run.status != 0 for tries in runs for run in tries):
+        sys.exit(f"lines {name}: one was refused: {runs[0][0].output.decode()}")
     ours, others = runs[:len(WORKERS_THAT_READ)], runs[len(WORKERS_THAT_READ):]
     return Reading(name, os.path.getsize(path) / 1e6, ours, others)
 
@@ -412,7 +435,8 @@ def ratios(values):
 
 def show_workers(found):
     """The rows of one kind of lines, one for each number of workers."""
-    for number, (workers, run) in enumerate(zip(WORKERS_THAT_READ, found.ours)):
+    for number, (workers, runs) in enumerate(zip(WORKERS_THAT_READ, found.ours)):
+        run = least(runs)
         times = (f"{run.seconds:.2f}", f"{run.processors:.2f}", f"{found.megabytes / run.seconds:.0f}")
         row("the same" if number else found.name, str(workers), *times, *ratios(found.beside(number)))
 
@@ -420,8 +444,9 @@ def show_workers(found):
 def short_cells(found):
     """With one worker, and with each other number the clock and the processors' time as parts of those with one."""
     one, *more = found.ours
-    gains = [", ".join(ratios((run.seconds / one.seconds, run.processors / one.processors))) for run in more]
-    return [found.name, f"{found.megabytes:.0f}", f"{one.seconds:.2f}", f"{found.megabytes / one.seconds:.0f}", *ratios(found.beside(0)), *gains]
+    gains = [", ".join(ratios(median_part(runs, one, value) for value in (clock, processors))) for runs in more]
+    seconds = least(one).seconds
+    return [found.name, f"{found.megabytes:.0f}", f"{seconds:.2f}", f"{found.megabytes / seconds:.0f}", *ratios(found.beside(0)), *gains]
 
 
 def time_reading(plain, options):
