@@ -10,7 +10,7 @@ ghost use Rattle.assert_registry.specs.Assertions.{no_assertions, kind_room, own
 ghost use Rattle.assert_registry.specs.ByCell.{SpeakOfTable, AreRolesBy};
 
 use crate::id_set::IdSet;
-use crate::ids::is_live;
+use crate::ids::IdCursor;
 use crate::roles::{add_owners, live_owners, set_dead, set_limits, set_owners, set_unshared};
 use graph_meaning::{Refusal, Roles, Stop};
 use heap_base::{ObjId, OutOfMemory};
@@ -158,6 +158,7 @@ impl AssertRegistry {
     {
         self.dead.retain_live(table);
         self.unshared.retain_live(table);
-        self.owners.retain(|ownee, _| is_live(table, *ownee));
+        let mut ids = IdCursor::new();
+        self.owners.retain(|ownee, _| ids.is_live(table, *ownee));
     }
 }

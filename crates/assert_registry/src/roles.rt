@@ -11,6 +11,7 @@ ghost use Rattle.assert_registry.specs.Assertions.{limit_of};
 ghost use Rattle.assert_registry.specs.ByCell.{HaveCells, holds_one_of, owner_at, IsRoleBy, live_owners};
 
 use crate::id_set::IdSet;
+use crate::ids::{IdCursor, live_cell};
 use graph_meaning::{OwnerRole, Roles};
 use heap_base::{ObjId, OutOfMemory};
 use object_table::ObjectTable;
@@ -71,10 +72,11 @@ pub(crate) fn set_owners(roles: &mut Roles, table: &ObjectTable, owners: &BTreeM
     ensures cells { HaveCells table.now roles.new }
     ensures rest { roles.new ≡ record roles.old { ownees = roles.new.ownees } }
 {
+    let mut ids = IdCursor::new();
     let mut last = None;
     for (ownee, owner) in owners {
         let known = known_owner(table, last, *owner);
-        roles.set_owner(live_cell(table, *ownee), known.role);
+        roles.set_owner(ids.live_cell(table, *ownee), known.role);
         last = Some(known);
     }
 }
@@ -107,18 +109,6 @@ pub(crate) fn add_owners(roles: &mut Roles, table: &ObjectTable, owners: &[ObjId
 {
     for id in owners {
         roles.add_owner(live_cell(table, *id));
-    }
-}
-
-// The cell of a live object.
-fn live_cell(table: &ObjectTable, id: ObjId) -> u32
-    requires { IsTrue (is_live table.now.table id) }
-    ensures cell { id_in table.now result ≡ Some id }
-    ensures below { result < length table.now.cells }
-{
-    match table.cell_of(id) {
-        Some(cell) => cell,
-        None => unreachable!(),
     }
 }
 

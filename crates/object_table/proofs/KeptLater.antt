@@ -1,13 +1,13 @@
 -- What is left where every object is kept whose id is not above a number, and the others are freed one by one.
 use Rattle.std.proofs.Common.{◌≡◌, ℕ, ◌+◌, ◌-◌, ◌<◌, ◌≤◌, List, [], ◌∷◌, ◌++◌, length, map, take, drop, filter, get_or, suc, ◌==◌, ne_eqb, Bool}
-use Rattle.std.proofs.Common.{true, false, not, ◌&&◌, ◌||◌, cond, IsTrue, Option, Some, None, IfSome, IsSome, is_some, unwrap_or, refl, sym, ◌∙◌}
+use Rattle.std.proofs.Common.{true, false, not, ◌&&◌, ◌||◌, cond, IsTrue, Option, Some, None, IfSome, IsSome, is_some, refl, sym, ◌∙◌}
 use Rattle.std.proofs.Common.{ap, subst, ⊎_elim, arith}
 use Rattle.std.specs.List.{All, sum_by}
 use Rattle.std.specs.Option.{option_map}
 use Rattle.std.proofs.lemmas.Bool.{false≢true, cases_eq}
 use Rattle.std.proofs.lemmas.List.{length-drop, length-take-le, length-map, get_or-drop, get_or-take, get_or-map, map-append, take-append-drop}
-use Rattle.std.proofs.lemmas.List.Elements.{filter-append, filter_passes}
-use Rattle.std.proofs.lemmas.List.Sums.{sum_by-cons, sum_by-append, sum_by-take-drop}
+use Rattle.std.proofs.lemmas.List.Elements.{filter-append}
+use Rattle.std.proofs.lemmas.List.Sums.{sum_by-append, sum_by-take-drop}
 use Rattle.heap_base.specs.Counting.{bit, times}
 use Rattle.heap_base.proofs.Counting.{times-append}
 use Rattle.graph_meaning.specs.Heap.{is_live}
@@ -15,10 +15,11 @@ use Rattle.graph_meaning.specs.Reach.{has_id}
 use Rattle.object_table.specs.declared.slot.Slot.{Slot as CellSlot}
 use Rattle.object_table.specs.Placed.{id_in, kept_ids, HoldsOf, HoldKept, IsStacked}
 use Rattle.object_table.specs.Residents.{Resident, is_flagged, slot_after, resident_after, held_at, held_after, id_held, is_taken}
-use Rattle.object_table.specs.Parts.{TableParts, slot_of, nobody, placed_of, HoldsTaken, slots_at_cell, IsTable, held_unless, is_freed, StandInOrder}
+use Rattle.object_table.specs.Parts.{TableParts, slot_of, placed_of, HoldsTaken, slots_at_cell, IsTable, held_unless, is_freed, StandInOrder}
 use Rattle.object_table.proofs.Parts.{held_with_id, held_taken, taken_with, id_in-held, slots_in-held, is_placed}
-use Rattle.object_table.proofs.Changes.{of_some, kept_cell, slot_count-is}
+use Rattle.object_table.proofs.Changes.{of_some, kept_cell}
 use Rattle.object_table.proofs.Freed.{filter_all, kept_stays}
+use Rattle.object_table.proofs.KeptSlots as slots
 
 -- ---- entries and cells
 
@@ -166,15 +167,6 @@ module _ (p : TableParts) (is : IsTable p) (kept : List Bool) (number first : �
             ∙ left flag (is_freed kept later_ids cell) refl
             ∙ ap (λ b. cond b (option_map (resident_after kept) (held_at p.cells cell)) None) (sym flag)
 
-    -- the slots of those that stay
-    same_count : (es : List (ℕ × ℕ)) → All (λ e. is_flagged kept e.1 ≡ true) es → sum_by (λ e. slots_at_cell later e.1) es ≡ sum_by (λ e. slots_at_cell p.cells e.1) es
-    same_count [] all = refl
-    same_count (e ∷ es) all =
-        let rest = same_count es (λ k d h. all (suc k) d (omega arith)) in
-        let one = ap (λ (q : Option Resident). length (unwrap_or q nobody).slots) (freed e.1 ∙ ap (λ b. held_unless b p.cells e.1) (kept_stays kept later_ids e.1 (all 0 e (omega arith)))) in
-        sum_by-cons (λ (x : ℕ × ℕ). slots_at_cell later x.1) e es ∙ ap (λ n. n + sum_by (λ x. slots_at_cell later x.1) es) one
-        ∙ ap (λ n. slots_at_cell p.cells e.1 + n) rest ∙ sym (sum_by-cons (λ (x : ℕ × ℕ). slots_at_cell p.cells x.1) e es)
-
     module _ (n : ℕ) (counted : n + sum_by (λ e. slots_at_cell p.cells e.1) (filter (λ e. is_flagged kept e.1) later_ids) ≡ sum_by (λ e. slots_at_cell p.cells e.1) later_ids) where
       abbrev flagged : ℕ × ℕ → Bool
       flagged e = is_flagged kept e.1
@@ -182,18 +174,17 @@ module _ (p : TableParts) (is : IsTable p) (kept : List Bool) (number first : �
       abbrev count : List (ℕ × ℕ) → ℕ
       count es = sum_by (λ e. slots_at_cell p.cells e.1) es
 
-      total : p.slots ≡ count (take first p.ids) + count later_ids
-      total = is.counted ∙ slot_count-is p ∙ sym (sum_by-take-drop (λ (e : ℕ × ℕ). slots_at_cell p.cells e.1) p.ids first)
-
-      pub freed_fits : n ≤ p.slots
-      freed_fits = omega (arith, total)
-
-      pub slots_left : p.slots - n ≡ sum_by (λ e. slots_at_cell later e.1) (filter flagged p.ids)
-      slots_left =
+      counted_whole : n + count (filter flagged p.ids) ≡ count p.ids
+      counted_whole =
           let whole : filter flagged p.ids ≡ take first p.ids ++ filter flagged later_ids =
           ap (filter flagged) (sym (take-append-drop first p.ids)) ∙ filter-append flagged (take first p.ids) later_ids
           ∙ ap (λ l. l ++ filter flagged later_ids) (filter_all flagged (take first p.ids) all_kept) in
           let stay : count (filter flagged p.ids) ≡ count (take first p.ids) + count (filter flagged later_ids) =
           ap count whole ∙ sum_by-append (λ (e : ℕ × ℕ). slots_at_cell p.cells e.1) (take first p.ids) (filter flagged later_ids) in
-          let same = same_count (filter flagged p.ids) (filter_passes flagged p.ids) in
-          omega (arith, total)
+          omega (arith, sum_by-take-drop (λ (e : ℕ × ℕ). slots_at_cell p.cells e.1) p.ids first)
+
+      pub freed_fits : n ≤ p.slots
+      freed_fits = slots.freed_fits p is kept later held_is_after n counted_whole
+
+      pub slots_left : p.slots - n ≡ sum_by (λ e. slots_at_cell later e.1) (filter flagged p.ids)
+      slots_left = slots.slots_left p is kept later held_is_after n counted_whole

@@ -7,6 +7,7 @@ pub mod Freed
 pub mod Housing
 pub mod Indexes
 pub mod KeptLater
+pub mod KeptSlots
 pub mod Laid
 pub mod Lookups
 pub mod Named

@@ -1,5 +1,5 @@
 -- What the calls on a table say and leave, in terms of its parts.
-use Rattle.std.proofs.Common.{◌≡◌, ℕ, ◌+◌, ◌<◌, ◌≤◌, List, [], ◌∷◌, length, map, filter, take, set, get_or, slice_get, Bool, true, false, not, cond}
+use Rattle.std.proofs.Common.{◌≡◌, ℕ, ◌+◌, ◌<◌, ◌≤◌, List, [], length, map, filter, set, get_or, slice_get, Bool, true, false, not, cond}
 use Rattle.std.proofs.Common.{IsTrue, Option, Some, None, IfSome, IsSome, is_some, unwrap_or, option_and_then, position, refl, sym, ◌∙◌, ap, subst}
 use Rattle.std.proofs.Common.{⊎_elim, arith}
 use Rattle.std.specs.List.{All, sum_by}
@@ -8,10 +8,9 @@ use Rattle.std.specs.Str.{bytes_eq}
 use Rattle.std.specs.Map.{remove_entry}
 use Rattle.std.specs.BTreeMap.{insert_entry, is_at}
 use Rattle.std.proofs.lemmas.Bool.{cases_lt}
-use Rattle.std.proofs.lemmas.List.{length-map, get_or-map, take_more, take_all}
-use Rattle.std.proofs.lemmas.List.Sums.{sum_by-cons, sum_by-append, sum_by-take-le}
+use Rattle.std.proofs.lemmas.List.{length-map, get_or-map}
 use Rattle.std.proofs.lemmas.Option.{same_Some, slice_get_within, get_or_from_slice_get, slice_get-get_or, slice_get-map}
-use Rattle.heap_base.specs.declared.limits.TheConstants.{MOST_OBJECTS, MOST_SLOTS}
+use Rattle.heap_base.specs.declared.limits.TheConstants.{MOST_OBJECTS}
 use Rattle.graph_meaning.specs.declared.refusal.Refusal.TheVariants.{NotLive}
 use Rattle.graph_meaning.specs.Heap.{Slot, Object, name_cmp, ids, edge_of, is_live, slot_count}
 use Rattle.graph_meaning.specs.Step.{not_live, slots_of, alloc_refusal, store_refusal, slot_refusal, root_refusal, kind_refusal, with_kind, with_changed_slot, slot_holding, slot_made_weak, with_root}
@@ -322,15 +321,6 @@ module _ (p : TableParts) (is : IsTable p) where
     sound_kept : (slots : ℕ) → IsSound (placed_of (with_kept p is.laid kept later after slots)).table
     sound_kept slots = subst IsSound (sym (kept_is p is.laid kept later after slots)) (sound_with_only (placed_of p).table (kept_ids (placed_of p).cells kept) is.sound leads)
 
-    pub kept_taken : All (λ e. IsTrue (is_taken later e.1)) (filter (λ e. is_flagged kept e.1) p.ids)
-    kept_taken k d h =
-        let e : ℕ × ℕ = get_or (filter (λ e. is_flagged kept e.1) p.ids) k d in
-        let (o, held, same) = held_with_id later e.1 e.0 ((kept_laid p is.laid kept later after 0 long).stands k d h) in
-        ap is_some held
-
-    pub kept_few : sum_by (λ e. slots_at_cell later e.1) (filter (λ e. is_flagged kept e.1) p.ids) ≤ MOST_SLOTS
-    kept_few = omega (arith, (sound_kept 0).limits.slots, slot_count-is (with_kept p is.laid kept later after 0))
-
     pub table_kept : (slots : ℕ) → slots ≡ sum_by (λ e. slots_at_cell later e.1) (filter (λ e. is_flagged kept e.1) p.ids) → IsTable (with_kept p is.laid kept later after slots)
     table_kept slots counted = record {
       laid = kept_laid p is.laid kept later after slots long;
@@ -338,24 +328,7 @@ module _ (p : TableParts) (is : IsTable p) where
       sound = sound_kept slots;
     }
 
--- ---- a count of slots
-
-module _ (cells : List (Option Resident)) (ids : List (ℕ × ℕ)) (place : ℕ) (h : place < length ids) where
-  abbrev count : List (ℕ × ℕ) → ℕ
-  count es = sum_by (λ e. slots_at_cell cells e.1) es
-
-  pub counted_more : (d : ℕ × ℕ) → count (take (place + 1) ids) ≡ count (take place ids) + slots_at_cell cells (get_or ids place d).1
-  counted_more d =
-      ap count (take_more ids place d h)
-      ∙ sum_by-append (λ (e : ℕ × ℕ). slots_at_cell cells e.1) (take place ids) (get_or ids place d ∷ [])
-      ∙ ap (λ n. count (take place ids) + n) (sum_by-cons (λ (e : ℕ × ℕ). slots_at_cell cells e.1) (get_or ids place d) [] ∙ zero-after (slots_at_cell cells (get_or ids place d).1))
-    where
-      zero-after : (n : ℕ) → n + 0 ≡ n
-      zero-after n = omega arith
-
-  -- what was counted so far is no more than the whole
-  pub counted_fits : (d : ℕ × ℕ) → count (take place ids) + slots_at_cell cells (get_or ids place d).1 ≤ count ids
-  counted_fits d = omega (arith, counted_more d, sum_by-take-le (λ (e : ℕ × ℕ). slots_at_cell cells e.1) ids (place + 1))
+-- ---- an object by its place among the ids
 
 module _ (cells : List (Option Resident)) (ids : List (ℕ × ℕ)) (place cell : ℕ) (h : place < length ids) (is : IfSome (slice_get ids place) (λ e. cell ≡ e.1)) where
   pub place_cell : (d : ℕ × ℕ) → cell ≡ (get_or ids place d).1
@@ -368,17 +341,5 @@ module _ (cells : List (Option Resident)) (ids : List (ℕ × ℕ)) (place cell 
     slots_here : (d : ℕ × ℕ) → slots_at_cell cells (get_or ids place d).1 ≡ length o.slots
     slots_here d = ap (slots_at_cell cells) (sym (place_cell d)) ∙ ap (λ (c : Option Resident). length (unwrap_or c nobody).slots) held
 
-    pub place_more : (slots n : ℕ) → slots ≡ sum_by (λ e. slots_at_cell cells e.1) (take place ids) → n ≡ length o.slots → slots + n ≡ sum_by (λ e. slots_at_cell cells e.1) (take (place + 1) ids)
-    place_more slots n so_far counted =
-        let d : ℕ × ℕ = (0, 0) in
-        omega (arith, so_far, counted, slots_here d, counted_more cells ids place h d)
-
-    pub place_fits : (slots n : ℕ) → slots ≡ sum_by (λ e. slots_at_cell cells e.1) (take place ids) → n ≡ length o.slots →
-        sum_by (λ e. slots_at_cell cells e.1) ids ≤ MOST_SLOTS → slots + n ≤ MOST_SLOTS
-    place_fits slots n so_far counted few =
-        let d : ℕ × ℕ = (0, 0) in
-        omega (arith, so_far, counted, few, slots_here d, counted_fits cells ids place h d)
-
-pub counted_all : (cells : List (Option Resident)) (ids : List (ℕ × ℕ)) (place : ℕ) → length ids ≤ place →
-    sum_by (λ e. slots_at_cell cells e.1) (take place ids) ≡ sum_by (λ e. slots_at_cell cells e.1) ids
-counted_all cells ids place h = ap (sum_by (λ e. slots_at_cell cells e.1)) (take_all place ids h)
+    pub place_slots : (n : ℕ) → n ≡ length o.slots → (d : ℕ × ℕ) → n ≡ slots_at_cell cells (get_or ids place d).1
+    place_slots n counted d = counted ∙ sym (slots_here d)

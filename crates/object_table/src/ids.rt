@@ -11,6 +11,9 @@ use heap_base::{ObjId, OutOfMemory};
 use std::alloc::Global;
 use std::marker::Model;
 
+// So many ids are passed in search of one that mostly stands a little behind the one before.
+const MOST_PASSED: usize = 4;
+
 /// The ids of the live objects, rising, each with the cell of its object. Contracts see the list of those pairs.
 #[derive(Drop)]
 pub struct Ids {
@@ -71,6 +74,41 @@ impl Ids {
             Some(cell) => Some(cell),
             None => self.find_near(number),
         }
+    }
+
+    /// What `find` answers, for ids that rise from call to call: where a number is missing, a search from this place on comes first, which passes
+    /// a few ids. It leaves the place where it ended.
+    pub fn find_from(&self, id: ObjId, place: &mut usize) -> Option<u32>
+        requires { RisesById self.now }
+        ensures { result ≡ lookup (is_at (nat_cmp id)) self.now }
+    {
+        let number = id.number();
+        if let Some(cell) = self.find_without_gaps(number) {
+            return Some(cell);
+        }
+        match self.find_close(number, place) {
+            Some(cell) => Some(cell),
+            None => self.find_near(number),
+        }
+    }
+
+    // The cell of the id with this number, if it is one of the next few from this place on.
+    fn find_close(&self, number: u32, place: &mut usize) -> Option<u32>
+        requires { RisesById self.now }
+        ensures { IfSome result (λ cell. lookup (is_at (nat_cmp number)) self.now ≡ Some cell) }
+    {
+        for _ in 0..MOST_PASSED {
+            let (id, cell) = *self.entries.get(*place)?;
+            if id.number() >= number {
+                return if id.number() == number {
+                    Some(cell)
+                } else {
+                    None
+                };
+            }
+            *place += 1;
+        }
+        None
     }
 
     // The same where a number is missing between the first id and the last. It stands by itself so that the short way above

@@ -220,6 +220,15 @@ impl ObjectTable {
         self.ids.find(id)
     }
 
+    /// What `cell_of` answers, in less time for ids that rise from call to call: an object is looked for from this place on among all objects
+    /// by their ids, and then everywhere. The place, at first 0, is for the next call.
+    pub fn cell_from(&self, id: ObjId, place: &mut usize) -> Option<u32>
+        ensures cell { IfSome result (λ cell. id_in self.now cell ≡ Some id) }
+        ensures live { is_some result ≡ is_live self.now.table id }
+    {
+        self.ids.find_from(id, place)
+    }
+
     /// The object that a cell holds, and `None` where it is empty.
     pub fn id_at(&self, cell: u32) -> Option<ObjId>
         requires in_range { cell < length self.now.cells }
@@ -339,9 +348,10 @@ impl ObjectTable {
         if self.cells.is_last_taken() && self.ids.are_kept(kept) {
             return;
         }
+        let freed = freed_slots(&self.ids, &self.cells, kept);
         self.cells.keep(kept);
         self.ids.keep(kept);
-        self.slots = slots_of(&self.ids, &self.cells);
+        self.slots -= freed;
     }
 
     /// The same as `keep`, where every object is kept whose id is not above this number. It looks at the others alone, so
@@ -503,15 +513,18 @@ impl ObjectTable {
     }
 }
 
-// How many slots the objects have together.
-fn slots_of(ids: &Ids, cells: &Cells) -> u32
+// How many slots the objects have together whose cells are not kept. It looks at none of the others.
+fn freed_slots(ids: &Ids, cells: &Cells, kept: &[bool]) -> u32
     requires taken { All (λ e. IsTrue (is_taken cells.now.cells e.1)) ids.now }
     requires few { sum_by (λ e. slots_at_cell cells.now.cells e.1) ids.now ≤ MOST_SLOTS }
-    ensures { result ≡ sum_by (λ e. slots_at_cell cells.now.cells e.1) ids.now }
+    ensures { result + sum_by (λ e. slots_at_cell cells.now.cells e.1) (filter (λ e. is_flagged kept.now e.1) ids.now) ≡ sum_by (λ e. slots_at_cell cells.now.cells e.1) ids.now }
 {
     let mut slots = 0;
-    for place in 0..ids.len() {
-        slots += cells.at(ids.cell(place)).slots();
+    for place in (0..ids.len()).rev() {
+        let cell = ids.cell(place);
+        if !is_flagged(kept, cell) {
+            slots += cells.at(cell).slots();
+        }
     }
     slots
 }
