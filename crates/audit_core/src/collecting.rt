@@ -12,8 +12,8 @@ use std::thread::Threads;
 use verdicts::verdicts;
 
 // So many cells pay for a second worker, and as many more for each further one: for its memory, and for the thread that is started for
-// it. A thread may wait a millisecond or two before it runs, in which another traces this many objects.
-const CELLS_A_WORKER: u32 = 32_768;
+// it. A new thread may share a processor with the one that started it for some milliseconds, in which one worker traces this many objects.
+const CELLS_A_WORKER: u32 = 131_072;
 
 // How many workers, at most so many, trace a table of so many cells.
 fn workers_for(cells: u32, most: u32) -> u32

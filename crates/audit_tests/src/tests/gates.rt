@@ -1,5 +1,5 @@
 //! Two workers at a collection, each on a thread of its own: gates that hold the one until the other has gone on.
-//! Their heap has 40,002 objects: two workers trace one of 32,768 cells or more, and a crew of two has two threads where a worker may
+//! Their heap has 140,002 objects: two workers trace one of 131,072 cells or more, and a crew of two has two threads where a worker may
 //! have 1,000 tasks or more. A smaller heap is traced by one worker.
 
 use audit_run::audit;
@@ -66,7 +66,7 @@ fn expect_held<R: Threads + Abort + Sync>(
         holds,
         watch: Watch::new(),
     };
-    expect_report(rt, alloc, 40_000, &gate)?;
+    expect_report(rt, alloc, 140_000, &gate)?;
     assert!(rt; !gate.watch.gave_up());
     Ok(())
 }
@@ -102,14 +102,14 @@ fn a_waiting_task_is_stolen(rt: HostRuntime) -> Result<(), Fail> {
     expect_held(&rt, rt.alloc(), &holds)
 }
 
-/// A heap of 1,002 objects is traced by one worker, which begins each of them: the other begins none.
+/// A heap of 100,002 objects is traced by one worker, which begins each of them: the other begins none.
 #[test]
 fn a_small_heap_is_traced_by_one_worker(rt: HostRuntime) -> Result<(), Fail> {
     let gate = Holding {
         holds: &[],
         watch: Watch::new(),
     };
-    expect_report(&rt, rt.alloc(), 1_000, &gate)?;
-    assert_eq!(&rt; (gate.watch.begun(0), gate.watch.begun(1)), (1_002, 0));
+    expect_report(&rt, rt.alloc(), 100_000, &gate)?;
+    assert_eq!(&rt; (gate.watch.begun(0), gate.watch.begun(1)), (100_002, 0));
     Ok(())
 }
