@@ -85,10 +85,6 @@ is_operation (AssertUnshared id) = true
 is_operation (AssertOwnedBy owner ownee) = true
 is_operation Collect = false
 
-abbrev pub is_store : Event → Bool
-is_store (Store at slot to) = true
-is_store event = false
-
 -- One operation on a heap: what `step` refuses is refused, else the heap is what `step` leaves, and after an error nothing
 -- has changed.
 pub record Steps {T : Type 0} (before : PlacedHeap) (event : Event) (result : Result T Stop) (after : PlacedHeap) : Type 0 where

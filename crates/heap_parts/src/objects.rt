@@ -30,11 +30,11 @@ impl HeapParts {
     }
 
     /// Lets a slot hold an object, or nothing.
-    #[inline(always)]
     pub(crate) fn store(&mut self, at: ObjId, slot: u32, to: Option<ObjId>) -> Result<(), Stop>
         ensures { Steps self.old (Store at slot to) result self.new }
     {
-        Ok(self.table.store(at, slot, to)?)
+        self.table.store(at, slot, to)?;
+        Ok(())
     }
 
     /// Makes a slot weak, or no longer weak.

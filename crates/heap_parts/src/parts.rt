@@ -1,9 +1,9 @@
 //! The parts of a heap: its objects, what is asserted of them, and the open regions.
-ghost use Rattle.std.specs.Prelude.{◌≡◌, [], false, length, IsTrue, IfOk};
+ghost use Rattle.std.specs.Prelude.{◌≡◌, [], length, IsTrue, IfOk};
 ghost use Rattle.graph_meaning.specs.Heap.{empty_heap};
 ghost use Rattle.graph_meaning.specs.Roles.{AreRolesOf};
 ghost use Rattle.assert_registry.specs.Laws.{StandFor};
-ghost use Rattle.heap_parts.specs.Parts.{Steps, is_operation, is_store, placed_in};
+ghost use Rattle.heap_parts.specs.Parts.{Steps, is_operation, placed_in};
 
 use assert_registry::AssertRegistry;
 use graph_meaning::{Event, Roles, Stop};
@@ -48,23 +48,8 @@ impl HeapParts {
 
     /// Applies an operation to the heap. It refuses what `step` of the definitions refuses, for the same reason, whether or not
     /// there is memory. After a refusal, and when out of memory, nothing has changed.
-    #[inline(always)]
     pub fn apply(&mut self, event: &Event) -> Result<(), Stop>
         requires { IsTrue (is_operation event.now) }
-        ensures { Steps self.old event.now result self.new }
-    {
-        // By far the most operations are stores.
-        match event {
-            Event::Store { at, slot, to } => self.store(*at, *slot, *to),
-            _ => self.apply_other(event),
-        }
-    }
-
-    // Applies an operation that is no store. Never inlined, so that a store doesn't pay for what the others keep on the stack.
-    #[inline(never)]
-    fn apply_other(&mut self, event: &Event) -> Result<(), Stop>
-        requires operation { IsTrue (is_operation event.now) }
-        requires other { is_store event.now ≡ false }
         ensures { Steps self.old event.now result self.new }
     {
         match event {
@@ -74,6 +59,7 @@ impl HeapParts {
                 slots,
                 thread,
             } => self.alloc_object(*id, kind, *slots, *thread),
+            Event::Store { at, slot, to } => self.store(*at, *slot, *to),
             Event::SetWeak { at, slot, weak } => self.set_weak(*at, *slot, *weak),
             Event::Root { name, to } => self.set_root(name, *to),
             Event::AssertDead { id } => self.assert_dead(*id),
@@ -82,7 +68,7 @@ impl HeapParts {
             Event::AssertInstances { kind, limit } => self.assert_instances(kind, *limit),
             Event::AssertUnshared { id } => self.assert_unshared(*id),
             Event::AssertOwnedBy { owner, ownee } => self.assert_ownedby(*owner, *ownee),
-            Event::Store { .. } | Event::Collect => unreachable!(),
+            Event::Collect => unreachable!(),
         }
     }
 

@@ -1,14 +1,11 @@
 -- What an audit is at its beginning, and what a collection and an operation are to it.
-use Rattle.std.proofs.Common.{◌≡◌, ◌≢◌, ◌+◌, ◌≤◌, List, [], length, Result, Ok, Err, IfOk, Some, sym, ◌∙◌, ap, subst, arith}
+use Rattle.std.proofs.Common.{◌≡◌, ◌≢◌, ℕ, ◌+◌, ◌≤◌, List, [], length, Result, Ok, Err, IfOk, Some, sym, ◌∙◌, ap, subst, arith}
 use Rattle.std.specs.Result.{result_err}
-use Rattle.heap_base.specs.declared.errors.OutOfMemory.{OutOfMemory as NoMemory}
+use Rattle.heap_base.specs.declared.errors.OutOfMemory.{OutOfMemory}
 use Rattle.graph_meaning.specs.declared.collection.Collection.{Collection}
 use Rattle.graph_meaning.specs.declared.event.Event.{Event}
 use Rattle.graph_meaning.specs.declared.event.Event.TheVariants.{Collect}
 use Rattle.graph_meaning.specs.declared.refusal.Refusal.{Refusal}
-use Rattle.graph_meaning.specs.declared.refusal.Stop.{Stop}
-use Rattle.graph_meaning.specs.declared.refusal.Stop.TheVariants.{Refused, OutOfMemory}
-use Rattle.graph_meaning.specs.Answers.{RefusesBy}
 use Rattle.graph_meaning.specs.Step.{step}
 use Rattle.graph_meaning.specs.Collecting.{Rules, collection_of, after_collection}
 use Rattle.trace_reader.specs.Meaning.{Item}
@@ -48,7 +45,7 @@ stands-behind rules old new c is collected =
     ∙ ap (λ (r : Rules). let s : AuditState = record { rules = rules; heap = after_collection r old.heap; totals = record { collections = old.collections + 1; violations = old.violations + length (collection_of r (old.collections + 1) old.heap).verdicts } } in s) is
 
 -- what it made due is its effect
-pub takes-due : (rules : RunRules) (old new : Audit) (c : Collection) (made : Result Taken NoMemory) → old.rules ≡ collection_rules rules →
+pub takes-due : (rules : RunRules) (old new : Audit) (c : Collection) (made : Result Taken OutOfMemory) → old.rules ≡ collection_rules rules →
     IsCollected old (Ok c) new → IfOk made (IsDue rules.react c) →
     IfOk made (λ taken. TakesEvent (audit_meaning.takes (auditor_state rules old) Collect) (Ok taken) (auditor_state rules new))
 takes-due rules old new c made is collected due =
@@ -57,11 +54,11 @@ takes-due rules old new c made is collected due =
     subst (λ (t : AuditState). IfOk made (λ taken. TakesEvent (audit_meaning.takes s Collect) (Ok taken) t)) (sym (stands-behind rules old new c is collected)) (effects.takes-due s made next)
 
 -- a collection is taken as the event that is one
-pub takes-collect : (rules : RunRules) (old new : Audit) (e : Event) (taken : Result Taken Stop) → e ≡ Collect →
-    TakesEvent (audit_meaning.takes (auditor_state rules old) Collect) taken (auditor_state rules new) →
-    TakesEvent (audit_meaning.takes (auditor_state rules old) e) taken (auditor_state rules new)
+pub takes-collect : (rules : RunRules) (old new : Audit) (e : Event) (taken : Taken) → e ≡ Collect →
+    TakesEvent (audit_meaning.takes (auditor_state rules old) Collect) (Ok taken) (auditor_state rules new) →
+    TakesEvent (audit_meaning.takes (auditor_state rules old) e) (Ok taken) (auditor_state rules new)
 takes-collect rules old new e taken is takes =
-    subst (λ (x : Event). TakesEvent (audit_meaning.takes (auditor_state rules old) x) taken (auditor_state rules new)) (sym is) takes
+    subst (λ (x : Event). TakesEvent (audit_meaning.takes (auditor_state rules old) x) (Ok taken) (auditor_state rules new)) (sym is) takes
 
 -- ---- operations
 
@@ -73,15 +70,9 @@ applied-goes_on rules old new e other is rest =
     effects.takes-applied (auditor_state rules old) e new.heap other is
     ∙ ap (λ (a : Audit). let s : AuditState = record { rules = rules; heap = new.heap; totals = record { collections = a.collections; violations = a.violations } } in goes_on [] s) (sym rest)
 
-from_result_err : {T : Type 0} (made : Result T Refusal) (r : Refusal) → result_err made ≡ Some r → made ≡ Err r
-from_result_err (Ok x) r p = cc
-from_result_err (Err s) r p = cc
-
--- an operation that was refused, or for which there was no memory
-pub takes-stopped : (rules : RunRules) (a after : Audit) (e : Event) (stop : Stop) → e ≢ Collect → RefusesBy (let made : Result Audit Stop = Err stop in made) (result_err (step a.heap e)) →
-    TakesEvent (audit_meaning.takes (auditor_state rules a) e) (Err stop) (auditor_state rules after)
-takes-stopped rules a after e (Refused r) other refused = effects.takes-refused (auditor_state rules a) e r other (from_result_err (step a.heap e) r refused)
-takes-stopped rules a after e OutOfMemory other refused = tt
-
 pub no_more : (old new : Audit) → new ≡ record old { heap = new.heap; cells = new.cells } → new.collections ≤ old.collections + 1
 no_more old new rest = omega (arith, ap (λ (a : Audit). a.collections) rest)
+
+pub from_result_err : {T : Type 0} (made : Result T Refusal) (r : Refusal) → result_err made ≡ Some r → made ≡ Err r
+from_result_err (Ok x) r p = cc
+from_result_err (Err s) r p = cc

@@ -14,7 +14,6 @@ use heap_base::OutOfMemory;
 use trace_run::Taken;
 
 /// Takes an event: an operation is applied, and a collection is made by `collect`.
-#[inline(always)]
 pub fn take_event<C: FnMut(&mut Auditor) -> Result<Collection, OutOfMemory>>(
     audit: &mut TraceAudit,
     event: &Event,
@@ -26,9 +25,17 @@ pub fn take_event<C: FnMut(&mut Auditor) -> Result<Collection, OutOfMemory>>(
     ensures takes { TakesEvent (audit_meaning.takes (state_in audit.old) event.now) result (state_in audit.new) }
     ensures few { audit.new.auditor.collections ≤ audit.old.auditor.collections + 1 }
 {
-    if let Event::Collect = event {
-        return make_collection(audit.alloc, audit.react, &mut audit.auditor, collect);
+    match event {
+        Event::Collect => {
+            match make_collection(audit.alloc, audit.react, &mut audit.auditor, collect) {
+                Ok(taken) => Ok(taken),
+                Err(_) => Err(Stop::OutOfMemory),
+            }
+        }
+        _ => match audit.auditor.apply(event) {
+            Ok(()) => Ok(Taken::GoesOn(None)),
+            Err(Stop::Refused(refusal)) => Err(Stop::Refused(refusal)),
+            Err(Stop::OutOfMemory) => Err(Stop::OutOfMemory),
+        },
     }
-    audit.auditor.apply(event)?;
-    Ok(Taken::GoesOn(None))
 }

@@ -2,7 +2,7 @@ ghost use Rattle.std.specs.Prelude.{◌<◌, ◌≤◌, ◌+◌};
 ghost use Rattle.heap_base.specs.declared.limits.TheConstants.{LONGEST_TRACE};
 ghost use Rattle.heap_base.specs.Streams.{stream_of};
 ghost use Rattle.trace_reader.specs.Meaning.{item_of_line};
-ghost use Rattle.trace_run.specs.Program.{CountsEvents, Effect, MayTake, TakesEvent, TakesEvents, takes_item};
+ghost use Rattle.trace_run.specs.Program.{CountsEvents, MayTake, TakesEvents, takes_item};
 ghost use Rattle.trace_run.specs.Outcome.{sink_change};
 ghost use Rattle.trace_run.specs.Turn.{TakesLine, line_effect};
 
@@ -58,7 +58,7 @@ impl<P: Program + Drop, T: FnMut(&mut P, &Event) -> Result<Taken, Stop>> TraceRu
         }
     }
 
-    // Takes an event, and writes at once what it makes due: mostly nothing.
+    // Takes an event, and writes at once what it makes due.
     fn take_event<K: Sink>(&mut self, event: &Event, lines: u64, sink: &mut K) -> Flow
         requires few_lines { lines < LONGEST_TRACE }
         requires few_events { P.events self.old.program ≤ lines }
@@ -70,19 +70,6 @@ impl<P: Program + Drop, T: FnMut(&mut P, &Event) -> Result<Taken, Stop>> TraceRu
         ensures later { K.faults sink.old ≤ K.faults sink.new }
     {
         match (self.take)(&mut self.program, event) {
-            Ok(Taken::GoesOn(None)) => Flow::GoesOn,
-            taken => self.write_taken(taken, lines, sink),
-        }
-    }
-
-    // Writes what an event made due, on a line that this many lines stand before. Never inlined, since most events make nothing due.
-    #[inline(never)]
-    fn write_taken<K: Sink>(&self, taken: Result<Taken, Stop>, lines: u64, sink: &mut K) -> Flow
-        requires few_lines { lines < LONGEST_TRACE }
-        ensures takes { (effect : Effect P.State) (after : P.State) → TakesEvent effect taken after → TakesLine (line_effect effect lines after) (sink_change (stream_of K.held K.faults sink.old) (stream_of K.held K.faults sink.new)) result }
-        ensures later { K.faults sink.old ≤ K.faults sink.new }
-    {
-        match taken {
             Ok(Taken::GoesOn(None)) => Flow::GoesOn,
             Ok(Taken::GoesOn(Some(due))) => match write_due(self.alloc, &due, sink) {
                 Ok(()) => Flow::GoesOn,

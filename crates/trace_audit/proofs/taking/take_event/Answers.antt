@@ -1,36 +1,29 @@
-use Rattle.std.proofs.Common.{◌≡◌, Result, Err, refl, rules, subst, sym}
-use Rattle.graph_meaning.specs.declared.refusal.Stop.{Stop}
-use Rattle.trace_run.specs.declared.taken.Taken.{Taken}
-use Rattle.trace_run.specs.Program.{TakesEvent}
-use Rattle.audit_program.specs.Audits.{audit_meaning, rules_by}
+use Rattle.std.proofs.Common.{refl}
+use Rattle.audit_program.specs.Audits.{rules_by}
 use Rattle.trace_audit.specs.Auditors.{auditor_state}
-use Rattle.trace_audit.proofs.Collected.{takes-collect, applied-goes_on, takes-stopped, no_more}
+use Rattle.audit_program.proofs.Effects.{takes-refused}
+use Rattle.trace_audit.proofs.Collected.{takes-collect, applied-goes_on, no_more, from_result_err}
 use Rattle.trace_audit.proofs.taking.take_event.Goals as goal
 
-pub returns-in-Collect-clause-takes : goal.returns-in-Collect-clause-takes
-returns-in-Collect-clause-takes g c =
-    let rules_of = rules_by c.args.audit.now.paths c.args.audit.now.react in
-    takes-collect rules_of c.args.audit.now.auditor c.make_collection.new.auditor c.args.event.now c.make_collection.result c.in-Collect.is
-    (c.make_collection.ensures.takes rules_of refl c.args.audit.now.rules)
+pub returns-in-Ok-clause-takes : goal.returns-in-Ok-clause-takes
+returns-in-Ok-clause-takes g c =
+    let rules = rules_by c.args.audit.now.paths c.args.audit.now.react in
+    takes-collect rules c.args.audit.now.auditor c.make_collection.new.auditor c.args.event.now c.in-Ok.taken c.in-Collect.is (c.in-Ok.ensures.takes rules refl c.args.audit.now.rules)
 
-pub returns : goal.returns
-returns g c =
-    let rules_of = rules_by c.args.audit.now.paths c.args.audit.now.react in
-    let applied = c.in_ok-apply.ensures in
+pub returns-in-Ok-apply : goal.returns-in-Ok-apply
+returns-in-Ok-apply g c =
+    let rules = rules_by c.args.audit.now.paths c.args.audit.now.react in
+    let applied = c.in-Ok-apply.ensures in
     record {
-      takes = applied-goes_on rules_of c.args.audit.now.auditor c.apply.new.self c.args.event.now c.in_default.not-Collect applied.applied applied.rest;
+      takes = applied-goes_on rules c.args.audit.now.auditor c.apply.new.self c.args.event.now c.in_default.not-Collect applied.applied applied.rest;
       few = no_more c.args.audit.now.auditor c.apply.new.self applied.rest;
     }
 
-pub returns-in_err-apply : goal.returns-in_err-apply
-returns-in_err-apply g c =
-    let rules_of = rules_by c.args.audit.now.paths c.args.audit.now.react in
-    let stopped = c.in_err-apply.ensures in
-    let stop : Stop = c.in_err-apply.field-0.0 in
-    let same : c.from_residual.result ≡ (let made : Result Taken Stop = Err c.in_err-apply.field-0.0 in made) = search rules in
+pub returns-in-Err-Refused : goal.returns-in-Err-Refused
+returns-in-Err-Refused g c =
+    let rules = rules_by c.args.audit.now.paths c.args.audit.now.react in
+    let refused = rw c.in-Err-Refused.field-0-is at c.in-Err-Refused.ensures.refused in
     record {
-      takes =
-          subst (λ (made : Result Taken Stop). TakesEvent (audit_meaning.takes (auditor_state rules_of c.args.audit.now.auditor) c.args.event.now) made (auditor_state rules_of c.apply.new.self)) (sym same)
-          (takes-stopped rules_of c.args.audit.now.auditor c.apply.new.self c.args.event.now stop c.in_default.not-Collect stopped.refused);
-      few = no_more c.args.audit.now.auditor c.apply.new.self stopped.rest;
+      takes = takes-refused (auditor_state rules c.args.audit.now.auditor) c.args.event.now c.in-Err-Refused.refusal c.in_default.not-Collect (from_result_err _ c.in-Err-Refused.refusal refused);
+      few = no_more c.args.audit.now.auditor c.apply.new.self c.in-Err-Refused.ensures.rest;
     }

@@ -1,0 +1,15 @@
+use Rattle.std.proofs.Common.{◌+◌, Ok}
+use Rattle.heap_base.specs.Streams.{stream_of}
+use Rattle.trace_run.specs.Program.{TakesEvent, due_text}
+use Rattle.trace_run.proofs.Turns.{ends-halted}
+use Rattle.trace_run.proofs.running.TraceRun.take_event.Goals as goal
+
+pub returns-in-Ok-write_due-clause-takes : goal.returns-in-Ok-write_due-clause-takes
+returns-in-Ok-write_due-clause-takes g c =
+    let took : TakesEvent (g.P.Program.meaning.takes (g.P.Program.state c.args.self.now.program) c.args.event.now) (Ok c.in-Ok-Halts.field-0) (g.P.Program.state c.take.new.arg2) =
+    c.requires.takes _ _ _ _ _ _ c.in-Ok-Halts.ensures in
+    let effect = rw c.in-Ok-Halts.field-0-is at took in
+    ends-halted (g.P.Program.meaning.takes (g.P.Program.state c.args.self.now.program) c.args.event.now) (c.args.lines + 1)
+    (stream_of g.K.Sink.held g.K.Sink.faults c.args.sink.now) (stream_of g.K.Sink.held g.K.Sink.faults c.write_due-in-Ok-Halts.new.sink)
+    (stream_of g.K.Sink.held g.K.Sink.faults c.put_last.new.sink) (due_text c.in-Ok-Halts.due) effect.0 c.in-Ok-Halts.last c.put_last.result effect.1
+    effect.2 c.in-Ok-write_due.ensures.whole c.in-Ok-write_due.ensures.later c.put_last.ensures.halts
