@@ -3,8 +3,6 @@
 
 mod crew;
 mod helper;
-mod line_ahead;
-mod lines;
 mod piece;
 mod pieces;
 mod reader;

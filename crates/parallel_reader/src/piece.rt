@@ -1,35 +1,15 @@
-ghost use Rattle.std.specs.Prelude.{IfSome};
-ghost use Rattle.trace_reader.specs.Cutter.{TellsItem};
-ghost use Rattle.trace_reader.specs.Meaning.{item_of_line};
-
-use crate::lines::LinesAhead;
-use graph_meaning::{Event, Stop};
-use heap_base::{Name, OutOfMemory};
+use heap_base::OutOfMemory;
 use std::alloc::Global;
-use std::marker::Model;
-use std::mem;
-use trace_reader::LineReader;
+use trace_reader::{LineReader, LinesAhead};
 
-/// A copy of a piece of a trace, and those of its lines that were read before their turn, by whichever thread: each was read as what it
-/// is. Contracts see the piece.
+/// A piece of a trace: a copy of its bytes, and then its lines, which were read before their turn by whichever thread.
 #[derive(Drop)]
 pub struct Piece {
     number: u64,
+    // its bytes until it is read, and then those of the piece that was there before
     text: Vec<u8>,
+    // Those of the piece before stay until this one is read, so that whoever reads it lets their names go, and the caller needn't.
     lines: LinesAhead,
-    // names of operations that were taken: whoever reads the piece next lets them go, so that the caller needn't
-    spent: Vec<Name>,
-}
-
-impl Model for Piece {
-    ghost use Rattle.std.specs.Prelude.{List, ℕ};
-    ghost use Rattle.parallel_reader.specs.Ahead.{HoldsLinesOf};
-
-    ghost Value = { List ℕ };
-
-    ghost view = { λ p. p.text.items };
-
-    ghost invariant = { λ p. HoldsLinesOf p.text.items p.lines };
 }
 
 impl Piece {
@@ -39,7 +19,6 @@ impl Piece {
             number: 0,
             text: Vec::new(alloc),
             lines: LinesAhead::none(alloc),
-            spent: Vec::new(alloc),
         }
     }
 
@@ -48,46 +27,20 @@ impl Piece {
         self.number
     }
 
-    /// Takes the bytes of a piece with this number in place of its own, with no line read.
+    /// Takes the bytes of a piece with this number, to be read.
     pub fn fill(&mut self, number: u64, text: &[u8]) -> Result<(), OutOfMemory> {
         self.number = number;
-        self.lines.clear();
         self.text.clear();
         Ok(self.text.extend_from_slice(text)?)
     }
 
-    /// Reads its lines, and lets go what was given back to it. When out of memory, it has the first of its lines or none.
+    /// Reads its lines. When out of memory, it has the first of them or none.
     pub fn read(&mut self, reader: &mut LineReader) {
-        self.spent.clear();
-        self.lines.read(&self.text, reader);
+        self.lines.read(&mut self.text, reader);
     }
 
-    /// What this line is, which begins at this place in the piece, where it was read.
-    pub fn take(&mut self, place: usize, line: &[u8]) -> Option<Result<Option<Event>, Stop>>
-        ensures { IfSome result (λ told. TellsItem told (item_of_line line.now)) }
-    {
-        self.lines.skip(&self.text, place);
-        self.lines.take(&self.text, line)
+    /// Its lines, when it was read.
+    pub fn lines(&self) -> &LinesAhead {
+        &self.lines
     }
-
-    /// Keeps the name that an operation has, if any, until the piece is read anew.
-    pub fn give_back(&mut self, event: &mut Event) {
-        // most operations have no name, and needn't be moved
-        if !has_name(event) {
-            return;
-        }
-        if let Event::Alloc { kind: name, .. }
-        | Event::Root { name, .. }
-        | Event::AssertInstances { kind: name, .. } = mem::replace(event, Event::Collect)
-        {
-            let _ = self.spent.push(name);
-        }
-    }
-}
-
-fn has_name(event: &Event) -> bool {
-    matches!(
-        event,
-        Event::Alloc { .. } | Event::Root { .. } | Event::AssertInstances { .. }
-    )
 }

@@ -1,11 +1,7 @@
-ghost use Rattle.std.specs.Prelude.{IfSome};
-ghost use Rattle.trace_reader.specs.Cutter.{TellsItem};
-ghost use Rattle.trace_reader.specs.Meaning.{item_of_line};
-
 use crate::piece::Piece;
-use graph_meaning::{Event, Stop};
 use heap_base::OutOfMemory;
 use std::alloc::Global;
+use trace_reader::Ahead;
 
 // A piece of a text, and the copy of it whose lines were read, where that has come.
 #[derive(Drop)]
@@ -93,26 +89,16 @@ impl Pieces {
         }
     }
 
-    /// What the next line is, which is this one, where it was read.
-    pub fn take(&mut self, line: &[u8]) -> Option<Result<Option<Event>, Stop>>
-        ensures { IfSome result (λ told. TellsItem told (item_of_line line.now)) }
-    {
-        let place = self.place;
-        let cut = self.cuts.get_mut(self.next)?;
-        cut.read.as_mut()?.take(place, line)
+    /// The lines of the piece in which the next line begins, if that was read, and where in it that is.
+    pub fn lines(&self) -> Option<Ahead<'_>> {
+        let piece = self.cuts.get(self.next)?.read.as_ref()?;
+        Some(Ahead {
+            lines: piece.lines(),
+            place: self.place,
+        })
     }
 
-    /// Gives the operation of the line that was passed last to the piece in which the next line begins, if that was read. Mostly it is
-    /// the piece that it came from, and any of them can let it go.
-    pub fn give_back(&mut self, event: &mut Event) {
-        if let Some(cut) = self.cuts.get_mut(self.next)
-            && let Some(piece) = cut.read.as_mut()
-        {
-            piece.give_back(event);
-        }
-    }
-
-    /// Passes the next bytes of the text, which are those of a line.
+    /// Passes the next bytes of the text, which are those of whole lines of one piece.
     pub fn pass(&mut self, bytes: usize) {
         let Some(cut) = self.cuts.get(self.next) else {
             return;

@@ -1,6 +1,4 @@
-ghost use Rattle.std.specs.Prelude.{◌≤◌, ⊤, length, IfSome};
-ghost use Rattle.trace_reader.specs.Cutter.{TellsItem};
-ghost use Rattle.trace_reader.specs.Meaning.{item_of_line};
+ghost use Rattle.std.specs.Prelude.{◌≤◌, ⊤, length};
 
 use crate::crew::Crew;
 use crate::pieces::Pieces;
@@ -9,7 +7,7 @@ use heap_base::OutOfMemory;
 use memchr::{memchr, memrchr};
 use std::alloc::Global;
 use std::thread::Threads;
-use trace_reader::{EventReader, LineReader};
+use trace_reader::{Ahead, EventReader, LineReader};
 
 // So many bytes are read ahead at once where the source has them.
 const AHEAD: usize = 1_048_576;
@@ -39,7 +37,6 @@ pub struct ParallelReader<'a, R: Threads> {
     pieces: Pieces,
     // so many lines are still to be read one by one
     pause: u32,
-    told_ahead: u64,
 }
 
 impl<'a, R: Threads> ParallelReader<'a, R> {
@@ -56,33 +53,12 @@ impl<'a, R: Threads> ParallelReader<'a, R> {
             crew: Crew::make(alloc, threads, MOST_PIECES)?,
             pieces: Pieces::none(alloc),
             pause: 0,
-            told_ahead: 0,
         })
-    }
-
-    /// How many lines it has told that had been read before their turn.
-    pub fn told_ahead(&self) -> u64 {
-        self.told_ahead
     }
 
     /// Ends the threads that it has started.
     pub fn end(self) {
         self.crew.end(self.rt);
-    }
-
-    // What the next line is, which is this one, where it was read before its turn.
-    fn take(&mut self, line: &[u8]) -> Option<Result<Option<Event>, Stop>>
-        ensures { IfSome result (λ told. TellsItem told (item_of_line line.now)) }
-    {
-        if self.pieces.is_over() {
-            return None;
-        }
-        if !self.pieces.is_read() {
-            self.fetch();
-        }
-        let told = self.pieces.take(line);
-        self.pieces.pass(line.len().saturating_add(1));
-        told
     }
 
     // Puts the pieces that threads have read in their places, and answers whether that of the next line is there.
@@ -110,6 +86,18 @@ impl<'a, R: Threads> ParallelReader<'a, R> {
             piece.read(&mut self.own);
             self.pieces.put(piece);
         }
+    }
+
+    // Has the lines of the text read where they are enough, unless it is to wait before it tries again.
+    fn begin_if_enough(&mut self, behind: &[u8]) {
+        if behind.len() < LEAST_AHEAD {
+            return;
+        }
+        if self.pause > 0 {
+            self.pause -= 1;
+            return;
+        }
+        self.begin(behind);
     }
 
     // Has the lines of the text read, in place of those before it. Never inlined: it is called once for some thousand lines.
@@ -159,29 +147,25 @@ impl<'a, R: Threads> EventReader for ParallelReader<'a, R> {
     ghost ready = { λ _. ⊤ };
 
     fn event_of(&mut self, line: &[u8]) -> Result<Option<Event>, Stop> {
-        match self.take(line) {
-            Some(told) => {
-                self.told_ahead = self.told_ahead.wrapping_add(1);
-                told
-            }
-            None => self.own.event_of(line),
-        }
-    }
-
-    // A name costs least where it is let go by the thread that made it, and the caller has the most to do.
-    fn give_back(&mut self, event: &mut Event) {
-        self.pieces.give_back(event);
+        self.pieces.pass(line.len().saturating_add(1));
+        self.own.event_of(line)
     }
 
     fn look_ahead(&mut self, behind: &[u8]) {
-        if !self.pieces.is_over() || behind.len() < LEAST_AHEAD {
-            return;
+        if self.pieces.is_over() {
+            self.begin_if_enough(behind);
         }
-        if self.pause > 0 {
-            self.pause -= 1;
-            return;
+        if !self.pieces.is_over() && !self.pieces.is_read() {
+            self.fetch();
         }
-        self.begin(behind);
+    }
+
+    fn lines_ahead(&self) -> Option<Ahead<'_>> {
+        self.pieces.lines()
+    }
+
+    fn pass_ahead(&mut self, bytes: usize) {
+        self.pieces.pass(bytes);
     }
 
     fn ahead(&self) -> usize {

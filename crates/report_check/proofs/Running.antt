@@ -22,7 +22,8 @@ use Rattle.trace_run.specs.Program.{Effect, Last, Report, by_effect, end_of_trac
 use Rattle.trace_run.specs.Turn.{EndsRun}
 use Rattle.report.proofs.Pieces.{AppendsPart-longer}
 use Rattle.trace_run.proofs.Endings.{finished, line_ends, line_too_long, trace_too_long}
-use Rattle.trace_run.proofs.Progress.{InProgress, begins_at, line_leaves_fewer, line_taken, line_within}
+use Rattle.trace_run.specs.Progress.{InProgress}
+use Rattle.trace_run.proofs.Progress.{begins_at, line_leaves_fewer, line_taken, line_within}
 use Rattle.trace_run.proofs.Runs.{report_on-text}
 use Rattle.audit_program.specs.Audits.{AuditState, audit_meaning, first_audit_state, rules_by}
 use Rattle.audit_program.proofs.Reports.{audit_is_reported}

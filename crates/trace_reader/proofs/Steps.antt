@@ -1,8 +1,11 @@
 -- A step of the cutter, from the reading and from the cut that it found.
-use Rattle.std.proofs.Common.{◌≡◌, ℕ, ◌+◌, ◌-◌, ◌⊎◌, suc, Option, None, List, [], ◌∷◌, ◌++◌, length, take, drop, Result, Err, refl, sym, ap, ◌∙◌}
+use Rattle.std.proofs.Common.{◌≡◌, ℕ, ◌+◌, ◌-◌, ◌⊎◌, suc, Bool, Option, None, List, [], ◌∷◌, ◌++◌, length, take, drop, Result, Err, refl, sym, ap, ◌∙◌}
 use Rattle.std.proofs.Common.{arith, subst, append_assoc, length-append, length-take-le, inl, inr, add-one}
 use Rattle.std.proofs.Math.Seq.{split_at}
 use Rattle.std.specs.Option.{MatchOption}
+use Rattle.std.proofs.KnownBytes.{Consumes-nil}
+use Rattle.std.proofs.lemmas.List.{append-nil}
+use Rattle.heap_base.specs.Streams.{Stream}
 use Rattle.trace_reader.specs.declared.error.CutError.{CutError}
 use Rattle.trace_reader.specs.Cutter.{CutterState, CutterWithSource, Cuts, StepsOn, MayRead, GivesLine}
 use Rattle.trace_reader.specs.Cuts.{HasNoNewline, IsLine, IsFirstNewline}
@@ -28,6 +31,17 @@ step_of_cut old new held result took going limit reads cuts = record {
         | inr same ↦ inr same
       ];
   later = reads.later;
+}
+
+-- no byte is taken from the source
+pub reads_nothing : (held : List ℕ) (at_end : Bool) (source : Stream) → ReadsOn (read_state held at_end source) (read_state held at_end source) []
+reads_nothing held at_end source = record {
+  held = sym (append-nil held);
+  consumes = Consumes-nil source.bytes;
+  at_end = λ old. inl old;
+  stays_at_end = λ old. (old, refl);
+  asks = inr refl;
+  later = omega arith;
 }
 
 -- a line and its newline, and what is behind them

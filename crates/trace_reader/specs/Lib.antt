@@ -1,3 +1,4 @@
+pub mod Ahead
 pub mod Ascii
 pub mod Cuts
 pub mod Cutter

@@ -47,7 +47,8 @@ fn newline_in(held: &[u8], searched: usize, reach: usize) -> Option<usize>
     Some(searched + n)
 }
 
-fn first_newline(bytes: &[u8]) -> Option<usize>
+/// The first newline of the bytes.
+pub fn first_newline(bytes: &[u8]) -> Option<usize>
     ensures { MatchOption result (HasNoNewline bytes.now) (IsFirstNewline bytes.now) }
 {
     memchr(b'\n', bytes)

@@ -1,5 +1,7 @@
-ghost use Rattle.std.specs.Prelude.{◌≡◌, ◌≤◌, ◌<◌, ◌+◌, ℕ, List, length, take, drop, IfOk, None, Some};
+ghost use Rattle.std.specs.Prelude.{◌≡◌, ◌≤◌, ◌<◌, ◌+◌, ℕ, List, length, take, drop, IfOk, MatchOption, None, Some};
 ghost use Rattle.heap_base.specs.Streams.{stream_of};
+ghost use Rattle.trace_reader.specs.Ahead.{GivesKnown};
+ghost use Rattle.trace_reader.specs.Cuts.{IsFirstNewline};
 ghost use Rattle.trace_reader.specs.Cutter.{fresh_cutter, StepsOn, with_source};
 ghost use Rattle.trace_reader.specs.declared.reader.TheConstants.{MOST_AHEAD};
 
@@ -8,7 +10,7 @@ use crate::cut::Cut;
 use crate::held::Held;
 use crate::reader::MOST_AHEAD;
 use crate::window::Window;
-use heap_base::{Failed, OutOfMemory, Source};
+use heap_base::{Failed, LONGEST_LINE, OutOfMemory, Source};
 use std::alloc::Global;
 use std::marker::Model;
 
@@ -78,6 +80,27 @@ impl LineCutter {
             return Err(refusal);
         }
         self.cut_next(source)
+    }
+
+    /// Cuts the next line, which is known to have so many bytes before its newline, and answers its number. It cuts none where the line is
+    /// longer than one may be, or goes on past the last byte that the trace may have: `next` tells which.
+    #[inline(always)]
+    pub fn next_known(&mut self, bytes: usize) -> Option<u64>
+        requires line { IsFirstNewline self.old.pending bytes }
+        requires going { self.old.stopped ≡ None }
+        ensures { MatchOption result (self.new ≡ self.old) (GivesKnown self.old self.new bytes) }
+    {
+        if bytes > LONGEST_LINE || bytes as u64 >= self.limit - self.given {
+            return None;
+        }
+        Some(self.give(bytes, bytes + 1))
+    }
+
+    /// How many bytes the lines have that were given, with their newlines.
+    pub fn given(&self) -> u64
+        ensures { result ≡ self.now.given }
+    {
+        self.given
     }
 
     /// The bytes of the line that was given last, without its newline.

@@ -9,7 +9,7 @@ use crate::names::RecentNames;
 use crate::object::Object;
 use crate::operation::event_of_object;
 use crate::plain::read_plain;
-use crate::reader::EventReader;
+use crate::reader::{Ahead, EventReader};
 use crate::utf8::text_of;
 use graph_meaning::{Event, Refusal, Stop};
 use json::Scratch;
@@ -55,10 +55,13 @@ impl EventReader for LineReader {
         LineReader::event_of(self, line)
     }
 
-    #[inline(always)]
-    fn give_back(&mut self, _event: &mut Event) {}
-
     fn look_ahead(&mut self, _behind: &[u8]) {}
+
+    fn lines_ahead(&self) -> Option<Ahead<'_>> {
+        None
+    }
+
+    fn pass_ahead(&mut self, _bytes: usize) {}
 
     fn ahead(&self) -> usize {
         0

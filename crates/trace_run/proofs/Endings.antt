@@ -24,9 +24,10 @@ use Rattle.trace_run.specs.Outcome.{Outside, sink_change, TraceReport, trace_rep
 use Rattle.trace_run.specs.Turn.{EndsRun}
 use Rattle.report.proofs.Pieces.{AppendsPart-behind}
 use Rattle.trace_reader.proofs.Pieces.{items_from-append, items_from-given, items_from-line_too_long, items_from-trace_too_long}
-use Rattle.trace_run.proofs.Runs.{LeadsTo, run-takes, run-nil, run-refused, run-leads_to, report_on-text, report_on-behind}
-use Rattle.trace_run.proofs.Lines.{IsWholeLine, pieces-whole_lines, whole_lines-cut}
-use Rattle.trace_run.proofs.Progress.{Progress, InProgress, items_so_far, end_now, cuts_of, still_at_end}
+use Rattle.trace_run.proofs.Runs.{run-takes, run-nil, run-refused, run-leads_to, report_on-text, report_on-behind}
+use Rattle.trace_run.proofs.Lines.{pieces-whole_lines, whole_lines-cut}
+use Rattle.trace_run.specs.Progress.{RunsTo, IsWholeLine, Progress, InProgress, items_so_far}
+use Rattle.trace_run.proofs.Progress.{end_now, cuts_of, still_at_end}
 
 pub Rose-earlier : (start before now : ℕ) → start ≤ before → Rose before now → Rose start now
 Rose-earlier start before now le rose = omega arith
@@ -57,7 +58,7 @@ pub record RunOfAll (limit : ℕ) (start : Outside) (done : List (List ℕ)) (by
 module _ {State : Type 0} (p : ProgramMeaning State) (limit : ℕ) (first : State) (start now now' : Outside) (s : State) (n : ℕ)
     (done : List (List ℕ)) (text : List ℕ) (bytes : List ℕ) (more : List Item)
     (before : Appends start.sink.bytes now.sink.bytes text)
-    (ran : LeadsTo p first (items_so_far limit done) text s n)
+    (ran : RunsTo p first (items_so_far limit done) text s n)
     (all : RunOfAll limit start done bytes more) where
   abbrev rest : RunResult
   rest = run p s n more

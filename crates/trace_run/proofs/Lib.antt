@@ -1,6 +1,7 @@
 pub mod Causes
 pub mod Endings
 mod Lines
+mod LinesAhead
 pub mod Progress
 pub mod Runs
 mod Turns

@@ -9,10 +9,7 @@ use Rattle.trace_reader.specs.Cuts.{HasNoNewline}
 use Rattle.trace_reader.specs.Items.{pieces}
 use Rattle.trace_reader.proofs.Pieces.{pieces-nil, pieces-line, pieces-last}
 use Rattle.trace_run.specs.Lines.{is_whole, whole_lines}
-
--- a line and its newline
-abbrev pub IsWholeLine : List ℕ → Type 0
-IsWholeLine piece = (line : List ℕ) × HasNoNewline line × (piece ≡ line ++ 10 ∷ [])
+use Rattle.trace_run.specs.Progress.{IsWholeLine}
 
 is_whole-line : (xs ys : List ℕ) → is_whole (xs ++ 10 ∷ ys) ≡ true
 is_whole-line [] ys = refl

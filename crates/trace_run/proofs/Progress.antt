@@ -14,38 +14,9 @@ use Rattle.trace_reader.specs.Items.{pieces, items_from, item_of}
 use Rattle.trace_reader.specs.Cutter.{CutterState, fresh_cutter, IsNextPiece, GivesLine, StepsOn, Cuts, with_source}
 use Rattle.trace_run.specs.Program.{ProgramMeaning, goes_on, takes_item}
 use Rattle.trace_run.specs.Outcome.{Outside}
-use Rattle.trace_run.proofs.Runs.{LeadsTo, LeadsTo-nil, LeadsTo-push}
-use Rattle.trace_run.proofs.Lines.{IsWholeLine}
+use Rattle.trace_run.specs.Progress.{RunsTo, IsWholeLine, items_so_far, Progress, InProgress}
+use Rattle.trace_run.proofs.Runs.{RunsTo-nil, RunsTo-push}
 use Rattle.trace_reader.proofs.Pieces.{item_of-given, pieces-given, items_from-append, items_from-cons}
-
--- the items of these pieces
-abbrev pub items_so_far : ℕ → List (List ℕ) → List Item
-items_so_far limit done = items_from limit 0 done
-
--- These bytes were taken since the start, these pieces of them were run, and this text was due and was written.
-pub record Progress {State : Type 0} (p : ProgramMeaning State) (limit : ℕ) (first : State) (start now : Outside) (c : CutterState) (s : State)
-    (n : ℕ) (taken : List ℕ) (done : List (List ℕ)) (text : List ℕ) : Type 0 where
-  pub consumed : Consumes start.source.bytes now.source.bytes taken
-  pub split : taken ≡ concat done ++ c.pending
-  pub cut : (more : List ℕ) → (IsTrue c.at_end → more ≡ []) → pieces (taken ++ more) ≡ done ++ pieces (c.pending ++ more)
-  pub whole : c.at_end ≡ false → AllByRecursion IsWholeLine done
-  pub ran : LeadsTo p first (items_so_far limit done) text s n
-  pub given : c.given ≡ length (concat done)
-  pub within : c.given ≤ limit
-  pub lines : n ≡ c.lines
-  pub few_lines : n ≤ c.given
-  pub written : Appends start.sink.bytes now.sink.bytes text
-  pub same_limit : c.limit ≡ limit
-  pub stopped : c.stopped ≡ None
-  pub end_read : IsTrue c.at_end → IfSome start.source.bytes (λ bytes. IsAtEnd now.source.bytes)
-  pub reads : start.source.faults ≤ now.source.faults
-  pub writes : start.sink.faults ≤ now.sink.faults
-
-pub record InProgress {State : Type 0} (p : ProgramMeaning State) (limit : ℕ) (first : State) (start now : Outside) (c : CutterState) (s : State) (n : ℕ) : Type 0 where
-  pub taken : List ℕ
-  pub done : List (List ℕ)
-  pub text : List ℕ
-  pub so_far : Progress p limit first start now c s n taken done text
 
 -- at the beginning
 begins : {State : Type 0} (p : ProgramMeaning State) (limit : ℕ) (first : State) (start : Outside) → InProgress p limit first start start (fresh_cutter limit) first 0
@@ -59,7 +30,7 @@ begins p limit first start = record {
     split = refl;
     cut = λ more end. refl;
     whole = λ end. tt;
-    ran = LeadsTo-nil p first;
+    ran = RunsTo-nil p first;
     given = refl;
     within = omega arith;
     lines = refl;
@@ -146,7 +117,7 @@ end_now p limit first start now now' c c' s n taken took done text result so_far
     ⊎_elim (λ old. end_stays start.source.bytes now.source.bytes now'.source.bytes taken took so_far.consumed (so_far.end_read old) (steps.stays_at_end old).1 steps.consumes)
     (λ e. end_for start.source.bytes now'.source.bytes e) (steps.at_end t)
 
-piece_not_empty : (new : CutterState) (piece bytes : List ℕ) → IsNextPiece new piece bytes → 0 < length piece
+pub piece_not_empty : (new : CutterState) (piece bytes : List ℕ) → IsNextPiece new piece bytes → 0 < length piece
 piece_not_empty new piece bytes next =
     ⊎_elim (λ e. omega (arith, ap length e, length-append new.line (10 ∷ []))) (λ e. omega (arith, ap length e.0, e.1)) next.ended
 
@@ -163,8 +134,8 @@ line_taken_by p limit first start now now' c c' s s' n number took more progress
     let next_number : n + 1 ≡ number = omega (arith, line.number, so_far.lines) in
     let some : 0 < length piece = piece_not_empty _ _ _ line.next in
     let items_now = items_so_far-push limit progress.done c.given c'.line piece so_far.given item in
-    let ran_now : LeadsTo p first (items_so_far limit progress.done ++ item_of_line c'.line ∷ []) (progress.text ++ more) s' (n + 1) =
-    LeadsTo-push p first s s' (items_so_far limit progress.done) progress.text more n (item_of_line c'.line) so_far.ran effect in
+    let ran_now : RunsTo p first (items_so_far limit progress.done ++ item_of_line c'.line ∷ []) (progress.text ++ more) s' (n + 1) =
+    RunsTo-push p first s s' (items_so_far limit progress.done) progress.text more n (item_of_line c'.line) so_far.ran effect in
     record {
       taken = progress.taken ++ took;
       done = progress.done ++ piece ∷ [];
@@ -175,8 +146,8 @@ line_taken_by p limit first start now now' c c' s s' n number took more progress
             ∙ sym (append_assoc (concat progress.done) piece c'.pending) ∙ ap (λ t. t ++ c'.pending) (sym concat_now);
         cut = cut_on c c' progress.taken took number progress.done so_far.cut steps.stays_at_end line;
         whole = λ e. whole-push progress.done piece (so_far.whole (still_at_end c.at_end c'.at_end took (Unit {0}) steps.stays_at_end e)) (whole_piece _ _ _ line.next e);
-        ran = subst (λ (m : ℕ). LeadsTo p first (items_so_far limit (progress.done ++ piece ∷ [])) (progress.text ++ more) s' m) next_number
-            (subst (λ (is : List Item). LeadsTo p first is (progress.text ++ more) s' (n + 1)) (sym items_now) ran_now);
+        ran = subst (λ (m : ℕ). RunsTo p first (items_so_far limit (progress.done ++ piece ∷ [])) (progress.text ++ more) s' m) next_number
+            (subst (λ (is : List Item). RunsTo p first is (progress.text ++ more) s' (n + 1)) (sym items_now) ran_now);
         given = omega (arith, line.given, so_far.given, ap length concat_now, length-append (concat progress.done) piece);
         within = omega (arith, line.within, so_far.same_limit);
         lines = omega (arith, line.number, line.lines);

@@ -3,6 +3,7 @@ use Rattle.std.proofs.Common.{◌≡◌, ℕ, ◌+◌, List, [], ◌∷◌, ◌+
 use Rattle.std.proofs.lemmas.List.{append_assoc, append-nil}
 use Rattle.trace_reader.specs.Meaning.{Item, refused}
 use Rattle.graph_meaning.specs.declared.refusal.Refusal.{Refusal}
+use Rattle.trace_run.specs.Progress.{RunsTo}
 use Rattle.trace_run.specs.Program.{ProgramMeaning, goes_on, takes_item, RunResult, refused_line, end_of_trace, ends_so, behind, by_effect, run, report_on, last_text}
 
 pub behind-twice : (x y : List ℕ) (r : RunResult) → behind x (behind y r) ≡ behind (x ++ y) r
@@ -22,17 +23,13 @@ pub run-refused : {State : Type 0} (p : ProgramMeaning State) (s : State) (lines
 unfolding run
 run-refused p s lines r items = refl
 
--- These items lead from a state to another and make this text due: whatever follows them goes on from there.
-pub record LeadsTo {State : Type 0} (p : ProgramMeaning State) (s : State) (items : List Item) (text : List ℕ) (s' : State) (n : ℕ) : Type 0 where
-  pub on : (more : List Item) → run p s 0 (items ++ more) ≡ behind text (run p s' n more)
-
-pub LeadsTo-nil : {State : Type 0} (p : ProgramMeaning State) (s : State) → LeadsTo p s [] [] s 0
-LeadsTo-nil p s = record { on = λ more. refl }
+pub RunsTo-nil : {State : Type 0} (p : ProgramMeaning State) (s : State) → RunsTo p s [] [] s 0
+RunsTo-nil p s = record { on = λ more. refl }
 
 -- one item more
-pub LeadsTo-push : {State : Type 0} (p : ProgramMeaning State) (s s' s'' : State) (items : List Item) (text more_text : List ℕ) (n : ℕ) (item : Item) →
-    LeadsTo p s items text s' n → takes_item p s' item ≡ goes_on more_text s'' → LeadsTo p s (items ++ item ∷ []) (text ++ more_text) s'' (n + 1)
-LeadsTo-push p s s' s'' items text more_text n item leads is = record {
+pub RunsTo-push : {State : Type 0} (p : ProgramMeaning State) (s s' s'' : State) (items : List Item) (text more_text : List ℕ) (n : ℕ) (item : Item) →
+    RunsTo p s items text s' n → takes_item p s' item ≡ goes_on more_text s'' → RunsTo p s (items ++ item ∷ []) (text ++ more_text) s'' (n + 1)
+RunsTo-push p s s' s'' items text more_text n item leads is = record {
   on = λ more.
       ap (run p s 0) (append_assoc items (item ∷ []) more)
       ∙ leads.on (item ∷ more)
@@ -42,7 +39,7 @@ LeadsTo-push p s s' s'' items text more_text n item leads is = record {
 
 -- where nothing follows, the run comes to its end
 pub run-leads_to : {State : Type 0} (p : ProgramMeaning State) (s s' : State) (items : List Item) (text : List ℕ) (n : ℕ) →
-    LeadsTo p s items text s' n → run p s 0 items ≡ behind text (ends_so (end_of_trace (p.ends s')))
+    RunsTo p s items text s' n → run p s 0 items ≡ behind text (ends_so (end_of_trace (p.ends s')))
 run-leads_to p s s' items text n leads =
     ap (run p s 0) (sym (append-nil items)) ∙ leads.on [] ∙ ap (behind text) (run-nil p s' n)
 

@@ -2,6 +2,7 @@
 //! written, a refused line ends the report with its fault line, and the status says what stands.
 #![tactic(auto)]
 
+mod ahead;
 mod due;
 mod ending;
 mod laws;

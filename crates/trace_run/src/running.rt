@@ -49,12 +49,17 @@ impl<P: Program + Drop, T: FnMut(&mut P, &Event) -> Result<Taken, Stop>> TraceRu
         };
         let mut lines = 0;
         'trace: loop {
+            let given = cutter.given();
+            match self.take_ahead(reader, &mut cutter, lines, sink) {
+                Ok(number) => lines = number,
+                Err(status) => return status,
+            }
+            if cutter.given() > given {
+                continue;
+            }
             match cutter.next(source) {
                 Ok(Some(number)) => match self.take_line(reader, cutter.line(), lines, sink) {
-                    Flow::GoesOn => {
-                        lines = number;
-                        reader.look_ahead(cutter.behind());
-                    }
+                    Flow::GoesOn => lines = number,
                     Flow::Ends(status) => return status,
                 },
                 Ok(None) => return finish(&self.program, sink),

@@ -1,7 +1,8 @@
 ghost use Rattle.std.specs.Prelude.{◌<◌, ◌≤◌, ◌+◌};
 ghost use Rattle.heap_base.specs.declared.limits.TheConstants.{LONGEST_TRACE};
 ghost use Rattle.heap_base.specs.Streams.{stream_of};
-ghost use Rattle.trace_reader.specs.Meaning.{item_of_line};
+ghost use Rattle.trace_reader.specs.Cutter.{TellsItem};
+ghost use Rattle.trace_reader.specs.Meaning.{Item, item_of_line};
 ghost use Rattle.trace_run.specs.Program.{CountsEvents, MayTake, TakesEvents, takes_item};
 ghost use Rattle.trace_run.specs.Outcome.{sink_change};
 ghost use Rattle.trace_run.specs.Turn.{TakesLine, line_effect};
@@ -44,15 +45,34 @@ impl<P: Program + Drop, T: FnMut(&mut P, &Event) -> Result<Taken, Stop>> TraceRu
         ensures few { P.events self.new.program ≤ P.events self.old.program + 1 }
         ensures later { K.faults sink.old ≤ K.faults sink.new }
     {
-        match reader.event_of(line) {
-            Ok(None) => Flow::GoesOn,
-            Ok(Some(mut event)) => {
-                let flow = self.take_event(&event, lines, sink);
-                reader.give_back(&mut event);
-                flow
-            }
+        let told = reader.event_of(line);
+        self.take_told(&told, lines, sink)
+    }
+
+    // Takes what a line was told to be.
+    #[inline(always)]
+    pub(crate) fn take_told<K: Sink>(
+        &mut self,
+        told: &Result<Option<Event>, Stop>,
+        lines: u64,
+        sink: &mut K,
+    ) -> Flow
+        requires few_lines { lines < LONGEST_TRACE }
+        requires few_events { P.events self.old.program ≤ lines }
+        requires may_take { MayTake P.events T.pre }
+        requires takes { TakesEvents P.meaning P.state T.step }
+        requires counts { CountsEvents P.events T.step }
+        ensures takes { (item : Item) → TellsItem told.now item → TakesLine (line_effect (takes_item P.meaning (P.state self.old.program) item) lines (P.state self.new.program)) (sink_change (stream_of K.held K.faults sink.old) (stream_of K.held K.faults sink.new)) result }
+        ensures few { P.events self.new.program ≤ P.events self.old.program + 1 }
+        ensures later { K.faults sink.old ≤ K.faults sink.new }
+    {
+        match told {
+            Ok(operation) => match operation {
+                None => Flow::GoesOn,
+                Some(event) => self.take_event(event, lines, sink),
+            },
             Err(Stop::Refused(refusal)) => {
-                Flow::Ends(refuse(self.alloc, lines + 1, refusal, sink))
+                Flow::Ends(refuse(self.alloc, lines + 1, *refusal, sink))
             }
             Err(Stop::OutOfMemory) => Flow::Ends(Status::NoMemory),
         }

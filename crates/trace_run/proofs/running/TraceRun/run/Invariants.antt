@@ -1,7 +1,7 @@
 use Rattle.std.proofs.Common.{◌-◌, ◌≤◌}
 use Rattle.heap_base.specs.Streams.{stream_of}
 use Rattle.trace_run.specs.Outcome.{outside_of}
-use Rattle.trace_run.proofs.Progress.{InProgress}
+use Rattle.trace_run.specs.Progress.{InProgress}
 use Rattle.trace_run.proofs.running.TraceRun.run.Given as goal
 
 abbrev pub invariant-trace : goal.invariant-trace
