@@ -9,16 +9,17 @@ use std::alloc::Global;
 use std::thread::Threads;
 use trace_reader::{Ahead, EventReader, LineReader};
 
-// So many bytes are read ahead at once where the source has them.
-const AHEAD: usize = 1_048_576;
+// So many bytes are read ahead at once where the source has them: few enough to stay in the caches of the processors until their lines
+// are taken.
+const AHEAD: usize = 262_144;
 
-// With fewer bytes, none is read ahead: a thread may wait a millisecond or two before it runs, in which the others read some
-// thousand lines.
-const LEAST_AHEAD: usize = 262_144;
+// With fewer bytes, none is read ahead: to wake threads for them takes as long as it spares. A pipe brings twice as many where its writer
+// is fast.
+const LEAST_AHEAD: usize = 32_768;
 
 // A piece has so many bytes at most, unless its first line has more. Of a larger one more lines would be read twice, where the caller
 // comes to it while a thread is at it.
-const PIECE: usize = 16_384;
+const PIECE: usize = 8_192;
 
 // Into so many pieces a text is cut at most.
 const MOST_PIECES: usize = 128;
