@@ -2,7 +2,7 @@
 """Times gcaudit over large traces, beside plain Rust and beside `wc -l`; and the reading of lines alone.
 
 Usage: bench/run.py [--small] [--turns N] [--before PROGRAM] [--plot FILE] [--plot-growth FILE] [--plot-memory FILE]
-       bench/run.py --reading [--small] [--turns N] [--plot FILE]
+       bench/run.py --reading [--full] [--small] [--turns N] [--plot FILE]
 
 The first prints lines and megabytes a second and peaks of memory. Each trace is run at one size and at twice that size, so that the ratio
 of the two times can be read. `wc -l` over the same file, in the same run, is the yardstick for the machine. Where cargo can build it, the
@@ -11,6 +11,9 @@ serde's derive into a struct that borrows, and once by making serde_json's `Valu
 --reading             lines of some kinds that change next to nothing: gcaudit with 1, 2 and 4 workers, beside plain Rust that only reads them
                       and beside `wc -l`, each of which has one; by the clock, and the time of all processors with it. Ratios are the median of
                       those of each turn
+--full                each program as often at a time as fills the processors, with two workers half as often; its time is the mean of theirs.
+                      Where processors are hyperthreads, two of a core, one is up to twice as fast while the other idles: a program alone and
+                      four threads can't be compared there
 --small               a tenth of the sizes
 --turns N             so many turns, of which the least time stands (5)
 --before PROGRAM      another program, as one built before, over the same traces in turn: the last columns say how many times as long it
@@ -30,6 +33,7 @@ import sys
 import tempfile
 import threading
 import time
+from concurrent.futures import ThreadPoolExecutor
 from typing import NamedTuple
 
 from plot import bars
@@ -213,6 +217,14 @@ def timed(command, path):
         return Run(seconds, peaks[-1], child.returncode, output, used.ru_utime + used.ru_stime)
 
 
+def timed_at_once(command, path, copies):
+    """So many runs at a time, as one whose times are the means of theirs."""
+    with ThreadPoolExecutor(copies) as pool:
+        runs = list(pool.map(lambda _: timed(command, path), range(copies)))
+    times = {name: statistics.mean(getattr(run, name) for run in runs) for name in ("seconds", "processors")}
+    return runs[0]._replace(status=max(run.status for run in runs), **times)
+
+
 def build_plain_rust(feature=None):
     """The plain Rust program, and nothing; or nothing, and why it can't be built. With a feature it stands in a folder of that name."""
     if shutil.which("cargo") is None:
@@ -242,9 +254,10 @@ def need_plain_rust(feature=None):
     return built
 
 
-def in_turns(commands, path, turns):
-    """The runs of each command; they take turns, since a shared machine is faster at one moment than at another."""
-    return list(zip(*([timed(command, path) for command in commands] for _ in range(turns))))
+def in_turns(commands, path, turns, copies=None):
+    """The runs of each command, so many of it at a time; they take turns, since a shared machine is faster at one moment than at another."""
+    copies = copies or [1] * len(commands)
+    return list(zip(*([timed_at_once(command, path, count) for command, count in zip(commands, copies)] for _ in range(turns))))
 
 
 def least(runs):
@@ -414,7 +427,9 @@ def time_lines(name, lines, path, plain, options):
         trace.writelines(lines(1_000_000 // options.scale))
     commands = [[PROGRAM, "--workers", str(workers)] for workers in WORKERS_THAT_READ]
     commands += [[plain, "--only-read", "--value"], [plain, "--only-read"], ["wc", "-l"]]
-    runs = in_turns(commands, path, options.turns)
+    workers = [*WORKERS_THAT_READ, 1, 1, 1]
+    copies = [max(1, os.cpu_count() // count) for count in workers] if options.full else None
+    runs = in_turns(commands, path, options.turns, copies)
     if any(run.status != 0 for tries in runs for run in tries):
         sys.exit(f"lines {name}: one was refused: {runs[0][0].output.decode()}")
     ours, others = runs[:len(WORKERS_THAT_READ)], runs[len(WORKERS_THAT_READ):]
@@ -473,6 +488,7 @@ def read_words():
         sys.exit()
     parser = argparse.ArgumentParser(usage="bench/run.py [options], as bench/run.py --help says", add_help=False)
     parser.add_argument("--reading", action="store_true")
+    parser.add_argument("--full", action="store_true")
     parser.add_argument("--small", dest="scale", action="store_const", const=10, default=1)
     parser.add_argument("--turns", type=int, default=TRIES)
     for word in ("--before", "--plot", "--plot-growth", "--plot-memory"):
