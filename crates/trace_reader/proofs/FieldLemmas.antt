@@ -125,7 +125,7 @@ module _ (ms ns : Members) (same : (f : FieldName) → get_member (field_text f)
       rw (same IdField, same TypeField, same SlotsField, same ThreadField, same AtField, same SlotField, same ToField, same WeakField, same NameField)
       (rw (same LimitField, same OwnerField, same OwneeField))
 
-  event_same : event_in (object ms) ≡ event_in (object ns)
+  pub event_same : event_in (object ms) ≡ event_in (object ns)
   unfolding event_in
   event_same =
       ap (λ (o : Option Data). needed_value OpField as_str o >>= (λ op. operation op (object ms))) (same OpField)

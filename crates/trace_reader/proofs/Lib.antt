@@ -8,3 +8,4 @@ pub mod Pieces
 pub mod Ranges
 pub mod Skips
 pub mod Steps
+pub mod UsualLemmas

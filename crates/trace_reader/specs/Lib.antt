@@ -7,4 +7,5 @@ pub mod Meaning
 pub mod Objects
 pub mod Reads
 pub mod Skips
+pub mod Usual
 pub mod Windows

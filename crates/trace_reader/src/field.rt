@@ -114,7 +114,7 @@ pub fn spelling_of(field: FieldName) -> &'static str
 }
 
 #[inline(always)]
-fn count_in(value: FieldValue<'_>) -> Option<u32>
+pub fn count_in(value: FieldValue<'_>) -> Option<u32>
     ensures { result ≡ count_value (value_data value.entry) }
 {
     let n = value.as_u64()?;
@@ -126,21 +126,21 @@ fn count_in(value: FieldValue<'_>) -> Option<u32>
 }
 
 #[inline(always)]
-fn id_in(value: FieldValue<'_>) -> Option<ObjId>
+pub fn id_in(value: FieldValue<'_>) -> Option<ObjId>
     ensures { result ≡ id_value (value_data value.entry) }
 {
     ObjId::of(count_in(value)?)
 }
 
 #[inline(always)]
-fn thread_in(value: FieldValue<'_>) -> Option<ThreadNo>
+pub fn thread_in(value: FieldValue<'_>) -> Option<ThreadNo>
     ensures { result ≡ thread_value (value_data value.entry) }
 {
     ThreadNo::of(count_in(value)?)
 }
 
 #[inline(always)]
-fn target_in(value: FieldValue<'_>) -> Option<Option<ObjId>>
+pub fn target_in(value: FieldValue<'_>) -> Option<Option<ObjId>>
     ensures { result ≡ target_value (value_data value.entry) }
 {
     if value.is_null() {

@@ -17,6 +17,9 @@ mod operation;
 mod plain;
 mod reader;
 mod skip;
+mod usual;
+#[cfg(test)]
+mod usual_tests;
 mod utf8;
 mod window;
 

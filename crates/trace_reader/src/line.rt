@@ -10,6 +10,7 @@ use crate::object::Object;
 use crate::operation::event_of_object;
 use crate::plain::read_plain;
 use crate::reader::{Ahead, EventReader};
+use crate::usual::UsualLines;
 use crate::utf8::text_of;
 use graph_meaning::{Event, Refusal, Stop};
 use json::Scratch;
@@ -20,6 +21,7 @@ use std::alloc::Global;
 #[derive(Drop)]
 pub struct LineReader {
     names: RecentNames,
+    usual: UsualLines,
     scratch: Scratch,
 }
 
@@ -28,6 +30,7 @@ impl LineReader {
     pub fn make(alloc: Global) -> LineReader {
         LineReader {
             names: RecentNames::new(alloc),
+            usual: UsualLines::new(),
             scratch: Scratch::new(alloc),
         }
     }
@@ -43,8 +46,32 @@ impl LineReader {
         if is_blank_line(line) {
             return Ok(None);
         }
-        let event = event_of_line(&mut self.names, line, &mut self.scratch)?;
+        let event = self.event_of_line(line)?;
         Ok(Some(event))
+    }
+
+    // The operation of a line that is one JSON text (RFC 8259) in UTF-8.
+    #[tactic(auto, using(crate::proofs::Json::json_of_text, crate::proofs::Json::json_of_no_text))]
+    fn event_of_line(&mut self, line: &[u8]) -> Result<Event, Stop>
+        ensures { Gives result (event_of_json (json_of line.now)) }
+    {
+        match text_of(line) {
+            Some(text) => self.event_of_text(text),
+            None => Err(Stop::Refused(Refusal::NotJson)),
+        }
+    }
+
+    // Most lines are read as usual ones.
+    fn event_of_text(&mut self, text: &str) -> Result<Event, Stop>
+        ensures { Gives result (event_of_json (read text.now)) }
+    {
+        let usual = self
+            .usual
+            .event_of(&mut self.names, text, &mut self.scratch)?;
+        match usual {
+            Some(event) => Ok(event),
+            None => event_of_unusual(&mut self.names, text, &mut self.scratch),
+        }
     }
 }
 
@@ -82,19 +109,13 @@ fn is_blank_line(line: &[u8]) -> bool
         .all(|b| *b == b' ' || *b == b'\t' || *b == b'\r')
 }
 
-// The operation of a line that is one JSON text (RFC 8259) in UTF-8.
-#[tactic(auto, using(crate::proofs::Json::json_of_text, crate::proofs::Json::json_of_no_text))]
-fn event_of_line(names: &mut RecentNames, line: &[u8], scratch: &mut Scratch) -> Result<Event, Stop>
-    ensures { Gives result (event_of_json (json_of line.now)) }
-{
-    match text_of(line) {
-        Some(text) => event_of_text(names, text, scratch),
-        None => Err(Stop::Refused(Refusal::NotJson)),
-    }
-}
-
-// Most lines are plain objects, which are read without memory of their own; serde_json reads all others.
-fn event_of_text(names: &mut RecentNames, text: &str, scratch: &mut Scratch) -> Result<Event, Stop>
+// Most other lines are plain objects, which are read without memory of their own; serde_json reads what is left.
+#[inline(never)]
+fn event_of_unusual(
+    names: &mut RecentNames,
+    text: &str,
+    scratch: &mut Scratch,
+) -> Result<Event, Stop>
     ensures { Gives result (event_of_json (read text.now)) }
 {
     let mut fields = Fields::new();

@@ -66,7 +66,7 @@ fn other_event(names: &mut RecentNames, op: &str, object: Object<'_>) -> Result<
 
 // Whether the texts are the same. Where the name is a literal, the loop is unrolled.
 #[inline(always)]
-fn equals(text: &str, name: &str) -> bool
+pub fn equals(text: &str, name: &str) -> bool
     ensures { result ≡ bytes_eq text.now name.now }
 {
     if text.len() != name.len() {

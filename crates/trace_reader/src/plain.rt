@@ -71,7 +71,7 @@ fn read_member<'a>(key: &str, reader: &mut Reader<'a>, fields: &mut Fields<'a>) 
 }
 
 #[inline(always)]
-fn plain_value<'a>(reader: &mut Reader<'a>) -> Option<FieldValue<'a>>
+pub fn plain_value<'a>(reader: &mut Reader<'a>) -> Option<FieldValue<'a>>
     ensures value { IfSome result (λ v. (depth : ℕ) → converted of_json (value depth reader.old) ≡ Some (value_data v, reader.new)) }
     ensures shorter { OnSome result (length reader.new < length reader.old) }
 {

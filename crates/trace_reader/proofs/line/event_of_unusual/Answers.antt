@@ -1,7 +1,7 @@
 use Rattle.std.proofs.Common.{ap, sym, ◌∙◌, subst}
 use Rattle.trace_reader.specs.Meaning.{Gives, event_of_json}
 use Rattle.trace_reader.proofs.FieldLemmas.{event_of_fields}
-use Rattle.trace_reader.proofs.line.event_of_text.Goals as goal
+use Rattle.trace_reader.proofs.line.event_of_unusual.Goals as goal
 
 pub returns-then-plain : goal.returns-then-plain
 returns-then-plain c =
