@@ -16,13 +16,25 @@ use Rattle.trace_reader.specs.Skips.{member_depth, IsMemberValue}
 use Rattle.trace_reader.specs.Usual.{EndsBehind, Makes}
 use Rattle.trace_reader.proofs.ObjectLemmas.{member_passed, members_passed, object_read}
 
--- ---- a member more
+-- ---- members more
 
-pub member_made : (found : Members) (k : List ℕ) (d : Data) (all : Members) (ts s r : List Token) → read_key ts ≡ Some (Some k, s) → IsMemberValue s d r → length r < length s
-    → Makes (put k d found) r all → Makes found ts all
-member_made found k d all ts s r key is less rest = λ n enough.
+-- a member: its key, its value, and the tokens behind it
+abbrev pub IsMember : List ℕ → Data → List Token → List Token → Type 0
+IsMember k d ts r = (s : List Token) × (read_key ts ≡ Some (Some k, s)) × IsMemberValue s d r × (length r < length s)
+
+pub member_made : (found : Members) (k : List ℕ) (d : Data) (all : Members) (ts r : List Token) → IsMember k d ts r → Makes (put k d found) r all → Makes found ts all
+member_made found k d all ts r (s, key, is, less) rest = λ n enough.
     let lesser = read_key-shorter ts (Some k) s key in
     member_passed (value member_depth) found n k ts s r d (omega (arith, enough)) key is ∙ rest (n - 1) (omega (arith, enough))
+
+-- the operation and three fields
+pub four_made : (k₁ k₂ k₃ k₄ : List ℕ) (d₁ d₂ d₃ d₄ : Data) (all : Members) (ts r₁ r₂ r₃ r₄ : List Token) → IsMember k₁ d₁ ts r₁ → IsMember k₂ d₂ r₁ r₂ → IsMember k₃ d₃ r₂ r₃ → IsMember k₄ d₄ r₃ r₄
+    → Makes (put k₄ d₄ (put k₃ d₃ (put k₂ d₂ (put k₁ d₁ no_members)))) r₄ all → Makes no_members ts all
+four_made k₁ k₂ k₃ k₄ d₁ d₂ d₃ d₄ all ts r₁ r₂ r₃ r₄ one two three four rest =
+    let first = put k₁ d₁ no_members in
+    let second = put k₂ d₂ first in
+    let third = put k₃ d₃ second in
+    member_made no_members k₁ d₁ all ts r₁ one (member_made first k₂ d₂ all r₁ r₂ two (member_made second k₃ d₃ all r₂ r₃ three (member_made third k₄ d₄ all r₃ r₄ four rest)))
 
 -- ---- the end
 
@@ -36,7 +48,7 @@ unnamed_member k s r rest next d is less o spelled none following ends before ke
     let other : (f : FieldName) → k ≡ field_text f → ⊥ = λ f named. let e : None ≡ Some f = sym none ∙ (spelled f).1 named in cc in
     let behind = ends r following (put k d found) in (
       behind.0,
-      member_made found k d behind.0 before s r key is less behind.1,
+      member_made found k d behind.0 before r (s, key, is, less) behind.1,
       λ f. behind.2 f ∙ get_member-put_other (field_text f) k d found (λ e. other f (sym e)),
     )
 

@@ -7,7 +7,7 @@ use Rattle.trace_reader.specs.Meaning.{event_of_json}
 use Rattle.trace_reader.specs.Objects.{value_data}
 use Rattle.trace_reader.specs.Skips.{member_depth}
 use Rattle.trace_reader.proofs.FieldLemmas.{event_same}
-use Rattle.trace_reader.proofs.UsualLemmas.{alloc_meant, made_text, member_made, name_meant, thread_alloc_meant}
+use Rattle.trace_reader.proofs.UsualLemmas.{alloc_meant, four_made, made_text, member_made, name_meant, thread_alloc_meant}
 use Rattle.trace_reader.proofs.usual.alloc_fields.Goals as goal
 
 pub returns-then-equals : goal.returns-then-equals
@@ -28,13 +28,12 @@ returns-then-equals c = λ legal text is.
     let last : IsTrue c.ends_behind.result = grind arith in
     let rest = c.ends_behind.ensures last c.plain_value-then-equals.new.reader behind fifth in
     let all = rest.0 in
-    let made =
-    member_made no_members (codes "op") (string (codes "alloc")) _ _ _ _ c.in_ok-take_key.ensures c.in_ok-take_text.ensures.value c.in_ok-take_text.ensures.shorter
-    (member_made first (codes "id") id _ _ _ _ c.in_ok-take_key-2.ensures (c.in_ok-plain_value.ensures.value member_depth) c.in_ok-plain_value.ensures.shorter
-    (member_made second (codes "type") kind _ _ _ _ c.in_ok-take_key-3.ensures (c.in_ok-plain_value-2.ensures.value member_depth) c.in_ok-plain_value-2.ensures.shorter
-    (member_made third (codes "slots") slots _ _ _ _ c.in_ok-take_key-4.ensures (c.in_ok-plain_value-3.ensures.value member_depth) c.in_ok-plain_value-3.ensures.shorter
-    (member_made fourth (codes "thread") thread _ _ _ _ (key ∙ ap (λ k. Some (Some k, c.next_key.new.self)) found) (c.in_ok-plain_value-4.ensures.value member_depth) c.in_ok-plain_value-4.ensures.shorter
-    rest.1)))) in
+    let made = four_made (codes "op") (codes "id") (codes "type") (codes "slots") (string (codes "alloc")) id kind slots all _ _ _ _ _
+    (_, c.in_ok-take_key.ensures, c.in_ok-take_text.ensures.value, c.in_ok-take_text.ensures.shorter)
+    (_, c.in_ok-take_key-2.ensures, c.in_ok-plain_value.ensures.value member_depth, c.in_ok-plain_value.ensures.shorter)
+    (_, c.in_ok-take_key-3.ensures, c.in_ok-plain_value-2.ensures.value member_depth, c.in_ok-plain_value-2.ensures.shorter)
+    (_, c.in_ok-take_key-4.ensures, c.in_ok-plain_value-3.ensures.value member_depth, c.in_ok-plain_value-3.ensures.shorter)
+    (member_made fourth (codes "thread") thread all _ _ (_, key ∙ ap (λ k. Some (Some k, c.next_key.new.self)) found, c.in_ok-plain_value-4.ensures.value member_depth, c.in_ok-plain_value-4.ensures.shorter) rest.1) in
     ap event_of_json (made_text text c.take_begin.new.reader all (is ∙ c.in_ok-take_begin.ensures) made)
     ∙ event_same all fifth rest.2
     ∙ thread_alloc_meant id kind slots thread c.in_ok-id.id c.in_ok-slots.slots c.in_ok-thread.thread c.in_ok-kind.kind.now
@@ -54,12 +53,12 @@ returns c = λ legal text is.
     let rest = c.ends_behind-2.ensures last c.plain_value-3.new.reader behind fourth in
     let zero : 0 ≡ c.in_ok-of.field-0 = grind arith in
     let all = rest.0 in
-    let made =
-    member_made no_members (codes "op") (string (codes "alloc")) _ _ _ _ c.in_ok-take_key.ensures c.in_ok-take_text.ensures.value c.in_ok-take_text.ensures.shorter
-    (member_made first (codes "id") id _ _ _ _ c.in_ok-take_key-2.ensures (c.in_ok-plain_value.ensures.value member_depth) c.in_ok-plain_value.ensures.shorter
-    (member_made second (codes "type") kind _ _ _ _ c.in_ok-take_key-3.ensures (c.in_ok-plain_value-2.ensures.value member_depth) c.in_ok-plain_value-2.ensures.shorter
-    (member_made third (codes "slots") slots _ _ _ _ c.in_ok-take_key-4.ensures (c.in_ok-plain_value-3.ensures.value member_depth) c.in_ok-plain_value-3.ensures.shorter
-    rest.1))) in
+    let made = four_made (codes "op") (codes "id") (codes "type") (codes "slots") (string (codes "alloc")) id kind slots all _ _ _ _ _
+    (_, c.in_ok-take_key.ensures, c.in_ok-take_text.ensures.value, c.in_ok-take_text.ensures.shorter)
+    (_, c.in_ok-take_key-2.ensures, c.in_ok-plain_value.ensures.value member_depth, c.in_ok-plain_value.ensures.shorter)
+    (_, c.in_ok-take_key-3.ensures, c.in_ok-plain_value-2.ensures.value member_depth, c.in_ok-plain_value-2.ensures.shorter)
+    (_, c.in_ok-take_key-4.ensures, c.in_ok-plain_value-3.ensures.value member_depth, c.in_ok-plain_value-3.ensures.shorter)
+    rest.1 in
     ap event_of_json (made_text text c.take_begin.new.reader all (is ∙ c.in_ok-take_begin.ensures) made)
     ∙ event_same all fourth rest.2
     ∙ alloc_meant id kind slots c.in_ok-id.id c.in_ok-slots.slots c.in_ok-kind.kind.now
