@@ -18,8 +18,6 @@ mod plain;
 mod reader;
 mod skip;
 mod usual;
-#[cfg(test)]
-mod usual_tests;
 mod utf8;
 mod window;
 

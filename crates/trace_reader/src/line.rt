@@ -1,4 +1,4 @@
-ghost use Rattle.std.specs.Prelude.{◌≡◌, ⊤};
+ghost use Rattle.std.specs.Prelude.{◌≡◌, IfOk, IsOk, IsTrue, ⊤};
 ghost use Rattle.std.specs.List.{list_all};
 ghost use Rattle.trace_reader.specs.Cutter.{TellsItem};
 ghost use Rattle.trace_reader.specs.Meaning.{Gives, event_of_json, item_of_line, json_of, is_blank};
@@ -13,6 +13,7 @@ use crate::reader::{Ahead, EventReader};
 use crate::usual::UsualLines;
 use crate::utf8::text_of;
 use graph_meaning::{Event, Refusal, Stop};
+use heap_base::OutOfMemory;
 use json::Scratch;
 use serde_json::Value;
 use std::alloc::Global;
@@ -48,6 +49,17 @@ impl LineReader {
         }
         let event = self.event_of_line(line)?;
         Ok(Some(event))
+    }
+
+    /// Whether a text would be read by the way of usual lines if it came next: as a store or an alloc that has its members in the usual
+    /// order. It counts as a line that was read. Only the time that a line takes depends on it, so no contract says which texts are; tests do.
+    pub fn reads_as_usual(&mut self, text: &str) -> Result<bool, OutOfMemory>
+        ensures { IfOk result (λ usual. IsTrue usual → IsOk (event_of_json (read text.now))) }
+    {
+        let event = self
+            .usual
+            .event_of(&mut self.names, text, &mut self.scratch)?;
+        Ok(event.is_some())
     }
 
     // The operation of a line that is one JSON text (RFC 8259) in UTF-8.

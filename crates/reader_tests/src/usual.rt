@@ -1,12 +1,9 @@
-//! Which lines are read as usual ones. What they are read as is told by the contracts, whichever way they are read.
+//! Which lines are read by the way of usual lines. What they are read as is told by the contracts, whichever way they are read.
 
-use crate::names::RecentNames;
-use crate::usual::UsualLines;
-use json::Scratch;
-use std::alloc::Global;
 use std::test::Fail;
+use trace_reader::LineReader;
 
-/// Lines, and what each of them has at most: blanks, a member that names no field, or a field that need not be there.
+/// Stores and allocs in the usual order, with whatever may differ: blanks, members that name no field, and a field that need not be there.
 const USUAL: &str = r#"{"op":"store","at":1,"slot":0,"to":2}
 {"op": "store", "at": 1, "slot": 0, "to": 2}
 {"op":"store","at":1,"slot":0,"to":null}
@@ -35,25 +32,13 @@ const OTHER: &str = r#"{"op":"store","at":1,"slot":0}
 {"op":"assert-dead","id":1}
 {"op":"start-region","thread":1}"#;
 
-fn is_usual(lines: &mut UsualLines, alloc: Global, line: &str) -> Result<bool, Fail> {
-    let mut names = RecentNames::new(alloc);
-    let event = lines.event_of(&mut names, line, &mut Scratch::new(alloc))?;
-    Ok(event.is_some())
-}
-
 #[test]
 fn stores_and_allocs_in_their_order_are_usual(rt: HostRuntime) -> Result<(), Fail> {
-    for line in USUAL.split('\n') {
-        assert!(rt;
-            is_usual(&mut UsualLines::new(), rt.alloc(), line)?,
-            "{line}"
-        );
-    }
-    for line in OTHER.split('\n') {
-        assert!(rt;
-            !is_usual(&mut UsualLines::new(), rt.alloc(), line)?,
-            "{line}"
-        );
+    for (lines, usual) in [(USUAL, true), (OTHER, false)] {
+        for line in lines.split('\n') {
+            let mut reader = LineReader::make(rt.alloc());
+            assert_eq!(rt; reader.reads_as_usual(line)?, usual, "{line}");
+        }
     }
     Ok(())
 }
@@ -66,19 +51,21 @@ const ALLOC: &str = r#"{"op":"alloc","id":1,"type":"A","slots":3}"#;
 
 const COLLECT: &str = r#"{"op":"collect"}"#;
 
-/// Behind a store in another order fifteen stores are not tried; allocs are, and other lines don't count.
+/// A reader tries a line as a usual one first. Behind a store in another order fifteen stores are not tried; allocs are, and other lines don't
+/// count.
 #[test]
 fn fifteen_lines_are_not_tried_behind_another(rt: HostRuntime) -> Result<(), Fail> {
-    let mut lines = UsualLines::new();
-    assert!(rt; is_usual(&mut lines, rt.alloc(), STORE)?);
-    assert!(rt; !is_usual(&mut lines, rt.alloc(), OTHER_STORE)?);
+    let mut reader = LineReader::make(rt.alloc());
+    for line in [STORE, OTHER_STORE] {
+        assert!(rt; reader.event_of(line.as_bytes()).is_ok());
+    }
     for _ in 0..15u32 {
-        assert!(rt; is_usual(&mut lines, rt.alloc(), ALLOC)?);
-        assert!(rt; !is_usual(&mut lines, rt.alloc(), COLLECT)?);
-        assert!(rt; !is_usual(&mut lines, rt.alloc(), STORE)?);
+        for (line, usual) in [(ALLOC, true), (COLLECT, false), (STORE, false)] {
+            assert_eq!(rt; reader.reads_as_usual(line)?, usual, "{line}");
+        }
     }
     for _ in 0..2u32 {
-        assert!(rt; is_usual(&mut lines, rt.alloc(), STORE)?);
+        assert!(rt; reader.reads_as_usual(STORE)?);
     }
     Ok(())
 }
