@@ -5,8 +5,6 @@
 mod checking;
 mod comparing;
 mod due;
-#[cfg(test)]
-mod fault_tests;
 mod laws;
 mod line;
 mod outcome;

@@ -1,9 +1,8 @@
 //! Each read of the trace, each read of the report and each write fails in turn.
 
-use crate::check_run;
 use heap_base::{Failed, MemSink, MemSource, OutOfMemory, Sink, Source, Status};
+use report_check::check_run;
 use std::alloc::Global;
-use std::process::Abort;
 use std::test::Fail;
 
 /// Two owners share an array. The 15 lines have 582 bytes; they come in 6 pieces of 97, and the seventh read meets the end.
@@ -31,8 +30,6 @@ const REPORT: &[u8] = b"gc 1 live 5 traced 5 freed 0\nend gcs 1 violations 0\n";
 const OTHER_REPORT: &[u8] = b"gc 1 live 5 traced 5 freed 1\nend gcs 1 violations 0\n";
 
 const WORDS: &[&str] = &["gccheck", "trace.jsonl", "report.txt"];
-
-const TOO_FEW_WORDS: &[&str] = &["gccheck", "trace.jsonl"];
 
 /// A device that counts the calls that were made of it, and those that failed.
 #[derive(Drop)]
@@ -91,38 +88,37 @@ struct Faults<'a> {
     sink: &'a [u64],
 }
 
-/// What a check answers and writes, and of the trace, of the report and of the sink how many calls were made and how many failed.
-#[derive(Drop)]
-struct Checked {
+/// A check of a report on the trace: by these words, where these calls fail. It is to write this line, or a beginning of it.
+#[derive(Clone, Copy)]
+struct Check<'a> {
+    words: &'a [&'a str],
+    report: &'a [u8],
+    faults: Faults<'a>,
+    line: &'a str,
+}
+
+/// What a check answers, whether it wrote that line, and of the trace, of the report and of the sink how many calls were made and how many failed.
+#[derive(Clone, Copy, Debug, PartialEq, Eq)]
+struct Outcome {
     status: Status,
-    line: MemSink,
+    is_written: bool,
     calls: [u64; 3],
     failed: [u64; 3],
 }
 
-/// Checks a report on the trace, with reads of 97 and 13 bytes and writes of 5.
-fn check(
-    alloc: Global,
-    words: &[&str],
-    report: &[u8],
-    faults: &Faults<'_>,
-) -> Result<Checked, OutOfMemory> {
+/// Checks with reads of 97 and 13 bytes and writes of 5.
+fn outcome_of(alloc: Global, check: &Check<'_>) -> Result<Outcome, OutOfMemory> {
+    let faults = check.faults;
     let mut trace = Counted::over(MemSource::make(alloc, TRACE, 97, faults.trace)?);
-    let mut report = Counted::over(MemSource::make(alloc, report, 13, faults.report)?);
+    let mut report = Counted::over(MemSource::make(alloc, check.report, 13, faults.report)?);
     let mut sink = Counted::over(MemSink::make(alloc, 64, 5, faults.sink)?);
-    let status = check_run(alloc, words, &mut trace, &mut report, &mut sink);
-    Ok(Checked {
+    let status = check_run(alloc, check.words, &mut trace, &mut report, &mut sink);
+    Ok(Outcome {
         status,
+        is_written: sink.device.bytes() == check.line.as_bytes(),
         calls: [trace.calls, report.calls, sink.calls],
         failed: [trace.failed, report.failed, sink.failed],
-        line: sink.device,
     })
-}
-
-/// That a check answers this, and has written exactly this.
-fn expect<R: Abort>(rt: &R, seen: &Checked, status: Status, line: &str) {
-    assert_eq!(rt; seen.status, status);
-    assert_eq!(rt; seen.line.bytes(), line.as_bytes());
 }
 
 const NO_FAULTS: Faults<'static> = Faults {
@@ -131,56 +127,84 @@ const NO_FAULTS: Faults<'static> = Faults {
     sink: &[],
 };
 
+const EQUAL: Check<'static> = Check {
+    words: WORDS,
+    report: REPORT,
+    faults: NO_FAULTS,
+    line: "report equal\n",
+};
+
+const DIFFERENT: Check<'static> = Check {
+    report: OTHER_REPORT,
+    line: "report differs at byte 28\n",
+    ..EQUAL
+};
+
 #[test]
 fn no_call_fails(rt: HostRuntime) -> Result<(), Fail> {
-    let seen = check(rt.alloc(), WORDS, REPORT, &NO_FAULTS)?;
-    expect(&rt, &seen, Status::Clean, "report equal\n");
-    assert_eq!(rt; seen.calls, [7, 5, 3]);
-    assert_eq!(rt; seen.failed, [0, 0, 0]);
-    let seen = check(rt.alloc(), WORDS, OTHER_REPORT, &NO_FAULTS)?;
-    expect(&rt, &seen, Status::Violated, "report differs at byte 28\n");
-    // neither is read on behind the collection's text
-    assert_eq!(rt; seen.calls, [6, 3, 6]);
-    assert_eq!(rt; seen.failed, [0, 0, 0]);
+    for (check, status, calls) in [
+        (EQUAL, Status::Clean, [7, 5, 3]),
+        // neither is read on behind the collection's text
+        (DIFFERENT, Status::Violated, [6, 3, 6]),
+    ] {
+        let want = Outcome {
+            status,
+            is_written: true,
+            calls,
+            failed: [0, 0, 0],
+        };
+        assert_eq!(rt; outcome_of(rt.alloc(), &check)?, want);
+    }
     Ok(())
 }
 
 /// Checks the equal report, where these reads fail of the trace, and these of the report.
-fn check_reads<'a>(
-    alloc: Global,
-    trace: &'a [u64],
-    report: &'a [u64],
-) -> Result<Checked, OutOfMemory> {
+fn read_by<'a>(alloc: Global, trace: &'a [u64], report: &'a [u64]) -> Result<Outcome, OutOfMemory> {
     let faults = Faults {
         trace,
         report,
         ..NO_FAULTS
     };
-    check(alloc, WORDS, REPORT, &faults)
+    outcome_of(
+        alloc,
+        &Check {
+            faults,
+            line: "",
+            ..EQUAL
+        },
+    )
 }
 
 /// Nothing is written, and what failed is read no more.
 #[test]
 fn each_read_fails_in_turn(rt: HostRuntime) -> Result<(), Fail> {
     for read in 1..=7 {
-        let seen = check_reads(rt.alloc(), &[read], &[])?;
-        expect(&rt, &seen, Status::ReadFault, "");
-        assert_eq!(rt; seen.calls[0], read);
-        assert_eq!(rt; seen.failed, [1, 0, 0]);
+        let seen = read_by(rt.alloc(), &[read], &[])?;
+        let of_trace = (seen.status, seen.is_written, seen.calls[0], seen.failed);
+        assert_eq!(rt; of_trace, (Status::ReadFault, true, read, [1, 0, 0]));
     }
     for read in 1..=5 {
-        let seen = check_reads(rt.alloc(), &[], &[read])?;
-        expect(&rt, &seen, Status::ReadFault, "");
-        assert_eq!(rt; seen.calls[1], read);
-        assert_eq!(rt; seen.failed, [0, 1, 0]);
+        let seen = read_by(rt.alloc(), &[], &[read])?;
+        let of_report = (seen.status, seen.is_written, seen.calls[1], seen.failed);
+        assert_eq!(rt; of_report, (Status::ReadFault, true, read, [0, 1, 0]));
     }
     Ok(())
+}
+
+/// Checks where this write fails, and a beginning of the line is written before.
+fn written_by(alloc: Global, check: Check<'_>, write: u64) -> Result<Outcome, OutOfMemory> {
+    let fails = [write];
+    let faults = Faults {
+        sink: &fails,
+        ..check.faults
+    };
+    outcome_of(alloc, &Check { faults, ..check })
 }
 
 /// What the writes before it took is written: 5 bytes each.
 #[test]
 fn each_write_fails_in_turn(rt: HostRuntime) -> Result<(), Fail> {
-    for (report, write, written) in [
+    for (report, write, line) in [
         (REPORT, 1, ""),
         (REPORT, 2, "repor"),
         (REPORT, 3, "report equ"),
@@ -191,15 +215,14 @@ fn each_write_fails_in_turn(rt: HostRuntime) -> Result<(), Fail> {
         (OTHER_REPORT, 5, "report differs at by"),
         (OTHER_REPORT, 6, "report differs at byte 28"),
     ] {
-        let fails = [write];
-        let faults = Faults {
-            sink: &fails,
-            ..NO_FAULTS
+        let check = Check {
+            report,
+            line,
+            ..EQUAL
         };
-        let seen = check(rt.alloc(), WORDS, report, &faults)?;
-        expect(&rt, &seen, Status::WriteFault, written);
-        assert_eq!(rt; seen.calls[2], write);
-        assert_eq!(rt; seen.failed, [0, 0, 1]);
+        let seen = written_by(rt.alloc(), check, write)?;
+        let of_sink = (seen.status, seen.is_written, seen.calls[2], seen.failed);
+        assert_eq!(rt; of_sink, (Status::WriteFault, true, write, [0, 0, 1]));
     }
     Ok(())
 }
@@ -212,31 +235,47 @@ fn several_calls_fail(rt: HostRuntime) -> Result<(), Fail> {
         report: &[1],
         sink: &[1],
     };
-    let seen = check(rt.alloc(), WORDS, REPORT, &all)?;
-    expect(&rt, &seen, Status::ReadFault, "");
-    assert_eq!(rt; seen.failed, [1, 0, 0]);
     let late = Faults {
         trace: &[7],
         report: &[4],
         ..NO_FAULTS
     };
-    let seen = check(rt.alloc(), WORDS, OTHER_REPORT, &late)?;
-    expect(&rt, &seen, Status::Violated, "report differs at byte 28\n");
-    assert_eq!(rt; seen.failed, [0, 0, 0]);
+    let unread = Check {
+        faults: all,
+        line: "",
+        ..EQUAL
+    };
+    let different = Check {
+        faults: late,
+        ..DIFFERENT
+    };
+    for (check, status, failed) in [
+        (unread, Status::ReadFault, [1, 0, 0]),
+        (different, Status::Violated, [0, 0, 0]),
+    ] {
+        let seen = outcome_of(rt.alloc(), &check)?;
+        assert_eq!(rt; (seen.status, seen.is_written), (status, true));
+        assert_eq!(rt; seen.failed, failed);
+    }
     Ok(())
 }
 
-/// The first read of the trace and that of the report would fail.
-const UNREADABLE: Faults<'static> = Faults {
-    trace: &[1],
-    report: &[1],
-    ..NO_FAULTS
+/// Too few words. The first read of the trace and that of the report would fail.
+const USAGE: Check<'static> = Check {
+    words: &["gccheck", "trace.jsonl"],
+    report: REPORT,
+    faults: Faults {
+        trace: &[1],
+        report: &[1],
+        ..NO_FAULTS
+    },
+    line: "usage: gccheck TRACE REPORT [P]\n",
 };
 
 /// The usage line has 32 bytes, so there are 7 writes.
 #[test]
 fn each_write_of_the_usage_line_fails_in_turn(rt: HostRuntime) -> Result<(), Fail> {
-    for (write, written) in [
+    for (write, line) in [
         (1, ""),
         (2, "usage"),
         (3, "usage: gcc"),
@@ -245,25 +284,26 @@ fn each_write_of_the_usage_line_fails_in_turn(rt: HostRuntime) -> Result<(), Fai
         (6, "usage: gccheck TRACE REPO"),
         (7, "usage: gccheck TRACE REPORT [P"),
     ] {
-        let fails = [write];
-        let faults = Faults {
-            sink: &fails,
-            ..UNREADABLE
+        let seen = written_by(rt.alloc(), Check { line, ..USAGE }, write)?;
+        let want = Outcome {
+            status: Status::WriteFault,
+            is_written: true,
+            calls: [0, 0, write],
+            failed: [0, 0, 1],
         };
-        let seen = check(rt.alloc(), TOO_FEW_WORDS, REPORT, &faults)?;
-        expect(&rt, &seen, Status::WriteFault, written);
-        assert_eq!(rt; seen.calls, [0, 0, write]);
-        assert_eq!(rt; seen.failed, [0, 0, 1]);
+        assert_eq!(rt; seen, want);
     }
     Ok(())
 }
 
 #[test]
 fn refused_words_leave_both_unread(rt: HostRuntime) -> Result<(), Fail> {
-    let seen = check(rt.alloc(), TOO_FEW_WORDS, REPORT, &UNREADABLE)?;
-    let usage = "usage: gccheck TRACE REPORT [P]\n";
-    expect(&rt, &seen, Status::Usage, usage);
-    assert_eq!(rt; seen.calls, [0, 0, 7]);
-    assert_eq!(rt; seen.failed, [0, 0, 0]);
+    let want = Outcome {
+        status: Status::Usage,
+        is_written: true,
+        calls: [0, 0, 7],
+        failed: [0, 0, 0],
+    };
+    assert_eq!(rt; outcome_of(rt.alloc(), &USAGE)?, want);
     Ok(())
 }

@@ -1,0 +1,5 @@
+//! The tests of the checker of reports.
+#![tactic(auto)]
+
+#[cfg(test)]
+mod faults;
