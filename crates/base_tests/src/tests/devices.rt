@@ -4,24 +4,24 @@ use super::memory::four_reads;
 use heap_base::{Failed, Sink, Source, StdSink, StdSource, put_all};
 use std::cell::Cell;
 use std::io;
-use std::test::Fail;
 
 #[test]
-fn readers_and_writers_of_std_are_adapted(rt: HostRuntime) -> Result<(), Fail> {
+fn a_reader_of_std_is_adapted(rt: HostRuntime) {
     let mut source = StdSource::over(b"abcde".as_slice());
     assert_eq!(rt; four_reads(&mut source), [4, 1, 0, 0]);
+}
 
-    let mut written = Vec::new(rt.alloc());
-    let mut sink = StdSink::over(&mut written);
-    assert_eq!(rt; put_all(&mut sink, b"abc"), Ok(()));
-    assert_eq!(rt; put_all(&mut sink, b"de"), Ok(()));
-    assert_eq!(rt; written.as_slice(), b"abcde".as_slice());
+// What two writes of several bytes into three answer, and the bytes.
+fn two_writes_into_three() -> ([Result<(), Failed>; 2], [u8; 3]) {
+    let mut space = [0; 3];
+    let mut sink = StdSink::over(space.as_mut_slice());
+    let answers = [put_all(&mut sink, b"ab"), put_all(&mut sink, b"cd")];
+    (answers, space)
+}
 
-    let mut space = [0; 2];
-    let mut full = StdSink::over(space.as_mut_slice());
-    assert_eq!(rt; put_all(&mut full, b"abc"), Err(Failed));
-    assert_eq!(rt; space, *b"ab");
-    Ok(())
+#[test]
+fn a_writer_of_std_is_adapted(rt: HostRuntime) {
+    assert_eq!(rt; two_writes_into_three(), ([Ok(()), Err(Failed)], *b"abc"));
 }
 
 // A device that counts its calls: its first call fails so, and each later one does one byte, or none where it is full.
@@ -70,50 +70,53 @@ const FAILURES: [io::ErrorKind; 3] = [
     io::ErrorKind::TimedOut,
 ];
 
+// What two reads answer of a device whose first call fails so, each with the calls that were made by then; and the bytes.
+fn two_reads(first: io::ErrorKind) -> ([(Result<usize, Failed>, usize); 2], [u8; 2]) {
+    let calls = Cell::new(0);
+    let full = false;
+    let mut source = StdSource::over(Device {
+        first,
+        full,
+        calls: &calls,
+    });
+    let mut into = [0; 2];
+    let one = (source.read(&mut into), calls.get());
+    let two = (source.read(&mut into), calls.get());
+    ([one, two], into)
+}
+
 #[test]
 fn a_read_that_fails_is_answered_at_once(rt: HostRuntime) {
     for first in FAILURES {
-        let calls = Cell::new(0);
-        let mut source = StdSource::over(Device {
-            first,
-            full: false,
-            calls: &calls,
-        });
-        let mut into = [0; 2];
-        assert_eq!(rt; source.read(&mut into), Err(Failed));
-        assert_eq!(rt; calls.get(), 1);
-        assert_eq!(rt; source.read(&mut into), Ok(1));
-        assert_eq!(rt; calls.get(), 2);
-        assert_eq!(rt; into, *b"x\0");
+        let want = ([(Err(Failed), 1), (Ok(1), 2)], *b"x\0");
+        assert_eq!(rt; two_reads(first), want);
     }
+}
+
+// What a call that writes and one that writes all answer of a device that has so many calls behind it and whose first call fails so, each with
+// the calls that were made by then.
+fn two_writes(first: io::ErrorKind, full: bool, before: usize) -> [(Result<(), Failed>, usize); 2] {
+    let calls = Cell::new(before);
+    let mut sink = StdSink::over(Device {
+        first,
+        full,
+        calls: &calls,
+    });
+    let one = (sink.write(b"ab").map(|_| ()), calls.get());
+    let all = (put_all(&mut sink, b"ab"), calls.get());
+    [one, all]
 }
 
 #[test]
 fn a_write_that_fails_is_answered_at_once(rt: HostRuntime) {
     for first in FAILURES {
-        let calls = Cell::new(0);
-        let mut sink = StdSink::over(Device {
-            first,
-            full: false,
-            calls: &calls,
-        });
-        assert_eq!(rt; sink.write(b"ab"), Err(Failed));
-        assert_eq!(rt; calls.get(), 1);
-        assert_eq!(rt; put_all(&mut sink, b"ab"), Ok(()));
-        assert_eq!(rt; calls.get(), 3);
+        let want = [(Err(Failed), 1), (Ok(()), 3)];
+        assert_eq!(rt; two_writes(first, false, 0), want);
     }
 }
 
 #[test]
 fn a_writer_that_takes_no_byte_has_failed(rt: HostRuntime) {
-    let calls = Cell::new(1);
-    let mut sink = StdSink::over(Device {
-        first: io::ErrorKind::Interrupted,
-        full: true,
-        calls: &calls,
-    });
-    assert_eq!(rt; put_all(&mut sink, b"ab"), Err(Failed));
-    assert_eq!(rt; calls.get(), 2);
-    assert_eq!(rt; sink.write(b"ab"), Err(Failed));
-    assert_eq!(rt; calls.get(), 3);
+    let want = [(Err(Failed), 2), (Err(Failed), 3)];
+    assert_eq!(rt; two_writes(io::ErrorKind::Interrupted, true, 1), want);
 }

@@ -1,9 +1,8 @@
-//! Lists, roles and stops.
+//! Lists, roles and stops. All lists are of one kind, `Sequence`.
+ghost use Rattle.std.specs.Prelude.{◌<◌};
+ghost use Rattle.graph_meaning.specs.Roles.{cells_of};
 
-use graph_meaning::{
-    ObjectList, ObjectView, OwnerRole, PathStep, Refusal, Roles, RootList, Shown, SlotList,
-    StepList, Stop, Verdict, VerdictList,
-};
+use graph_meaning::{OwnerRole, PathStep, Refusal, Roles, SlotList, StepList, Stop};
 use heap_base::{Name, OutOfMemory};
 use std::alloc::Global;
 use std::test::Fail;
@@ -13,110 +12,83 @@ pub(crate) fn name(alloc: Global, text: &str) -> Result<Name, Fail> {
     Ok(Name::of(alloc, text)?.ok_or("not a name")?)
 }
 
-#[test]
-fn steps(rt: HostRuntime) -> Result<(), Fail> {
-    let mut steps = StepList::empty(rt.alloc());
-    assert_eq!(rt; steps.len(), 0);
-    steps.push(PathStep {
-        slot: 0,
-        id: 11,
-        kind: name(rt.alloc(), "Listener")?,
-    })?;
-    steps.push(PathStep {
-        slot: 1,
-        id: 10,
-        kind: name(rt.alloc(), "Session")?,
-    })?;
-    assert_eq!(rt; steps.len(), 2);
-    assert_eq!(rt; steps.at(0).id, 11);
-    assert_eq!(rt; steps.at(1).slot, 1);
-    assert_eq!(rt; steps.at(1).kind.as_str(), "Session");
-    Ok(())
+/// A step by this slot to the object with this id and a type of this name.
+pub(crate) fn step(alloc: Global, slot: u32, id: u32, kind: &str) -> Result<PathStep, Fail> {
+    let kind = name(alloc, kind)?;
+    Ok(PathStep { slot, id, kind })
 }
 
 #[test]
-fn verdicts(rt: HostRuntime) -> Result<(), Fail> {
-    let mut verdicts = VerdictList::empty(rt.alloc());
-    verdicts.push(Verdict::Dead {
-        id: 7,
-        kind: name(rt.alloc(), "Order")?,
-        path: Shown::LeftOut,
-    })?;
-    assert_eq!(rt; verdicts.len(), 1);
-    assert!(rt; matches!(verdicts.at(0), Verdict::Dead { id: 7, .. }));
+fn steps(rt: HostRuntime) -> Result<(), Fail> {
+    let mut steps = StepList::empty(rt.alloc());
+    steps.push(step(rt.alloc(), 0, 11, "Listener")?)?;
+    steps.push(step(rt.alloc(), 1, 10, "Session")?)?;
+    let last = steps.at(1);
+    let seen = (steps.len(), steps.at(0).id, last.slot, last.kind.as_str());
+    assert_eq!(rt; seen, (2, 11, 1, "Session"));
     Ok(())
+}
+
+// How many slots there are after each call, and what is in them at the end.
+fn slots_with_room(alloc: Global) -> Result<([u32; 5], [Option<u32>; 2]), OutOfMemory> {
+    let mut slots = SlotList::empty(alloc);
+    slots.reserve(0)?;
+    let none = slots.len();
+    slots.reserve(2)?;
+    let still_none = slots.len();
+    slots.push(Some(7))?;
+    let one = slots.len();
+    slots.reserve(3)?;
+    let still_one = slots.len();
+    slots.push(None)?;
+    let many = [none, still_none, one, still_one, slots.len()];
+    Ok((many, [*slots.at(0), *slots.at(1)]))
 }
 
 #[test]
 fn room_for_items(rt: HostRuntime) -> Result<(), Fail> {
-    let mut slots = SlotList::empty(rt.alloc());
-    slots.reserve(0)?;
-    assert_eq!(rt; slots.len(), 0);
-    slots.reserve(2)?;
-    assert_eq!(rt; slots.len(), 0);
-    slots.push(Some(7))?;
-    slots.reserve(3)?;
-    assert_eq!(rt; slots.len(), 1);
-    assert_eq!(rt; *slots.at(0), Some(7));
-    slots.push(None)?;
-    assert_eq!(rt; *slots.at(1), None);
+    let seen = slots_with_room(rt.alloc())?;
+    assert_eq!(rt; seen, ([0, 0, 1, 1, 2], [Some(7), None]));
     Ok(())
 }
 
-#[test]
-fn slots_of_objects(rt: HostRuntime) -> Result<(), Fail> {
-    let mut slots = SlotList::empty(rt.alloc());
-    slots.push(None)?;
-    slots.push(Some(2))?;
-    assert_eq!(rt; slots.len(), 2);
-    let mut objects = ObjectList::empty(rt.alloc());
-    objects.push(ObjectView {
-        id: 1,
-        kind: name(rt.alloc(), "Pair")?,
-        slots,
-    })?;
-    assert_eq!(rt; objects.len(), 1);
-    let pair = objects.at(0);
-    assert_eq!(rt; pair.id, 1);
-    assert_eq!(rt; pair.slots.len(), 2);
-    assert_eq!(rt; *pair.slots.at(0), None);
-    assert_eq!(rt; *pair.slots.at(1), Some(2));
-    Ok(())
+// Whether an object is asserted dead, whether unshared, whether it is an owner, and whose ownee it is.
+type Role = (bool, bool, bool, OwnerRole);
+
+fn role(roles: &Roles, cell: u32) -> Role
+    requires { cell < cells_of roles.now }
+{
+    (
+        roles.dead(cell),
+        roles.unshared(cell),
+        roles.is_owner(cell),
+        roles.owner(cell),
+    )
 }
 
-#[test]
-fn roots(rt: HostRuntime) -> Result<(), Fail> {
-    let mut roots = RootList::empty(rt.alloc());
-    roots.push((name(rt.alloc(), "book")?, 2))?;
-    roots.push((name(rt.alloc(), "bus")?, 3))?;
-    assert_eq!(rt; roots.len(), 2);
-    assert_eq!(rt; roots.at(0).0.as_str(), "book");
-    assert_eq!(rt; roots.at(1).1, 3);
-    Ok(())
-}
-
-#[test]
-fn roles(rt: HostRuntime) -> Result<(), Fail> {
-    let mut roles = Roles::make(rt.alloc(), 3, 2)?;
+// The roles of three objects, the limits of two types, and whether the owners are those that were added.
+fn roles_of_three(alloc: Global) -> Result<([Role; 3], [Option<u32>; 2], bool), OutOfMemory> {
+    let mut roles = Roles::make(alloc, 3, 2)?;
     roles.set_dead(2);
     roles.set_unshared(1);
     roles.set_owner(0, OwnerRole::OwnerCell(2));
     roles.set_owner(1, OwnerRole::OwnerGone(7));
     roles.set_limit(1, Some(5));
     roles.add_owner(2);
-    for (cell, dead, unshared, is_owner, owner) in [
-        (0, false, false, false, OwnerRole::OwnerCell(2)),
-        (1, false, true, false, OwnerRole::OwnerGone(7)),
-        (2, true, false, true, OwnerRole::NotOwned),
-    ] {
-        assert_eq!(rt; roles.dead(cell), dead);
-        assert_eq!(rt; roles.unshared(cell), unshared);
-        assert_eq!(rt; roles.is_owner(cell), is_owner);
-        assert_eq!(rt; roles.owner(cell), owner);
-    }
-    assert_eq!(rt; roles.limit(0), None);
-    assert_eq!(rt; roles.limit(1), Some(5));
-    assert_eq!(rt; roles.owners(), [2].as_slice());
+    let each = [role(&roles, 0), role(&roles, 1), role(&roles, 2)];
+    let limits = [roles.limit(0), roles.limit(1)];
+    Ok((each, limits, roles.owners() == [2].as_slice()))
+}
+
+#[test]
+fn roles(rt: HostRuntime) -> Result<(), Fail> {
+    let seen = roles_of_three(rt.alloc())?;
+    let each = [
+        (false, false, false, OwnerRole::OwnerCell(2)),
+        (false, true, false, OwnerRole::OwnerGone(7)),
+        (true, false, true, OwnerRole::NotOwned),
+    ];
+    assert_eq!(rt; seen, (each, [None, Some(5)], true));
     Ok(())
 }
 

@@ -1,7 +1,16 @@
 //! Names, numbers with their limits, statuses, errors, and the gate that is open.
 
 use heap_base::{Failed, Gate, Name, ObjId, OpenGate, OutOfMemory, Status, ThreadNo};
+use std::alloc::Global;
 use std::test::Fail;
+
+// Whether there is a name of this text, whose copy has the text too.
+fn names(alloc: Global, text: &str) -> Result<bool, OutOfMemory> {
+    match Name::of(alloc, text)? {
+        Some(name) => Ok(name.copy()?.as_str() == text),
+        None => Ok(false),
+    }
+}
 
 #[test]
 fn names_have_1_to_256_bytes_and_no_control(rt: HostRuntime) -> Result<(), Fail> {
@@ -16,13 +25,7 @@ fn names_have_1_to_256_bytes_and_no_control(rt: HostRuntime) -> Result<(), Fail>
         ("\u{7f}", false),
     ];
     for (text, legal) in cases {
-        match Name::of(rt.alloc(), text)? {
-            Some(name) => {
-                assert!(rt; legal);
-                assert_eq!(rt; name.copy()?.as_str(), text);
-            }
-            None => assert!(rt; !legal),
-        }
+        assert_eq!(rt; names(rt.alloc(), text)?, legal, "{text:?}");
     }
     Ok(())
 }

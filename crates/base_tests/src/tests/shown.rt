@@ -1,9 +1,8 @@
 //! Paths through a heap as it is shown.
 
-use super::lists::name;
+use super::lists::{name, step};
 use graph_meaning::{
-    HeapView, ObjectList, ObjectView, PathFrom, PathStep, PathView, RootList, SlotList, StepList,
-    is_path,
+    HeapView, ObjectList, ObjectView, PathFrom, PathView, RootList, SlotList, StepList, is_path,
 };
 use std::alloc::Global;
 use std::test::Fail;
@@ -50,19 +49,10 @@ fn start_of(alloc: Global, start: Start) -> Result<PathFrom, Fail> {
     })
 }
 
-fn step_of(alloc: Global, step: Step) -> Result<PathStep, Fail> {
-    let kind = name(alloc, step.2)?;
-    Ok(PathStep {
-        slot: step.0,
-        id: step.1,
-        kind,
-    })
-}
-
 fn two_steps(alloc: Global, first: Step, second: Step) -> Result<StepList, Fail> {
     let mut steps = StepList::empty(alloc);
-    steps.push(step_of(alloc, first)?)?;
-    steps.push(step_of(alloc, second)?)?;
+    steps.push(step(alloc, first.0, first.1, first.2)?)?;
+    steps.push(step(alloc, second.0, second.1, second.2)?)?;
     Ok(steps)
 }
 
