@@ -20,7 +20,7 @@ struct Case {
     found: (bool, bool),
 }
 
-const CASES: [Case; 10] = [
+static CASES: [Case; 10] = [
     Case {
         heap: ENTRY,
         owner: 1,
@@ -94,16 +94,20 @@ fn found_by(alloc: Global, table: &ObjectTable, roles: &Roles, case: &Case) -> O
     Some((*found.first()?, *found.get(1)?))
 }
 
-fn found_in(alloc: Global, case: &Case) -> Result<Option<(bool, bool)>, Fail> {
+fn found_in(alloc: Global, table: &ObjectTable, case: &Case) -> Result<Option<(bool, bool)>, Fail> {
+    let roles = roles_in(alloc, table, case.heap)?;
+    Ok(found_by(alloc, table, &roles, case))
+}
+
+fn found_in_heap(alloc: Global, case: &Case) -> Result<Option<(bool, bool)>, Fail> {
     let table = table_of(alloc, case.heap)?;
-    let roles = roles_in(alloc, &table, case.heap)?;
-    Ok(found_by(alloc, &table, &roles, case))
+    found_in(alloc, &table, case)
 }
 
 #[test]
 fn an_owner_finds_up_to_owners_and_ownees(rt: HostRuntime) -> Result<(), Fail> {
     for case in &CASES {
-        let found = found_in(rt.alloc(), case)?;
+        let found = found_in_heap(rt.alloc(), case)?;
         assert_eq!(rt;
             found,
             Some(case.found),

@@ -105,7 +105,6 @@ fn hold(table: &ObjectTable, cells: &[u32], ids: &[u32]) -> bool {
 }
 
 // A heap, the marks that a trace of it left, and the ownees that violate.
-#[derive(Clone, Copy)]
 struct Case {
     heap: SampleHeap<'static>,
     marks: &'static [(u32, Marks)],
@@ -113,7 +112,7 @@ struct Case {
 }
 
 // Whether exactly these violate, in this order.
-fn violates(alloc: Global, table: &ObjectTable, roles: &Roles, case: Case) -> Option<bool>
+fn violates(alloc: Global, table: &ObjectTable, roles: &Roles, case: &Case) -> Option<bool>
     requires { AreRolesOf table.now.cells (length table.now.table.kinds) roles.now }
 {
     let traced = traced_of(alloc, table, case.marks).ok()?;
@@ -189,7 +188,7 @@ const ROUND: SampleHeap<'static> = SampleHeap {
 };
 
 // What the marks say of ownees stands, and what they leave in doubt is settled by the heap.
-const CASES: [Case; 12] = [
+static CASES: [Case; 12] = [
     // nothing was marked
     Case {
         heap: BOOK,
@@ -259,12 +258,12 @@ const CASES: [Case; 12] = [
     },
 ];
 
-fn violates_in(alloc: Global, table: &ObjectTable, case: Case) -> Result<Option<bool>, Fail> {
+fn violates_in(alloc: Global, table: &ObjectTable, case: &Case) -> Result<Option<bool>, Fail> {
     let roles = roles_in(alloc, table, case.heap)?;
     Ok(violates(alloc, table, &roles, case))
 }
 
-fn violates_in_heap(alloc: Global, case: Case) -> Result<Option<bool>, Fail> {
+fn violates_in_heap(alloc: Global, case: &Case) -> Result<Option<bool>, Fail> {
     let table = table_of(alloc, case.heap)?;
     violates_in(alloc, &table, case)
 }
@@ -272,7 +271,7 @@ fn violates_in_heap(alloc: Global, case: Case) -> Result<Option<bool>, Fail> {
 #[test]
 fn ownees_violate_that_are_met_and_not_found(rt: HostRuntime) -> Result<(), Fail> {
     for case in &CASES {
-        let violates = violates_in_heap(rt.alloc(), *case)?;
+        let violates = violates_in_heap(rt.alloc(), case)?;
         assert_eq!(rt; violates, Some(true), "{:?}", case.violating);
     }
     Ok(())
@@ -284,7 +283,7 @@ const OWNED_BY_5: SampleHeap<'static> = SampleHeap {
     ..SampleHeap::EMPTY
 };
 
-const BY_ID: Case = Case {
+static BY_ID: Case = Case {
     heap: OWNED_BY_5,
     marks: &[(4, MET), (3, MET)],
     violating: &[3, 4],
@@ -293,7 +292,7 @@ const BY_ID: Case = Case {
 #[test]
 fn ownees_stand_by_id_and_not_by_cell(rt: HostRuntime) -> Result<(), Fail> {
     let table = cells_used_again(rt.alloc())?;
-    let violates = violates_in(rt.alloc(), &table, BY_ID)?;
+    let violates = violates_in(rt.alloc(), &table, &BY_ID)?;
     assert_eq!(rt; violates, Some(true));
     Ok(())
 }

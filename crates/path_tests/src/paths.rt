@@ -159,15 +159,24 @@ fn path_of(
     }
 }
 
+// A path in a table of this heap, as a text.
+fn text_in(
+    alloc: Global,
+    table: &ObjectTable,
+    heap: SampleHeap<'_>,
+    query: (Search, Target),
+) -> Result<String, Fail> {
+    let roles = roles_in(alloc, table, heap)?;
+    path_text(alloc, path_of(alloc, table, &roles, query)?)
+}
+
 fn text_in_heap(
     alloc: Global,
     heap: SampleHeap<'_>,
-    search: Search,
-    target: Target,
+    query: (Search, Target),
 ) -> Result<String, Fail> {
     let table = table_of(alloc, heap)?;
-    let roles = roles_in(alloc, &table, heap)?;
-    path_text(alloc, path_of(alloc, &table, &roles, (search, target))?)
+    text_in(alloc, &table, heap, query)
 }
 
 // What some paths of a heap are found by, and what they are.
@@ -177,7 +186,7 @@ struct Case {
     paths: &'static [(Target, &'static str)],
 }
 
-const CASES: [Case; 6] = [
+static CASES: [Case; 6] = [
     Case {
         heap: DIAMOND,
         search: Search::Levels(Start::Roots, &[]),
@@ -245,7 +254,7 @@ const CASES: [Case; 6] = [
 fn each_call_gives_its_path(rt: HostRuntime) -> Result<(), Fail> {
     for case in &CASES {
         for (target, path) in case.paths {
-            let text = text_in_heap(rt.alloc(), case.heap, case.search, *target)?;
+            let text = text_in_heap(rt.alloc(), case.heap, (case.search, *target))?;
             assert_eq!(rt; text.as_str(), *path);
         }
     }
@@ -254,7 +263,21 @@ fn each_call_gives_its_path(rt: HostRuntime) -> Result<(), Fail> {
 
 // ---- levels, and the view of a heap
 
+// Whether a path leads through what is shown of the heap.
+fn leads(table: &ObjectTable, path: &PathView) -> Result<bool, OutOfMemory> {
+    Ok(is_path(&table.view()?, path))
+}
+
 // The level of object 4, and whether its path leads through what is shown of the heap.
+fn level_and_path_by(found: &Levels, table: &ObjectTable) -> Result<(Option<u32>, bool), Fail>
+    requires { AreLevelsIn table.now found.now }
+{
+    let last = cell(table, 4).ok_or("object 4 isn't live")?;
+    let path = found.path(table, last)?.ok_or("no path leads there")?;
+    Ok((found.level(last), leads(table, &path)?))
+}
+
+// The same, by the levels from the roots.
 fn level_and_path(
     alloc: Global,
     table: &ObjectTable,
@@ -264,16 +287,29 @@ fn level_and_path(
 {
     let shut = flags(alloc, table, &[], true)?;
     let found = levels(alloc, table, roles, Start::Roots, shut.as_slice())?;
-    let last = cell(table, 4).ok_or("object 4 isn't live")?;
-    let path = found.path(table, last)?.ok_or("no path leads there")?;
-    Ok((found.level(last), is_path(&table.view()?, &path)))
+    level_and_path_by(&found, table)
+}
+
+fn level_and_path_in(
+    alloc: Global,
+    table: &ObjectTable,
+    heap: SampleHeap<'_>,
+) -> Result<(Option<u32>, bool), Fail> {
+    let roles = roles_in(alloc, table, heap)?;
+    level_and_path(alloc, table, &roles)
+}
+
+fn level_and_path_in_heap(
+    alloc: Global,
+    heap: SampleHeap<'_>,
+) -> Result<(Option<u32>, bool), Fail> {
+    let table = table_of(alloc, heap)?;
+    level_and_path_in(alloc, &table, heap)
 }
 
 #[test]
 fn a_level_counts_the_references_of_a_path(rt: HostRuntime) -> Result<(), Fail> {
-    let table = table_of(rt.alloc(), DIAMOND)?;
-    let roles = roles_in(rt.alloc(), &table, DIAMOND)?;
-    let answer = level_and_path(rt.alloc(), &table, &roles)?;
+    let answer = level_and_path_in_heap(rt.alloc(), DIAMOND)?;
     assert_eq!(rt; answer, (Some(3), true));
     Ok(())
 }

@@ -28,7 +28,7 @@ struct Case {
     references: [Option<Reference>; 2],
 }
 
-const CASES: [Case; 4] = [
+static CASES: [Case; 4] = [
     // two slots of one holder are two
     Case {
         heap: PAIR,
@@ -81,10 +81,18 @@ fn references_to(
     ])
 }
 
+fn references_in(
+    alloc: Global,
+    table: &ObjectTable,
+    case: &Case,
+) -> Result<[Option<Reference>; 2], Fail> {
+    let roles = roles_in(alloc, table, case.heap)?;
+    references_to(alloc, table, &roles, case)
+}
+
 fn references_in_heap(alloc: Global, case: &Case) -> Result<[Option<Reference>; 2], Fail> {
     let table = table_of(alloc, case.heap)?;
-    let roles = roles_in(alloc, &table, case.heap)?;
-    references_to(alloc, &table, &roles, case)
+    references_in(alloc, &table, case)
 }
 
 #[test]

@@ -204,12 +204,27 @@ const HEAP: SampleHeap<'static> = SampleHeap {
     ..SampleHeap::EMPTY
 };
 
-fn outcome_of_heap<R: Threads + Sync>(host: &Host<'_, R>, plan: Plan) -> Result<Outcome, Fail>
+fn outcome_in<R: Threads + Sync>(
+    host: &Host<'_, R>,
+    table: &ObjectTable,
+    heap: SampleHeap<'_>,
+    plan: Plan,
+) -> Result<Outcome, Fail>
     requires { (0 < plan.workers) × (plan.workers ≤ MOST_WORKERS) }
 {
-    let table = table_of(host.alloc, HEAP)?;
-    let roles = roles_in(host.alloc, &table, HEAP)?;
-    Ok(outcome_of_table(host, &table, &roles, plan)?)
+    let roles = roles_in(host.alloc, table, heap)?;
+    Ok(outcome_of_table(host, table, &roles, plan)?)
+}
+
+fn outcome_in_heap<R: Threads + Sync>(
+    host: &Host<'_, R>,
+    heap: SampleHeap<'_>,
+    plan: Plan,
+) -> Result<Outcome, Fail>
+    requires { (0 < plan.workers) × (plan.workers ≤ MOST_WORKERS) }
+{
+    let table = table_of(host.alloc, heap)?;
+    outcome_in(host, &table, heap, plan)
 }
 
 // An object that was not met, and one that was met once or twice and has no mark.
@@ -261,7 +276,7 @@ fn each_phase_leaves_the_same_by_each_number_of_workers(rt: HostRuntime) -> Resu
     let host = Host::of(&rt, rt.alloc());
     for (phases, outcome) in CASES {
         for workers in 1..4 {
-            let found = outcome_of_heap(&host, Plan { workers, phases })?;
+            let found = outcome_in_heap(&host, HEAP, Plan { workers, phases })?;
             assert_eq!(rt; found, outcome, "{phases:?} by {workers} workers");
         }
     }

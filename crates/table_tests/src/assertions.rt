@@ -4,7 +4,7 @@ ghost use Rattle.graph_meaning.specs.Roles.{cells_of, kinds_of};
 
 use assert_registry::AssertRegistry;
 use graph_meaning::{OwnerRole, Roles};
-use heap_base::OutOfMemory;
+use heap_base::{Name, OutOfMemory};
 use object_table::ObjectTable;
 use std::alloc::Global;
 use std::test::Fail;
@@ -12,15 +12,21 @@ use test_support::{SampleHeap, cell, id, id_or_zero, name, roles_in, roles_of};
 
 // ---- owners
 
-// A table of objects with the ids from 1 to the last, without one of them.
-fn table_without(alloc: Global, last: u32, freed: u32) -> Result<ObjectTable, Fail> {
-    let mut table = ObjectTable::make(alloc)?;
-    let kind = name(alloc, "A")?;
+// Allocates objects with the ids from 1 to the last, without one of them.
+fn allocate(table: &mut ObjectTable, kind: &Name, last: u32, freed: u32) -> Result<(), Fail> {
     for n in 1..=last {
         if n != freed {
-            table.alloc_object(id(n)?, &kind, 0)?;
+            table.alloc_object(id(n)?, kind, 0)?;
         }
     }
+    Ok(())
+}
+
+// A table of such objects.
+fn table_without(alloc: Global, last: u32, freed: u32) -> Result<ObjectTable, Fail> {
+    let kind = name(alloc, "A")?;
+    let mut table = ObjectTable::make(alloc)?;
+    allocate(&mut table, &kind, last, freed)?;
     Ok(table)
 }
 
@@ -62,7 +68,7 @@ struct OwnerCase {
     owner: Owner,
 }
 
-const OWNERS: [OwnerCase; 6] = [
+static OWNERS: [OwnerCase; 6] = [
     // a later owner replaces an earlier one
     OwnerCase {
         pairs: &[(1, 3), (2, 3)],
@@ -137,8 +143,8 @@ fn holds(alloc: Global, case: OwnerCase) -> Result<bool, Fail> {
 
 #[test]
 fn owners_stand_by_id_and_may_be_gone(rt: HostRuntime) -> Result<(), Fail> {
-    for case in OWNERS {
-        assert!(rt; holds(rt.alloc(), case)?, "{:?}", case.pairs);
+    for case in &OWNERS {
+        assert!(rt; holds(rt.alloc(), *case)?, "{:?}", case.pairs);
     }
     Ok(())
 }
@@ -198,12 +204,17 @@ fn limit_two_of_three(registry: &mut AssertRegistry) -> Result<(), OutOfMemory> 
     registry.reserve_kinds(1)
 }
 
-// A table that has seen these types.
-fn table_of_kinds(alloc: Global, kinds: &[&str]) -> Result<ObjectTable, Fail> {
-    let mut table = ObjectTable::make(alloc)?;
+fn see_kinds(alloc: Global, table: &mut ObjectTable, kinds: &[&str]) -> Result<(), Fail> {
     for kind in kinds {
         table.kind_of(&name(alloc, kind)?)?;
     }
+    Ok(())
+}
+
+// A table that has seen these types.
+fn table_of_kinds(alloc: Global, kinds: &[&str]) -> Result<ObjectTable, Fail> {
+    let mut table = ObjectTable::make(alloc)?;
+    see_kinds(alloc, &mut table, kinds)?;
     Ok(table)
 }
 

@@ -62,7 +62,7 @@ struct Case {
     roots: u32,
 }
 
-const CASES: [Case; 5] = [
+static CASES: [Case; 5] = [
     Case {
         objects: &[],
         cleared: 0,

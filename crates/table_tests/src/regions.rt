@@ -126,7 +126,7 @@ struct Case {
     regions: &'static [Innermost],
 }
 
-const CASES: [Case; 5] = [
+static CASES: [Case; 5] = [
     Case {
         steps: &[
             Step::Start(7),

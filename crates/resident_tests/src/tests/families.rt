@@ -1,6 +1,5 @@
 //! A heap whose trace by two workers begins at both: two roots name two objects, and the first of these has 1,000 children.
 
-use heap_base::Name;
 use object_table::ObjectTable;
 use std::alloc::Global;
 use std::test::Fail;
@@ -9,9 +8,10 @@ use test_support::{SampleHeap, id, name, table_of};
 const CHILDREN: u32 = 1_000;
 
 // Fills the slots of the object 1 with new objects.
-fn add_children(table: &mut ObjectTable, kind: &Name) -> Result<(), Fail> {
+fn add_children(alloc: Global, table: &mut ObjectTable) -> Result<(), Fail> {
+    let kind = name(alloc, "A")?;
     for slot in 0..CHILDREN {
-        table.alloc_object(id(slot + 3)?, kind, 0)?;
+        table.alloc_object(id(slot + 3)?, &kind, 0)?;
         table.store(id(1)?, slot, Some(id(slot + 3)?))?;
     }
     Ok(())
@@ -25,7 +25,7 @@ pub fn family_table(alloc: Global) -> Result<ObjectTable, Fail> {
         ..SampleHeap::EMPTY
     };
     let mut table = table_of(alloc, heap)?;
-    add_children(&mut table, &name(alloc, "A")?)?;
+    add_children(alloc, &mut table)?;
     Ok(table)
 }
 

@@ -12,6 +12,7 @@ use resident_crew::{ResidentJob, ResidentScan, audit_resident, trace_resident};
 use resident_rounds::Residents;
 use std::sync::{Arc, Wait};
 use std::test::Fail;
+use std::thread::Threads;
 use test_support::{Host, SampleHeap, roles_in};
 
 // A run in which each of two workers has a first task. The first cell leads to 1,000 others, which lead nowhere; the second is done once more.
@@ -52,18 +53,37 @@ fn count_traced<R: Wait>(
     Ok(traced.traced())
 }
 
+// How many objects each of two traces by one crew has traced, and whether both workers began in the first of them.
+fn count_twice<R: Wait>(
+    host: &Host<'_, R>,
+    crew: &mut Residents<ResidentScan, ResidentJob, Meeting>,
+    table: &ObjectTable,
+    gate: &Meeting,
+) -> Result<(u32, u32, bool), Fail> {
+    let first = count_traced(host, crew, table)?;
+    let have_met = gate.met_in(1);
+    let second = count_traced(host, crew, table)?;
+    Ok((first, second, have_met))
+}
+
+// The same of a crew of two workers, and whether both began in each of the traces.
+fn count_by_two<R: Threads + Wait + Clone + Drop + Send + Sync + 'static>(
+    host: &Host<'_, R>,
+    table: &ObjectTable,
+) -> Result<((u32, u32, bool), bool), Fail> {
+    let gate = Arc::new(host.alloc, Meeting::new())?;
+    let mut crew = Residents::start(host.rt, host.alloc, 2, gate.clone()?)?;
+    let traced = count_twice(host, &mut crew, table, &gate)?;
+    crew.end(host.rt);
+    Ok((traced, gate.met_in(2)))
+}
+
 #[test]
 fn both_workers_begin_in_each_trace(rt: HostRuntime) -> Result<(), Fail> {
     let host = Host::of(&rt, rt.alloc());
     let table = family_table(rt.alloc())?;
-    let gate = Arc::new(rt.alloc(), Meeting::new())?;
-    let mut crew = Residents::start(&rt, rt.alloc(), 2, gate.clone()?)?;
-    let first = count_traced(&host, &mut crew, &table)?;
-    let met_once = gate.met_in(1);
-    let second = count_traced(&host, &mut crew, &table)?;
-    crew.end(&rt);
-    assert_eq!(rt; (first, second), (1_002, 1_002));
-    assert!(rt; met_once && gate.met_in(2));
+    let seen = count_by_two(&host, &table)?;
+    assert_eq!(rt; seen, ((1_002, 1_002, true), true));
     Ok(())
 }
 

@@ -8,7 +8,7 @@ ghost use Rattle.std.specs.Prelude.{◌≤◌};
 use super::counters::{Work, run_cells};
 use super::traces::{OwnedHeap, trace_table};
 use crew_support::{Cells, Counter, Shape, are_seen};
-use heap_base::{Gate, Name, OutOfMemory};
+use heap_base::{Gate, OutOfMemory};
 use object_table::ObjectTable;
 use std::alloc::Global;
 use std::test::Fail;
@@ -140,9 +140,10 @@ fn a_worker_that_asks_for_nothing_gets_nothing(rt: HostRuntime) -> Result<(), Fa
 }
 
 // Fills the 1,000 slots of the object 1 with new objects.
-fn add_children(table: &mut ObjectTable, kind: &Name) -> Result<(), Fail> {
+fn add_children(alloc: Global, table: &mut ObjectTable) -> Result<(), Fail> {
+    let kind = name(alloc, "Node")?;
     for child in 0..1_000 {
-        table.alloc_object(id(child + 3)?, kind, 0)?;
+        table.alloc_object(id(child + 3)?, &kind, 0)?;
         table.store(id(1)?, child, Some(id(child + 3)?))?;
     }
     Ok(())
@@ -156,7 +157,7 @@ fn wide_table(alloc: Global) -> Result<ObjectTable, Fail> {
         ..SampleHeap::EMPTY
     };
     let mut table = table_of(alloc, heap)?;
-    add_children(&mut table, &name(alloc, "Node")?)?;
+    add_children(alloc, &mut table)?;
     Ok(table)
 }
 
@@ -171,6 +172,14 @@ fn count_traced<R: Threads + Sync, G: Gate>(
     Ok(traced.traced())
 }
 
+fn count_traced_in_wide<R: Threads + Sync, G: Gate>(
+    host: &Host<'_, R>,
+    gate: &G,
+) -> Result<u32, Fail> {
+    let table = wide_table(host.alloc)?;
+    count_traced(host, &table, gate)
+}
+
 #[test]
 fn both_workers_of_a_trace_begin(rt: HostRuntime) -> Result<(), Fail> {
     let host = Host::of(&rt, rt.alloc());
@@ -178,9 +187,7 @@ fn both_workers_of_a_trace_begin(rt: HostRuntime) -> Result<(), Fail> {
         holds: &UNTIL_BOTH_BEGIN,
         watch: Watch::new(),
     };
-    let table = wide_table(rt.alloc())?;
-    let traced = count_traced(&host, &table, &gate)?;
-    assert_eq!(rt; traced, 1_002);
-    assert!(rt; have_both_begun(&gate.watch));
+    let traced = count_traced_in_wide(&host, &gate)?;
+    assert_eq!(rt; (traced, have_both_begun(&gate.watch)), (1_002, true));
     Ok(())
 }

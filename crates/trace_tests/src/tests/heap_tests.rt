@@ -68,7 +68,7 @@ const RING: SampleHeap<'static> = SampleHeap {
     ..EMPTY
 };
 
-const CASES: [(SampleHeap<'static>, Wanted<'static>); 17] = [
+static CASES: [(SampleHeap<'static>, Wanted<'static>); 17] = [
     (
         EMPTY,
         Wanted {
@@ -215,7 +215,7 @@ const CASES: [(SampleHeap<'static>, Wanted<'static>); 17] = [
 #[test]
 fn each_heap_is_traced_as_it_is_by_few_and_many(rt: HostRuntime) -> Result<(), Fail> {
     let host = Host::of(&rt, rt.alloc());
-    for (heap, wanted) in CASES {
+    for (heap, wanted) in &CASES {
         check_heap(&host, heap, wanted)?;
     }
     Ok(())

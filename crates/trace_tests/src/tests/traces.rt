@@ -155,16 +155,16 @@ fn check_table<R: Threads + Sync + Abort>(
 /// Traces a sample heap by 1, 2, 3 and 16 workers, and compares.
 pub fn check_heap<R: Threads + Sync + Abort>(
     host: &Host<'_, R>,
-    heap: SampleHeap<'_>,
-    wanted: Wanted<'_>,
+    heap: &SampleHeap<'_>,
+    wanted: &Wanted<'_>,
 ) -> Result<(), Fail> {
-    let table = table_of(host.alloc, heap)?;
+    let table = table_of(host.alloc, *heap)?;
     let heap = OwnedHeap {
         table: &table,
         owned: heap.owned,
     };
     for workers in [1, 2, 3, 16] {
-        check_table(host, heap, wanted, workers)?;
+        check_table(host, heap, *wanted, workers)?;
     }
     Ok(())
 }
