@@ -5,7 +5,7 @@ use mathlib.Core.Logic.{dite}
 use native.Mathlib.Decide.{ℕ_discrete}
 use mathlib.Core.Option.{none, some}
 use lib.ListN.{get_elem?}
-use Rattle.atomic_table.specs.Table.{step, keeps, Allows}
+use Rattle.atomic_table.specs.Table.{State, step, keeps, Allows}
 use Rattle.heap_base.specs.Counting.{bit, is_positive, times, IsOnce}
 use Rattle.heap_base.proofs.Counting.{is_positive-from, bit-le, total-set, le_total, total-set_same, times-append}
 use Rattle.header_rule.specs.declared.mark.Mark.{Mark}
@@ -71,10 +71,12 @@ module _ (views : List View) (id x : ℕ) (v : View) (at : get_elem? views id �
       let b = bit-le (is_positive (adds_in y after)) in
       omega arith
 
--- the step: the word of the cell x, and the view of the seat
-pub adds_cell : (cells slots id x : ℕ) (v : View) → x < cells → length v.adds < v.rights * 2 ^ 51 →
-    Allows (KeepsRule cells) slots id (v, []) (x + 1) (λ n. (n + 1) % 2 ^ 64) (AddsCell (step slots (x + 1) 1 0 none) (v, []))
-adds_cell cells slots id x v within room s k _ at _ =
+-- The word of the cell x becomes one more, and the view of the seat has one meet more.
+pub add_keeps : (cells id x : ℕ) (v : View) → x < cells → length v.adds < v.rights * 2 ^ 51 → (s : State (Unit {0}) View) → KeepsRule cells s → get_elem? s.views id ≡ some v
+    → let n : ℕ = get_or s.words (x + 1) 0 in
+    let w : View = with_add x (eqb (count_of n) 0) v in
+    (n + 1 < 2 ^ 64) × KeepsRule cells record { words = set s.words (x + 1) (n + 1); homes = s.homes; views = set s.views id w } × IsOnce w.wins
+add_keeps cells id x v within room s k at =
     let n : ℕ = get_or s.words (x + 1) 0 in
     let a : ℕ = adds_in x s.views in
     let p : Mark → Bool = has_mark s.views x in
@@ -84,15 +86,29 @@ adds_cell cells slots id x v within room s k _ at _ =
     let count : count_of n ≡ a = ap count_of is ∙ count_of-word p a (omega arith) in
     let won : Bool = eqb (count_of n) 0 in
     let w : View = with_add x won v in
-    let more : (n + 1) % 2 ^ 64 ≡ bits_of p + (a + 1) = omega arith in
+    let more : n + 1 ≡ bits_of p + (a + 1) = omega arith in
     let w-fits : FitsRights w = record { idle = λ e. absurd (omega arith); bounded = omega (arith, length-append v.adds (x ∷ [])) } in
     let wins = wins-after s.views id x v at won (ap (λ c. eqb c 0) count) k.wins in (
-      w,
-      keeps,
-      tt,
-      keeps_rule cells s k id v w at refl w-fits x ((n + 1) % 2 ^ 64) within
+      omega arith,
+      keeps_rule cells s k id v w at refl w-fits x (n + 1) within
           (more ∙ sym (word_of-same (set s.views id w) x (a + 1) p (λ m. ap is_positive (marks-same s.views id x v at won m x)) (adds-here s.views id x v at won)))
           (λ y ne. word_of-same (set s.views id w) y (adds_in y s.views) (has_mark s.views y) (λ m. ap is_positive (marks-same s.views id x v at won m y)) (adds-away s.views id x v at won y ne))
           wins,
-      (ap (λ y. (with_add y won v, [])) (omega arith), wins-once s.views id x v at won wins),
+      wins-once s.views id x v at won wins,
+    )
+
+-- the step: the word of the cell x, and the view of the seat
+pub adds_cell : (cells slots id x : ℕ) (v : View) → x < cells → length v.adds < v.rights * 2 ^ 51 →
+    Allows (KeepsRule cells) slots id (v, []) (x + 1) (λ n. (n + 1) % 2 ^ 64) (AddsCell (step slots (x + 1) 1 0 none) (v, []))
+adds_cell cells slots id x v within room s k _ at _ =
+    let n : ℕ = get_or s.words (x + 1) 0 in
+    let w : View = with_add x (eqb (count_of n) 0) v in
+    let added = add_keeps cells id x v within room s k at in
+    let fits = added.0 in
+    let word : n + 1 ≡ (n + 1) % 2 ^ 64 = omega arith in (
+      w,
+      keeps,
+      tt,
+      subst (λ m. KeepsRule cells record { words = set s.words (x + 1) m; homes = s.homes; views = set s.views id w }) word added.1,
+      (ap (λ y. (with_add y (eqb (count_of n) 0) v, [])) (omega arith), added.2),
     )

@@ -5,3 +5,4 @@ pub mod Adding
 pub mod Marking
 pub mod Sharing
 pub mod Whole
+pub mod OwnWords

@@ -1,9 +1,9 @@
 -- Setting marks keeps the rule.
-use Rattle.std.proofs.Common.{◌≡◌, ◌≢◌, ℕ, zero, suc, ◌+◌, ◌*◌, ◌^◌, ◌<◌, ◌≤◌, ◌||◌, eqb, Bool, true, false, cond, List, [], length, get_or, set, sym, refl, ap, ◌∙◌, arith}
+use Rattle.std.proofs.Common.{◌≡◌, ◌≢◌, ℕ, zero, suc, ◌+◌, ◌*◌, ◌^◌, ◌<◌, ◌≤◌, ◌||◌, eqb, Bool, true, false, cond, List, [], length, get_or, set, sym, refl, ap, ◌∙◌, subst, arith}
 use Rattle.std.specs.Prelude.{bit_or}
 use mathlib.Core.Option.{none, some}
 use lib.ListN.{get_elem?}
-use Rattle.atomic_table.specs.Table.{step, keeps, Allows}
+use Rattle.atomic_table.specs.Table.{State, step, keeps, Allows}
 use Rattle.heap_base.specs.Counting.{bit, is_positive, times}
 use Rattle.heap_base.proofs.Counting.{is_positive-from, total-set, total-set_same}
 use Rattle.header_rule.specs.declared.mark.Mark.{Mark}
@@ -45,23 +45,30 @@ module _ (views : List View) (id x : ℕ) (v : View) (at : get_elem? views id �
   has_mark-away : (y : ℕ) → y ≢ x → (m : Mark) → has_mark after y m ≡ has_mark views y m
   has_mark-away y ne m = ap is_positive (marks-more m y ∙ (ap (λ k. marks_in m y views + cond (p m) k 0) (bit-away x y ne) ∙ (let z = cond_zero (p m) in omega arith)))
 
+-- The marks of x that pass the test p are set in its word, and stand in the view of the seat.
+pub marks_keep : (cells id x : ℕ) (v : View) (p : Mark → Bool) → x < cells → 0 < v.rights → length v.adds ≤ v.rights * 2 ^ 51 → (s : State (Unit {0}) View) → KeepsRule cells s → get_elem? s.views id ≡ some v
+    → KeepsRule cells record { words = set s.words (x + 1) (bit_or (get_or s.words (x + 1) 0) (bits_of p)); homes = s.homes; views = set s.views id (with_marks (marks_passing p x) v) }
+marks_keep cells id x v p within some_right bounded s kept at =
+    let n : ℕ = get_or s.words (x + 1) 0 in
+    let a : ℕ = adds_in x s.views in
+    let small = adds_in-lt cells s kept x in
+    let w : View = with_marks (marks_passing p x) v in
+    let marked : bit_or n (bits_of p) ≡ bits_of (λ m. has_mark s.views x m || p m) + a = ap (λ k. bit_or k (bits_of p)) (kept.words x within) ∙ or-bits_of (has_mark s.views x) p a (omega arith) in
+    let w-fits : FitsRights w = record { idle = λ e. absurd (omega arith); bounded = bounded } in
+    keeps_rule cells s kept id v w at refl w-fits x (bit_or n (bits_of p)) within
+    (marked ∙ sym (word_of-same (set s.views id w) x a (λ m. has_mark s.views x m || p m) (has_mark-here s.views id x v at p) (adds-same s.views id x v at p x)))
+    (λ y ne. word_of-same (set s.views id w) y (adds_in y s.views) (has_mark s.views y) (has_mark-away s.views id x v at p y ne) (adds-same s.views id x v at p y))
+    (λ y. wins-same s.views id x v at p y ∙ (kept.wins y ∙ ap (λ c. bit (is_positive c)) (sym (adds-same s.views id x v at p y))))
+
 -- the step, where the number k is made of marks alone
 pub sets_marks : (cells slots id x k : ℕ) (v : View) → x < cells → k ≡ bits_of (has_bit k) → 0 < v.rights → length v.adds ≤ v.rights * 2 ^ 51
     → Allows (KeepsRule cells) slots id (v, []) (x + 1) (λ n. bit_or n k) (SetsMarks (step slots (x + 1) k 0 none) (v, []))
 sets_marks cells slots id x k v within k-is some_right bounded s kept _ at _ =
     let n : ℕ = get_or s.words (x + 1) 0 in
-    let a : ℕ = adds_in x s.views in
-    let p : Mark → Bool = has_bit k in
-    let small = adds_in-lt cells s kept x in
-    let w : View = with_marks (marks_passing p x) v in
-    let marked : bit_or n k ≡ bits_of (λ m. has_mark s.views x m || p m) + a = (λ i. bit_or (kept.words x within i) (k-is i)) ∙ or-bits_of (has_mark s.views x) p a (omega arith) in
-    let w-fits : FitsRights w = record { idle = λ e. absurd (omega arith); bounded = bounded } in (
+    let w : View = with_marks (marks_passing (has_bit k) x) v in (
       w,
       keeps,
       tt,
-      keeps_rule cells s kept id v w at refl w-fits x (bit_or n k) within
-          (marked ∙ sym (word_of-same (set s.views id w) x a (λ m. has_mark s.views x m || p m) (has_mark-here s.views id x v at p) (adds-same s.views id x v at p x)))
-          (λ y ne. word_of-same (set s.views id w) y (adds_in y s.views) (has_mark s.views y) (has_mark-away s.views id x v at p y ne) (adds-same s.views id x v at p y))
-          (λ y. wins-same s.views id x v at p y ∙ (kept.wins y ∙ ap (λ c. bit (is_positive c)) (sym (adds-same s.views id x v at p y)))),
-      ap (λ y. (with_marks (marks_passing p y) v, [])) (omega arith),
+      subst (λ j. KeepsRule cells record { words = set s.words (x + 1) (bit_or n j); homes = s.homes; views = set s.views id w }) (sym k-is) (marks_keep cells id x v (has_bit k) within some_right bounded s kept at),
+      ap (λ y. (with_marks (marks_passing (has_bit k) y) v, [])) (omega arith),
     )

@@ -1,6 +1,8 @@
 -- All passes of the same headers have 16 rights together.
 use Rattle.std.proofs.Common.{◌≡◌, ℕ, zero, suc, ◌+◌, ◌-◌, ◌<◌, ◌≤◌, List, [], ◌∷◌, ◌++◌, length, get_or, drop, sym, refl, ap, ◌∙◌, subst, arith}
+use Rattle.std.specs.Prelude.{Some}
 use Rattle.std.specs.List.{All, range_with_len}
+use Rattle.std.specs.declared.option.Option.{Option}
 use Rattle.std.proofs.lemmas.List.{length-map}
 use Rattle.std.proofs.lemmas.List.FromFn.{length-range_with_len}
 use Rattle.std.proofs.lemmas.List.Elements.{All-head}
@@ -8,10 +10,9 @@ use Rattle.heap_base.specs.Counting.{total}
 use Rattle.header_rule.specs.declared.headers.Headers.{Headers}
 use Rattle.header_rule.specs.declared.pass.Pass.{Pass}
 use Rattle.header_rule.specs.Shares.{share}
-use Rattle.header_rule.specs.Passes.{IsPassOf, ArePassesOf, numbers}
-
-abbrev pub rights_of : Pass → ℕ
-rights_of p = p.seat.me.0.rights
+use Rattle.header_rule.specs.declared.shared_words.SharedWords.{SharedWords}
+use Rattle.header_rule.specs.Passes.{IsPassOf, ArePassesOf, AreAllSeats, numbers, rights_of}
+use Rattle.header_rule.specs.Seats.{ReachesWords}
 
 number_here : (p : Pass) (ps : List Pass) (n k : ℕ) → numbers (p ∷ ps) ≡ range_with_len n (suc k) → p.number ≡ n
 number_here p ps n k e = ap (λ ns. get_or ns 0 0) e
@@ -31,7 +32,7 @@ later_rights n (suc k) (p ∷ ps) e =
     omega arith
 
 pub all_rights : (h : Headers) (ps : List Pass) → ArePassesOf h ps → total rights_of ps ≡ 16
-all_rights h ps are = go h.workers ps h.shared.0 h.shared.1 (λ p qs e. (All-head (IsPassOf h) p qs (at_front p qs e)).1) are.1
+all_rights h ps are = go h.workers ps h.some h.few (λ p qs e. (All-head (IsPassOf h) p qs (at_front p qs e)).1) are.1
   where
     at_front : (p : Pass) (qs : List Pass) → ps ≡ p ∷ qs → All (IsPassOf h) (p ∷ qs)
     at_front p qs e = subst (All (IsPassOf h)) e are.0
@@ -52,6 +53,10 @@ range-push a (suc k) n e = ap (λ ns. a ∷ ns) (range-push (a + 1) k n (omega a
 
 pub length-numbers : (ps : List Pass) (a n : ℕ) → numbers ps ≡ range_with_len a n → length ps ≡ n
 length-numbers ps a n e = sym (length-map ps (λ (p : Pass). p.number)) ∙ (ap length e ∙ length-range_with_len a n)
+
+-- All passes of headers that have a table have seats on it, with all the rights.
+pub all_seats : (h : Headers) (ps : List Pass) (t : SharedWords) → h.shared ≡ Some t → ArePassesOf h ps → AreAllSeats t ps
+all_seats h ps t is are = (λ k d within. subst (λ (s : Option SharedWords). ReachesWords s h.cells (get_or ps k d).reach) is (are.0 k d within).0, all_rights h ps are)
 
 -- the numbers from 0 are 0 and those from 1
 pub range-first : (n : ℕ) → 0 < n → 0 ∷ range_with_len 1 (n - 1) ≡ range_with_len 0 n

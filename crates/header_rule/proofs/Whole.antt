@@ -1,5 +1,5 @@
 -- The seat that has all the rights knows all that was met.
-use Rattle.std.proofs.Common.{◌≡◌, ℕ, ◌+◌, ◌^◌, ◌<◌, ◌≤◌, List, get_or, sym, refl, ap, ◌∙◌, subst, arith}
+use Rattle.std.proofs.Common.{◌≡◌, ℕ, ◌+◌, ◌^◌, ◌<◌, ◌≤◌, List, length, get_or, sym, refl, ap, ◌∙◌, subst, arith}
 use lib.ListN.{get_elem?}
 use lib.Seq.{set-get_or}
 use mathlib.Core.Option.{none, some}
@@ -12,6 +12,7 @@ use Rattle.header_rule.specs.declared.view.View.{View}
 use Rattle.header_rule.specs.Layout.{count_of, has_bit}
 use Rattle.header_rule.specs.Views.{times_marked, rights_in, adds_in, wins_in, marks_in, has_mark}
 use Rattle.header_rule.specs.Rule.{new_view, KeepsRule}
+use Rattle.header_rule.specs.WholeWords.{TellsWords}
 use Rattle.header_rule.specs.Steps.{ReadsWord}
 use Rattle.header_rule.proofs.Bits.{count_of-word, has_bit-word}
 use Rattle.header_rule.proofs.Moves.{AllFit}
@@ -21,16 +22,11 @@ use Rattle.header_rule.proofs.WordSteps.{adds_in-lt}
 has_all : (f : View → ℕ) → f (new_view 0) ≡ 0 → (views : List View) → AllFit views → (id : ℕ) (v : View) → get_elem? views id ≡ some v → rights_in views ≡ v.rights → total f views ≡ f v
 has_all f nothing views fits id v at all = only_one f (λ (u : View). u.rights) views (λ i u at' none. ap f ((fits i u at').idle none) ∙ nothing) id v at all
 
--- what the words say, in terms of the one view
-pub record TellsAll (cells : ℕ) (ws : List ℕ) (v : View) : Type 0 where
-  pub counts : (x : ℕ) → x < cells → count_of (get_or ws (x + 1) 0) ≡ times x v.adds
-  pub marks : (m : Mark) (x : ℕ) → x < cells → has_bit (get_or ws (x + 1) 0) m ≡ is_positive (times_marked m x v.marks)
-  pub wins : (x : ℕ) → times x v.wins ≡ bit (is_positive (times x v.adds))
-
-pub state_tells : (cells id : ℕ) (v : View) (s : State (Unit {0}) View) → v.rights ≡ 16 → KeepsRule cells s → get_elem? s.views id ≡ some v → TellsAll cells s.words v
+pub state_tells : (cells id : ℕ) (v : View) (s : State (Unit {0}) View) → v.rights ≡ 16 → KeepsRule cells s → get_elem? s.views id ≡ some v → TellsWords s.words v
 state_tells cells id v s whole k at =
     let some = le_total (λ (u : View). u.rights) s.views id v at in
     let opening = k.opening in
+    let sized = k.sized in
     let rights = k.rights in
     let all : rights_in s.views ≡ v.rights = omega arith in
     let adds : (x : ℕ) → adds_in x s.views ≡ times x v.adds = λ x. has_all (λ u. times x u.adds) refl s.views k.fits id v at all in
@@ -38,18 +34,19 @@ state_tells cells id v s whole k at =
     let marks : (m : Mark) (x : ℕ) → marks_in m x s.views ≡ times_marked m x v.marks = λ m x. has_all (λ u. times_marked m x u.marks) refl s.views k.fits id v at all in
     let few : (x : ℕ) → adds_in x s.views < 2 ^ 56 = λ x. (let b = adds_in-lt cells s k x in omega arith) in
     record {
-      counts = λ x h. ap count_of (k.words x h) ∙ (count_of-word (has_mark s.views x) (adds_in x s.views) (few x) ∙ adds x);
-      marks = λ m x h. ap (λ n. has_bit n m) (k.words x h) ∙ (has_bit-word (has_mark s.views x) (adds_in x s.views) (few x) m ∙ ap is_positive (marks m x));
+      counts = λ x h. ap count_of (k.words x (omega arith)) ∙ (count_of-word (has_mark s.views x) (adds_in x s.views) (few x) ∙ adds x);
+      marks = λ m x h. ap (λ n. has_bit n m) (k.words x (omega arith)) ∙ (has_bit-word (has_mark s.views x) (adds_in x s.views) (few x) m ∙ ap is_positive (marks m x));
       wins = λ x. sym (wins x) ∙ (k.wins x ∙ ap (λ n. bit (is_positive n)) (adds x));
     }
 
-pub tells_all : (cells id : ℕ) (v : View) (ws : List ℕ) (xs : List (Unit {0})) → v.rights ≡ 16 → Final (Seen (KeepsRule cells) id v) ws xs → TellsAll cells ws v
-tells_all cells id v ws xs whole final = subst (λ us. TellsAll cells us v) final.2 (state_tells cells id v final.0 whole final.1.0 final.1.1)
+pub tells_all : (cells id : ℕ) (v : View) (ws : List ℕ) (xs : List (Unit {0})) → v.rights ≡ 16 → Final (Seen (KeepsRule cells) id v) ws xs → TellsWords ws v
+tells_all cells id v ws xs whole final = subst (λ us. TellsWords us v) final.2 (state_tells cells id v final.0 whole final.1.0 final.1.1)
 
 -- the step: a word is read, and nothing changes
 pub reads_word : (cells slots id word : ℕ) (me : Me (Unit {0}) View) → word ≤ cells → Allows (KeepsRule cells) slots id me word (λ n. n) (ReadsWord (step slots word 0 0 none) me)
 reads_word cells slots id word me within s k _ at _ =
-    let here : (x : ℕ) → word ≡ x + 1 → x < cells = λ x e. omega arith in (
+    let sized = k.sized in
+    let here : (x : ℕ) → word ≡ x + 1 → x + 1 < length s.words = λ x e. omega arith in (
       me.0,
       keeps,
       tt,

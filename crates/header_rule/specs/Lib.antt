@@ -1,8 +1,13 @@
 pub mod ClosedWords
 pub mod Layout
+pub mod OwnStates
 pub mod Passes
+pub mod Reaches
 pub mod Rule
+pub mod Seats
 pub mod Shares
 pub mod Steps
 pub mod Stores
+pub mod Told
 pub mod Views
+pub mod WholeWords

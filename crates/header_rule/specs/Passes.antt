@@ -1,25 +1,28 @@
 -- What clauses say of passes: what each met, whose passes they are, and what all of them met together.
-use Rattle.std.specs.Prelude.{◌≡◌, ℕ, ◌^◌, List, [], map}
+use Rattle.std.specs.Prelude.{◌≡◌, ℕ, ◌^◌, Bool, List, [], map, length, is_some}
 use Rattle.std.specs.List.{All, range_with_len}
 use Rattle.heap_base.specs.Counting.{total, times}
 use Rattle.header_rule.specs.declared.headers.Headers.{Headers}
 use Rattle.header_rule.specs.declared.mark.Mark.{Mark}
 use Rattle.header_rule.specs.declared.mark.Marks.{Marks}
 use Rattle.header_rule.specs.declared.pass.Pass.{Pass}
+use Rattle.header_rule.specs.declared.shared_words.SharedWords.{SharedWords}
 use Rattle.header_rule.specs.Layout.{is_given, marks_passing}
+use Rattle.header_rule.specs.Reaches.{view_of}
+use Rattle.header_rule.specs.Seats.{HasSeatOn, HasOwnWords, ReachesWords}
 use Rattle.header_rule.specs.Views.{times_marked}
 
 -- the cells that the pass met, in order
 abbrev pub adds : Pass → List ℕ
-adds p = p.seat.me.0.adds
+adds p = (view_of p.reach).adds
 
 -- those of them that it won
 abbrev pub wins : Pass → List ℕ
-wins p = p.seat.me.0.wins
+wins p = (view_of p.reach).wins
 
 -- the marks that it set, each with its cell
 abbrev pub marks : Pass → List (ℕ × Mark)
-marks p = p.seat.me.0.marks
+marks p = (view_of p.reach).marks
 
 -- the marks that a meet of the cell x sets
 abbrev pub marks_at : ℕ → Marks → List (ℕ × Mark)
@@ -32,9 +35,21 @@ pub record IsFresh (p : Pass) : Type 0 where
   pub wins : wins p ≡ []
   pub marks : marks p ≡ []
 
+-- several passes may reach the words
+abbrev pub are_shared : Headers → Bool
+are_shared h = is_some h.shared
+
+-- the pass has a seat on the table
+abbrev pub HasSeat : SharedWords → Pass → Type 0
+HasSeat t p = HasSeatOn t p.reach
+
+-- and is one of so many
+abbrev pub IsSeated : SharedWords → ℕ → Pass → Type 0
+IsSeated t workers p = HasSeat t p × (p.workers ≡ workers)
+
 -- the pass is one of those that were made with the headers
 abbrev pub IsPassOf : Headers → Pass → Type 0
-IsPassOf h p = (p.seat.table_id ≡ h.table.shared.table_id) × (p.workers ≡ h.workers)
+IsPassOf h p = ReachesWords h.shared h.cells p.reach × (p.workers ≡ h.workers)
 
 -- the pass q is of the headers, and has the number of p
 abbrev pub IsSamePass : Headers → Pass → Pass → Type 0
@@ -54,6 +69,25 @@ numbers ps = map (λ p. p.number) ps
 -- they are all the passes that were made with the headers, in order
 abbrev pub ArePassesOf : Headers → List Pass → Type 0
 ArePassesOf h ps = All (IsPassOf h) ps × (numbers ps ≡ range_with_len 0 h.workers)
+
+abbrev pub rights_of : Pass → ℕ
+rights_of p = (view_of p.reach).rights
+
+-- they have seats on the table, with all the rights
+abbrev pub AreAllSeats : SharedWords → List Pass → Type 0
+AreAllSeats t ps = All (HasSeat t) ps × (total rights_of ps ≡ 16)
+
+-- there is one, with words of its own for so many cells
+abbrev pub IsAlone : ℕ → List Pass → Type 0
+IsAlone cells ps = All (λ p. HasOwnWords cells p.reach) ps × (length ps ≡ 1)
+
+-- the headers have so many cells and so many passes, which are these and have met nothing
+pub record AreNew (many_cells many_workers : ℕ) (h : Headers) (ps : List Pass) : Type 0 where
+  pub cells : h.cells ≡ many_cells
+  pub workers : h.workers ≡ many_workers
+  pub count : length ps ≡ many_workers
+  pub passes : ArePassesOf h ps
+  pub fresh : All IsFresh ps
 
 -- how often the cell x stands in the adds of all passes, and in their wins
 abbrev pub all_adds : ℕ → List Pass → ℕ

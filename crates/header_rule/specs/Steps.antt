@@ -3,8 +3,9 @@ use Rattle.std.specs.Prelude.{◌≡◌, ℕ, ◌+◌, ◌-◌, ◌==◌, Bool, 
 use Rattle.atomic_table.specs.Table.{Step, Me}
 use Rattle.heap_base.specs.Counting.{IsOnce}
 use Rattle.header_rule.specs.declared.mark.Mark.{Mark}
+use Rattle.header_rule.specs.declared.mark.Marks.{Marks}
 use Rattle.header_rule.specs.declared.view.View.{View}
-use Rattle.header_rule.specs.Layout.{count_of, has_bit, marks_passing}
+use Rattle.header_rule.specs.Layout.{count_of, has_bit, is_given, marks_passing}
 use Rattle.header_rule.specs.Rule.{new_view}
 use Rattle.header_rule.specs.Views.{TellsWord}
 
@@ -26,6 +27,10 @@ AddsCell st m found m' = (m' ≡ (with_add (st.word - 1) (count_of found == 0) m
 
 abbrev pub with_marks : List (ℕ × Mark) → View → View
 with_marks marks v = record v { marks = v.marks ++ marks }
+
+-- what a view becomes by a meet of the cell x, which won it or not, and set these marks
+abbrev pub after_meet : ℕ → Marks → Bool → View → View
+after_meet x given won v = with_marks (marks_passing (is_given given) x) (with_add x won v)
 
 -- the marks are those whose bits were set
 abbrev pub SetsMarks : Step (Unit {0}) → SeatState → ℕ → SeatState → Type 0

@@ -3,10 +3,13 @@ ghost use Rattle.std.specs.Prelude.{◌≡◌, ◌+◌, ◌-◌, ◌<◌, ◌≤
 ghost use Rattle.std.specs.List.{All, range_with_len};
 ghost use Rattle.heap_base.specs.declared.limits.TheConstants.{MOST_WORKERS};
 ghost use Rattle.header_rule.specs.Rule.{new_view};
-ghost use Rattle.header_rule.specs.Passes.{IsPassOf, IsFresh, ArePassesOf, numbers};
+ghost use Rattle.header_rule.specs.Passes.{IsSeated, IsFresh, ArePassesOf, AreNew, numbers};
 
-use crate::headers::{HeaderTable, Headers};
+use crate::headers::Headers;
+use crate::own_words::OwnWords;
 use crate::pass::Pass;
+use crate::reach::Reach;
+use crate::shared_words::{HeaderTable, SharedWords};
 use crate::steps::{FirstSeat, OneRight};
 use crate::view::View;
 use atomic_table::Seat;
@@ -17,11 +20,9 @@ use std::alloc::Global;
 const MEETS: u64 = 1 << 51;
 
 // A table of zeroes, and the seat that has all the rights.
-fn opened(alloc: Global, cells: u32) -> Result<(HeaderTable, Seat<(), View>), OutOfMemory>
-    ensures key { IfOk result (λ t. t.0.shared.key ≡ cells) }
-    ensures words { IfOk result (λ t. t.0.shared.table_id.words ≡ cells + 1) }
-    ensures slots { IfOk result (λ t. t.0.shared.table_id.slots ≡ 0) }
-    ensures table { IfOk result (λ t. t.1.table_id ≡ t.0.shared.table_id) }
+fn opened(alloc: Global, cells: u32) -> Result<(SharedWords, Seat<(), View>), OutOfMemory>
+    ensures cells { IfOk result (λ t. t.0.cells ≡ cells) }
+    ensures table { IfOk result (λ t. t.1.table_id ≡ t.0.table.shared.table_id) }
     ensures seat { IfOk result (λ t. t.1.me ≡ (new_view 16, [])) }
 {
     let words = Vec::from_elem(alloc, 0u64, cells as usize + 1)?;
@@ -31,39 +32,84 @@ fn opened(alloc: Global, cells: u32) -> Result<(HeaderTable, Seat<(), View>), Ou
     if table.shared.swap::<FirstSeat>(&mut seat, 0, 1) != 0 {
         return Err(OutOfMemory);
     }
-    Ok((table, seat))
+    Ok((SharedWords { table, cells }, seat))
 }
 
 // The passes but the first. Each takes one right from the seat.
 fn others(
     alloc: Global,
-    headers: &Headers,
+    shared: &SharedWords,
+    workers: u32,
     seat: &mut Seat<(), View>,
 ) -> Result<Vec<Pass>, OutOfMemory>
-    requires table { seat.old.table_id ≡ headers.now.table.shared.table_id }
+    requires workers { (0 < workers) × (workers ≤ MOST_WORKERS) }
+    requires table { seat.old.table_id ≡ shared.now.table.shared.table_id }
     requires seat { seat.old.me ≡ (new_view 16, []) }
-    ensures table { OnOk result (seat.new.table_id ≡ headers.now.table.shared.table_id) }
-    ensures seat { OnOk result (seat.new.me ≡ (new_view (17 - headers.now.workers), [])) }
-    ensures passes { IfOk result (λ v. All (IsPassOf headers.now) v.items) }
-    ensures numbers { IfOk result (λ v. numbers v.items ≡ range_with_len 1 (headers.now.workers - 1)) }
+    ensures table { OnOk result (seat.new.table_id ≡ shared.now.table.shared.table_id) }
+    ensures seat { OnOk result (seat.new.me ≡ (new_view (17 - workers), [])) }
+    ensures passes { IfOk result (λ v. All (IsSeated shared.now workers) v.items) }
+    ensures numbers { IfOk result (λ v. numbers v.items ≡ range_with_len 1 (workers - 1)) }
     ensures fresh { IfOk result (λ v. All IsFresh v.items) }
 {
-    let mut passes = Vec::with_capacity(alloc, headers.workers as usize)?;
-    for number in 1..headers.workers {
-        let other = headers.table.shared.split_seat::<OneRight>(seat);
+    let mut passes = Vec::with_capacity(alloc, workers as usize)?;
+    for number in 1..workers {
+        let other = shared.table.shared.split_seat::<OneRight>(seat);
         passes.push(Pass {
-            seat: other,
+            reach: Reach::Table(other),
             number,
-            workers: headers.workers,
+            workers,
             left: MEETS,
         })?;
     }
     Ok(passes)
 }
 
+// Several passes share the words.
+fn shared_by(alloc: Global, cells: u32, workers: u32) -> Result<(Headers, Vec<Pass>), OutOfMemory>
+    requires workers { (0 < workers) × (workers ≤ MOST_WORKERS) }
+    ensures { IfOk result (λ r. AreNew cells workers r.0 r.1.items) }
+{
+    let (shared, mut seat) = opened(alloc, cells)?;
+    let mut passes = others(alloc, &shared, workers, &mut seat)?;
+    passes.insert(
+        0,
+        Pass {
+            reach: Reach::Table(seat),
+            number: 0,
+            workers,
+            left: MEETS,
+        },
+    )?;
+    let headers = Headers {
+        shared: Some(shared),
+        cells,
+        workers,
+    };
+    Ok((headers, passes))
+}
+
+// One pass has the words to itself.
+fn owned_by_one(alloc: Global, cells: u32) -> Result<(Headers, Vec<Pass>), OutOfMemory>
+    ensures { IfOk result (λ r. AreNew cells 1 r.0 r.1.items) }
+{
+    let mut passes = Vec::with_capacity(alloc, 1)?;
+    passes.push_reserved(Pass {
+        reach: Reach::Own(OwnWords::make(alloc, cells)?),
+        number: 0,
+        workers: 1,
+        left: MEETS,
+    });
+    let headers = Headers {
+        shared: None,
+        cells,
+        workers: 1,
+    };
+    Ok((headers, passes))
+}
+
 impl Headers {
     /// Words of zero for so many cells, and a pass for each of 1 to 16 workers, numbered from 0. A cell costs 8
-    /// bytes, and 8 more while `make` runs. Answers `OutOfMemory` when memory runs out.
+    /// bytes, and with several workers 8 more while `make` runs. Answers `OutOfMemory` when memory runs out.
     pub fn make(
         alloc: Global,
         cells: u32,
@@ -75,22 +121,10 @@ impl Headers {
         ensures passes { IfOk result (λ r. ArePassesOf r.0 r.1.items) }
         ensures fresh { IfOk result (λ r. All IsFresh r.1.items) }
     {
-        let (table, mut seat) = opened(alloc, cells)?;
-        let headers = Headers {
-            table,
-            cells,
-            workers,
-        };
-        let mut passes = others(alloc, &headers, &mut seat)?;
-        passes.insert(
-            0,
-            Pass {
-                seat,
-                number: 0,
-                workers,
-                left: MEETS,
-            },
-        )?;
-        Ok((headers, passes))
+        if workers == 1 {
+            owned_by_one(alloc, cells)
+        } else {
+            shared_by(alloc, cells, workers)
+        }
     }
 }

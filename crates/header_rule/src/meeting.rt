@@ -1,17 +1,24 @@
-//! A meet: one add, and one change of the marks where some are given.
+//! A meet, and a look ahead of it.
 ghost use Rattle.std.specs.Prelude.{◌≡◌, ◌+◌, ◌<◌, [], ◌∷◌, ◌++◌, if◌then◌else◌};
 ghost use Rattle.heap_base.specs.Counting.{IsOnce};
-ghost use Rattle.header_rule.specs.Passes.{adds, wins, marks, IsPassOf, IsAsBefore, marks_at};
+ghost use Rattle.header_rule.specs.Passes.{adds, wins, marks, IsPassOf, IsAsBefore, marks_at, are_shared};
 
 use crate::headers::Headers;
-use crate::layout::{bits, count};
 use crate::mark::Marks;
 use crate::pass::Pass;
-use crate::steps::{Add, ReadWord, SetMarks};
+use crate::reach::Reach;
 
 impl Headers {
-    /// Looks at the word of a cell and changes nothing. A meet that comes soon finds the word at hand: looks overlap with one
-    /// another, and each meet waits for its word by itself.
+    /// Whether several passes may reach the words, so that each meet is one atomic step and waits for its word by itself.
+    #[inline]
+    pub fn are_shared(&self) -> bool
+        ensures { result ≡ are_shared self.now }
+    {
+        self.shared.is_some()
+    }
+
+    /// Looks at the word of a cell and changes nothing, where the words are shared: a meet that comes soon finds the word at hand,
+    /// since looks overlap with one another. Where they aren't, meets overlap too, and nothing is looked at.
     #[inline]
     pub fn prefetch(&self, pass: &mut Pass, cell: u32)
         requires cell { cell < self.now.cells }
@@ -19,9 +26,12 @@ impl Headers {
         ensures pass { IsPassOf self.now pass.new }
         ensures same { IsAsBefore pass.old pass.new }
     {
-        self.table
-            .shared
-            .load::<ReadWord>(&mut pass.seat, cell as usize + 1);
+        if let Reach::Table(seat) = &mut pass.reach {
+            let Some(shared) = &self.shared else {
+                unreachable!()
+            };
+            shared.prefetch(seat, cell);
+        }
     }
 
     /// Meets a cell: adds 1 to its count and sets the marks that are given. Answers true exactly where this add
@@ -40,14 +50,16 @@ impl Headers {
         ensures marks { marks pass.new ≡ marks pass.old ++ marks_at cell given }
         ensures once { IsOnce (wins pass.new) }
     {
-        let word = cell as usize + 1;
-        let shared = &self.table.shared;
-        let found = shared.fetch_add::<Add>(&mut pass.seat, word, 1);
-        let bits = bits(given);
-        if bits != 0 {
-            shared.fetch_or::<SetMarks>(&mut pass.seat, word, bits);
-        }
+        let won = match &mut pass.reach {
+            Reach::Table(seat) => {
+                let Some(shared) = &self.shared else {
+                    unreachable!()
+                };
+                shared.meet(seat, cell, given)
+            }
+            Reach::Own(own) => own.meet(cell, given),
+        };
         pass.left -= 1;
-        count(found) == 0
+        won
     }
 }

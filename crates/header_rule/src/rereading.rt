@@ -1,14 +1,16 @@
-//! The words of headers that stay: all passes become one seat, which reads each word.
+//! The words of headers that stay: all passes become one seat, which reads each word; or the only pass gives its words.
 ghost use Rattle.std.specs.Prelude.{◌≡◌, ℕ, ◌<◌, IfOk};
 ghost use Rattle.heap_base.specs.Counting.{bit, is_positive};
 ghost use Rattle.header_rule.specs.declared.mark.Mark.{Mark};
 ghost use Rattle.header_rule.specs.ClosedWords.{count_in, has_mark_in};
-ghost use Rattle.header_rule.specs.Passes.{ArePassesOf, all_adds, all_wins, all_marks};
+ghost use Rattle.header_rule.specs.Passes.{ArePassesOf, AreAllSeats, all_adds, all_wins, all_marks};
+ghost use Rattle.header_rule.specs.Told.{TellOf};
 ghost use Rattle.header_rule.specs.Views.{TellsWord};
 
-use crate::closing::joined;
+use crate::closing::{joined, words_of_one};
 use crate::headers::Headers;
 use crate::pass::Pass;
+use crate::shared_words::SharedWords;
 use crate::steps::ReadWord;
 use crate::store::WordStore;
 use crate::view::View;
@@ -17,7 +19,7 @@ use atomic_table::Seat;
 use heap_base::OutOfMemory;
 use std::alloc::Global;
 
-impl Headers {
+impl SharedWords {
     // The word with this number, by a seat that has all the rights.
     fn read(&self, whole: &mut Seat<(), View>, word: usize) -> u64
         requires word { word < self.now.table.shared.table_id.words }
@@ -30,15 +32,10 @@ impl Headers {
         self.table.shared.load::<ReadWord>(whole, word)
     }
 
-    /// The words that `close` would give, of headers that stay: nobody meets any more, since it asks for all the
-    /// passes that `make` gave, in order. It reads each word once. Answers `OutOfMemory` when memory runs out;
-    /// the passes are let go then.
-    pub fn read_all(&self, alloc: Global, passes: Vec<Pass>) -> Result<Words, OutOfMemory>
-        requires passes { ArePassesOf self.now passes.items }
+    fn read_all(&self, alloc: Global, passes: Vec<Pass>) -> Result<Words, OutOfMemory>
+        requires { AreAllSeats self.now passes.items }
         ensures cells { IfOk result (λ w. w.cells ≡ self.now.cells) }
-        ensures counts { IfOk result (λ w. (x : ℕ) → x < self.now.cells → count_in w x ≡ all_adds x passes.items) }
-        ensures marks { IfOk result (λ w. (m : Mark) (x : ℕ) → x < self.now.cells → has_mark_in m w x ≡ is_positive (all_marks m x passes.items)) }
-        ensures wins { IfOk result (λ w. (x : ℕ) → all_wins x passes.items ≡ bit (is_positive (all_adds x passes.items))) }
+        ensures tell { IfOk result (λ w. TellOf passes.items w) }
     {
         let many = self.table.word_count();
         let mut words = Vec::with_capacity(alloc, many)?;
@@ -50,5 +47,23 @@ impl Headers {
             store: WordStore::Read(words),
             cells: self.cells,
         })
+    }
+}
+
+impl Headers {
+    /// The words that `close` would give, of headers that stay: nobody meets any more, since it asks for all the
+    /// passes that `make` gave, in order. It reads each word once. Answers `OutOfMemory` when memory runs out;
+    /// the passes are let go then.
+    pub fn read_all(&self, alloc: Global, passes: Vec<Pass>) -> Result<Words, OutOfMemory>
+        requires passes { ArePassesOf self.now passes.items }
+        ensures cells { IfOk result (λ w. w.cells ≡ self.now.cells) }
+        ensures counts { IfOk result (λ w. (x : ℕ) → x < self.now.cells → count_in w x ≡ all_adds x passes.items) }
+        ensures marks { IfOk result (λ w. (m : Mark) (x : ℕ) → x < self.now.cells → has_mark_in m w x ≡ is_positive (all_marks m x passes.items)) }
+        ensures wins { IfOk result (λ w. (x : ℕ) → all_wins x passes.items ≡ bit (is_positive (all_adds x passes.items))) }
+    {
+        match &self.shared {
+            Some(shared) => shared.read_all(alloc, passes),
+            None => Ok(words_of_one(passes, self.cells)),
+        }
     }
 }

@@ -1,9 +1,9 @@
 -- The graph of a table by cells is that of the heap by ids, under other numbers.
 use Rattle.std.proofs.Common.{◌≡◌, ℕ, zero, suc, ◌+◌, ◌<◌, ◌≤◌, Bool, true, false, ◌||◌, cond, List, [], ◌∷◌, length, map, filter, sym, refl, ap}
-use Rattle.std.proofs.Common.{◌∙◌, subst, arith, eqb, eqb-true, Option, None, Some, IsTrue}
+use Rattle.std.proofs.Common.{◌∙◌, arith, eqb, eqb-true, Option, None, Some, IsTrue}
 use Rattle.std.specs.Prelude.{AllPairs, is_some, unwrap_or, option_and_then}
 use Rattle.std.specs.List.{All, filter_map, cons_option, enumerate_from, position, flat_map}
-use Rattle.std.specs.Option.{option_map, option_map_or, IfSome}
+use Rattle.std.specs.Option.{option_map, option_map_or}
 use Rattle.std.specs.Str.{bytes_eq}
 use Rattle.std.proofs.lemmas.Bool.{false≢true}
 use Rattle.std.proofs.lemmas.Bool.Decides.{same_from_decides}

@@ -1,4 +1,5 @@
 pub mod Kits
+pub mod PassProps
 pub mod Results
 pub mod TracedCells
 pub mod TracedHeaps

@@ -1,10 +1,9 @@
 -- What is traced in a heap that stands still, by cells, and what the passes and tallies of a trace say of it.
-use Rattle.std.specs.Prelude.{◌≡◌, ℕ, ◌+◌, List, length, map, filter, Bool, true, not, ◌||◌, ◌&&◌, if◌then◌else◌, slice_index, IsTrue}
+use Rattle.std.specs.Prelude.{◌≡◌, ℕ, ◌+◌, List, length, filter, Bool, true, not, ◌||◌, ◌&&◌, if◌then◌else◌, slice_index, IsTrue}
 use Rattle.std.specs.List.{All, list_any}
 use Rattle.heap_base.specs.Counting.{bit, is_positive, total, times}
 use Rattle.graph_meaning.specs.Reach.{Graph, has_id, reached_nodes}
 use Rattle.header_rule.specs.declared.mark.Mark.TheVariants.{Found, MetByRoots}
-use Rattle.header_rule.specs.declared.pass.Pass.{Pass}
 use Rattle.header_rule.specs.Passes.{IsFresh, all_adds, all_wins, all_marks}
 use Rattle.scan_job.specs.Gains.{GainsOf}
 use Rattle.scan_job.specs.Graphs.{StoppedGraph, IsWhole, is_under_owners, is_found_from}

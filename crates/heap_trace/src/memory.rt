@@ -3,6 +3,7 @@ ghost use Rattle.std.specs.Prelude.{◌≡◌, ℕ, ◌<◌, ◌≤◌, [], leng
 ghost use Rattle.std.specs.List.{All};
 ghost use Rattle.heap_base.specs.declared.limits.TheConstants.{MOST_OBJECTS, MOST_WORKERS};
 ghost use Rattle.header_rule.specs.Passes.{ArePassesOf};
+ghost use Rattle.heap_trace.specs.PassProps.{pass_props};
 ghost use Rattle.heap_trace.specs.TracedCells.{IsNewFor};
 ghost use Rattle.scan_job.specs.States.{passes_of};
 
@@ -22,7 +23,7 @@ pub struct TraceMemory {
     pub passes: Vec<Pass>,
     /// 0 of each type.
     pub tally: Tally,
-    ghost pass_each: { ArePassesOf headers (passes_of jobs.items) },
+    ghost pass_each: { ArePassesOf headers (passes_of jobs.items) } by { Prim.hlevel pass_props },
     ghost new_jobs: { All (IsNewFor headers.cells (length tally)) jobs.items },
     ghost some_jobs: { 0 < length jobs.items },
     ghost few_jobs: { length jobs.items ≤ MOST_WORKERS },

@@ -47,14 +47,14 @@ impl<'a> Job<ScanShared<'a>> for ScanJob {
 }
 
 impl ScanJob {
-    // Looks at the words of what the edges of an object lead to, where there are so many that most lie far away.
+    // Looks at the words of what the edges of an object lead to, where there are so many that most lie far away and a meet waits for its word.
     fn prefetch_targets(&mut self, shared: &ScanShared<'_>, edges: &Edges<'_>)
         requires ready { IsReady self.old shared.now }
         requires edges { (cell : ℕ) × AreEdgesAt shared.now.table.now cell edges.now }
         ensures ready { IsReady self.new shared.now }
         ensures same { IsSameJob self.old self.new }
     {
-        if self.cells <= NEAR_CELLS {
+        if self.cells <= NEAR_CELLS || !shared.headers.are_shared() {
             return;
         }
         for slot in 0..edges.len() {

@@ -7,19 +7,19 @@ use Rattle.header_rule.specs.declared.view.View.{View}
 use Rattle.header_rule.specs.declared.pass.Pass.{Pass}
 use Rattle.header_rule.specs.Rule.{KeepsRule, new_view}
 use Rattle.header_rule.specs.Steps.{one_right_less}
-use Rattle.header_rule.specs.Passes.{IsPassOf, IsFresh, numbers}
+use Rattle.header_rule.specs.Passes.{IsSeated, IsFresh, numbers}
 use Rattle.header_rule.proofs.Moves.{splits}
 use Rattle.header_rule.proofs.Sharing.{range-push}
 use Rattle.header_rule.proofs.making.others.Goals as goal
 
 pub split_seat-other-requires : goal.split_seat-other-requires
 split_seat-other-requires c =
-    let h = c.args.headers.now in
+    let h = c.args.shared.now in
     let n : ℕ = c.loop-number.number in
     let key : ℕ = h.table.shared.key in
     let id : ℕ = c.loop-number.seat.id in
     let sized = h.sized in
-    let few = h.shared.1 in
+    let few = c.requires.workers.1 in
     let test = c.loop-number-test.true in
     let some_right : 0 < 17 - n = omega arith in (
       c.loop-number.invariant.table,
@@ -29,7 +29,7 @@ split_seat-other-requires c =
 
 pub loop-number-preserved : goal.loop-number-preserved
 loop-number-preserved c =
-    let h = c.args.headers.now in
+    let h = c.args.shared.now in
     let n : ℕ = c.loop-number.number in
     let split = c.split_seat-other.ensures in
     let inv = c.loop-number.invariant in
@@ -40,7 +40,7 @@ loop-number-preserved c =
     record {
       table = split.0 ∙ inv.table;
       seat = split.2 ∙ (λ i. (one_right_less (inv.seat i).0, (inv.seat i).1)) ∙ ap (λ (r : ℕ). (new_view r, [])) (omega arith);
-      passes = All-same (IsPassOf h) _ _ items (All-push (IsPassOf h) old _ inv.passes (split.3 ∙ inv.table, refl));
+      passes = All-same (IsSeated h c.args.workers) _ _ items (All-push (IsSeated h c.args.workers) old _ inv.passes (split.3 ∙ inv.table, refl));
       numbers =
           ap numbers items
           ∙ (map-append (λ (p : Pass). p.number) old (_ ∷ [])

@@ -1,24 +1,5 @@
-use Rattle.std.proofs.Common.{arith, sym, refl, ap, ◌∙◌}
-use Rattle.heap_base.specs.Counting.{bit, is_positive}
-use Rattle.header_rule.proofs.Whole.{tells_all}
+use Rattle.header_rule.proofs.Sharing.{all_seats}
 use Rattle.header_rule.proofs.headers.Headers.close.Goals as goal
 
-pub invariant_of-result : goal.invariant_of-result
-invariant_of-result c =
-    let counts = c.close_with-closed.ensures.counts in
-    let sized = c.args.self.sized in
-    omega arith
-
-pub returns : goal.returns
-returns c =
-    let h = c.args.self in
-    let seat = c.joined-seat.result in
-    let joined = c.joined-seat.ensures in
-    let all = tells_all h.table.shared.key seat.id seat.me.0 _ _ joined.rights c.close_with-closed.ensures.values.2 in
-    let keyed = h.keyed in
-    record {
-      cells = refl;
-      counts = λ x within. all.counts x (omega arith) ∙ joined.adds x;
-      marks = λ m x within. all.marks m x (omega arith) ∙ ap is_positive (joined.marks m x);
-      wins = λ x. sym (joined.wins x) ∙ (all.wins x ∙ ap (λ n. bit (is_positive n)) (joined.adds x));
-    }
+pub close-requires : goal.close-requires
+close-requires c = all_seats c.args.self c.args.passes.items c.in-Some.shared c.in-Some.is c.requires.passes

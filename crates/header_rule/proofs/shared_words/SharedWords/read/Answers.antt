@@ -1,6 +1,6 @@
 use Rattle.std.proofs.Common.{◌≤◌, arith}
 use Rattle.header_rule.proofs.Whole.{reads_word}
-use Rattle.header_rule.proofs.headers.Headers.read.Goals as goal
+use Rattle.header_rule.proofs.shared_words.SharedWords.read.Goals as goal
 
 pub load-requires : goal.load-requires
 load-requires c =

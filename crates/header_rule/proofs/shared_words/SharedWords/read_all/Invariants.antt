@@ -1,7 +1,7 @@
 use Rattle.std.proofs.Common.{◌≡◌, ℕ, ◌<◌, slice_index}
 use Rattle.std.specs.Prelude.{vec_len}
 use Rattle.header_rule.specs.Views.{TellsWord}
-use Rattle.header_rule.proofs.headers.Headers.read_all.Given as goal
+use Rattle.header_rule.proofs.shared_words.SharedWords.read_all.Given as goal
 
 abbrev pub invariant-loop-word : goal.invariant-loop-word
 invariant-loop-word l = record {
