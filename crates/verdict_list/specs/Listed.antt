@@ -1,5 +1,6 @@
 -- How a list of verdicts goes on, and by what its paths are shown.
-use Rattle.std.specs.Prelude.{◌≡◌, ℕ, ◌+◌, ◌*◌, List, ◌++◌, map, Bool, true, false, IfSome, unwrap_or, slice_get, option_map}
+use Rattle.std.specs.Prelude.{◌≡◌, ℕ, ◌+◌, ◌*◌, ◌<◌, ◌≤◌, List, ◌++◌, length, map, All, Bool, true, false, Some, IfSome, IsSome, unwrap_or, slice_get, option_map}
+use Rattle.heap_base.specs.Counting.{IsOnce}
 use Rattle.heap_base.specs.declared.limits.TheConstants.{MOST_OBJECTS, MOST_KINDS}
 use Rattle.graph_meaning.specs.declared.collection.Verdict.{Verdict}
 use Rattle.graph_meaning.specs.declared.paths.Shown.{Shown}
@@ -9,18 +10,19 @@ use Rattle.graph_meaning.specs.Heap.{Heap}
 use Rattle.graph_meaning.specs.Assertions.{references}
 use Rattle.graph_meaning.specs.Paths.{reference_way, shown_path}
 use Rattle.graph_meaning.specs.Roles.{RoleTable, id_at}
-use Rattle.object_table.specs.Placed.{PlacedTable}
+use Rattle.object_table.specs.Placed.{PlacedTable, id_in}
 use Rattle.assert_registry.specs.Assertions.{owner_of}
 use Rattle.assert_registry.specs.Laws.{StandFor}
 use Rattle.object_paths.specs.PlainPaths.{ArePlainLevels}
 use Rattle.reference_search.specs.References.{AreFirstOf}
 use Rattle.ownee_check.specs.Ownership.{AreViolating}
 use Rattle.verdict_list.specs.declared.instances.KindCount.{KindCount}
+use Rattle.verdict_list.specs.declared.listing.FirstViolations.{FirstViolations}
 use Rattle.verdict_list.specs.declared.ownees.CheckedTable.{CheckedTable}
 use Rattle.verdict_list.specs.declared.shown_paths.PlainPaths.{PlainPaths}
 use Rattle.verdict_list.specs.declared.unshared.SharedObjects.{SharedObjects}
-use Rattle.verdict_list.specs.Counts.{CountTable, counted_in}
-use Rattle.verdict_list.specs.Kinds.{named_count}
+use Rattle.verdict_list.specs.Counts.{CountTable, counted_in, most_first_verdicts}
+use Rattle.verdict_list.specs.Kinds.{named_count, IsSeenIn, TellOf}
 
 -- there is one verdict at most of each object for each of three assertions, and of each type
 abbrev pub most_verdicts : ℕ
@@ -44,6 +46,22 @@ GoesOn paths old verdicts new = (before : List Verdict) → old ≡ first_with_p
 abbrev pub first_verdicts : (ℕ → ℕ) → Heap → List Verdict
 first_verdicts count h =
     (map (dead_verdict h) (violating_dead h) ++ map (instances_verdict h) (violating_kinds h)) ++ map (unshared_verdict count h) (violating_unshared h)
+
+-- What violates stands in the table, each shared object once, and no more of it than there are verdicts at most.
+pub record StandIn (p : PlacedTable) (found : FirstViolations) : Type 0 where
+  pub dead : All (λ cell. IsSome (id_in p cell)) found.dead.now
+  pub kinds : All (IsSeenIn p) found.kinds.now
+  pub unshared : All (λ cell. IsSome (id_in p cell)) found.unshared.now
+  pub once : IsOnce found.unshared.now
+  pub few : length found.dead.now + length found.kinds.now + length found.unshared.now ≤ most_first_verdicts
+
+-- This is all that violates the heap's assertions but those of owners, in order. The types tell their first objects past the limit where
+-- so many paths are more than there are objects asserted dead.
+pub record AreFirstViolations (p : PlacedTable) (h : Heap) (paths : ℕ) (found : FirstViolations) : Type 0 where
+  pub dead : map (id_in p) found.dead.now ≡ map Some (violating_dead h)
+  pub kinds : map (named_count p) found.kinds.now ≡ violating_kinds h
+  pub tell : TellOf p h (length found.dead.now < paths) found.kinds.now
+  pub unshared : map (id_in p) found.unshared.now ≡ map Some (violating_unshared h)
 
 -- all verdicts with what was counted, of which so many of the first carry their paths
 abbrev pub verdicts_in : PlacedTable → CountTable → ℕ → Heap → List Verdict

@@ -1,18 +1,23 @@
 //! The verdicts on types over their limit.
+ghost use Rattle.graph_meaning.specs.Collecting.{violating_kinds};
 ghost use Rattle.graph_meaning.specs.Heap.{Heap};
 ghost use Rattle.graph_meaning.specs.Paths.{plain_way, shown_path};
 ghost use Rattle.graph_meaning.specs.Roles.{AreRolesOf, RoleTable};
+ghost use Rattle.heap_base.specs.declared.limits.TheConstants.{MOST_KINDS};
 ghost use Rattle.object_paths.specs.PlainPaths.{ArePlainLevels};
 ghost use Rattle.object_table.specs.Placed.{id_in};
-ghost use Rattle.std.specs.Prelude.{◌≡◌, ◌<◌, ◌+◌, ◌^◌, ℕ, true, None, Some, length, map, All, IsSome, IfSome, IfOk, OnOk, option_and_then, slice_index, slice_index_or};
+ghost use Rattle.std.specs.Prelude.{◌≡◌, ◌<◌, ◌≤◌, ◌+◌, ◌^◌, ℕ, true, None, Some, length, map, All, IsSome, IfSome, IfOk, OnOk, option_and_then, slice_index, slice_index_or};
 ghost use Rattle.verdict_list.specs.Counts.{CountsHeap};
-ghost use Rattle.verdict_list.specs.Kinds.{IsOverLimit, IsCountedBy, IsSeenIn, SaysOf, HasFirst, TellOf};
+ghost use Rattle.verdict_list.specs.Kinds.{named_count, IsOverLimit, IsCountedBy, IsSeenIn, SaysOf, HasFirst, TellOf};
 ghost use Rattle.verdict_list.specs.Listed.{instances_at, path_if, verdict_if, GoesOn, ShowsPaths};
 
 use crate::counts::{CountedHeap, HeapCounts};
-use crate::shown_paths::{PlainPaths, plain_path};
+use crate::over_limit::over_limit;
+use crate::past_limit::past_limits;
+use crate::shown_paths::{PlainPaths, plain_path, shows_some};
 use graph_meaning::{Roles, Shown, Verdict, VerdictList};
 use heap_base::OutOfMemory;
+use reference_search::TracedTable;
 use std::alloc::Global;
 
 /// A type over its limit.
@@ -64,8 +69,8 @@ fn limit_of(roles: &Roles, kind: u32) -> u32
     }
 }
 
-/// The counts of these types, with their first objects past the limit from these places.
-pub(crate) fn kind_counts<T: HeapCounts>(
+// The counts of these types, with their first objects past the limit from these places.
+fn kind_counts<T: HeapCounts>(
     alloc: Global,
     counted: &CountedHeap<'_, T>,
     kinds: &[u32],
@@ -90,6 +95,30 @@ pub(crate) fn kind_counts<T: HeapCounts>(
             first: at_kind(places, kind),
         })?;
     }
+    Ok(counts)
+}
+
+/// The types over their limit, by name, as they are counted. So many of them may show their paths.
+pub(crate) fn counted_kinds<T: HeapCounts>(
+    alloc: Global,
+    counted: &CountedHeap<'_, T>,
+    paths: usize,
+) -> Result<Vec<KindCount>, OutOfMemory>
+    requires roles { AreRolesOf counted.now.table.now.cells (length counted.now.table.now.table.kinds) counted.now.roles.now }
+    requires counts { (h : Heap) × CountsHeap counted.now.table.now counted.now.roles.now (T.counts counted.now.counts.now) h }
+    ensures few { IfOk result (λ counts. length counts.items ≤ MOST_KINDS) }
+    ensures seen { IfOk result (λ counts. All (IsSeenIn counted.now.table.now) counts.items) }
+    ensures kinds { let c = counted.now in IfOk result (λ counts. (h : Heap) → CountsHeap c.table.now c.roles.now (T.counts c.counts.now) h → map (named_count c.table.now) counts.items ≡ violating_kinds h) }
+    ensures tell { let c = counted.now in IfOk result (λ counts. (h : Heap) → CountsHeap c.table.now c.roles.now (T.counts c.counts.now) h → TellOf c.table.now h (0 < paths) counts.items) }
+{
+    let kinds = over_limit(alloc, counted)?;
+    let traced = TracedTable {
+        table: counted.table,
+        roles: counted.roles,
+        kept: counted.counts.kept(),
+    };
+    let places = past_limits(alloc, traced, shows_some(paths, kinds.len()))?;
+    let counts = kind_counts(alloc, counted, &kinds, &places)?;
     Ok(counts)
 }
 

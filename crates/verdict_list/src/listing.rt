@@ -3,17 +3,15 @@ ghost use Rattle.graph_meaning.specs.Collecting.{first_with_paths};
 ghost use Rattle.graph_meaning.specs.Heap.{Heap};
 ghost use Rattle.graph_meaning.specs.Roles.{AreRolesOf};
 ghost use Rattle.ownee_check.specs.Ownership.{AreViolating};
-ghost use Rattle.std.specs.Prelude.{◌≡◌, ◌<◌, ◌≤◌, [], true, length, IfOk};
+ghost use Rattle.std.specs.Prelude.{◌≡◌, ◌<◌, ◌≤◌, [], length, IfOk};
 ghost use Rattle.verdict_list.specs.Counts.{CountsHeap, counted_in, most_first_verdicts};
-ghost use Rattle.verdict_list.specs.Listed.{first_verdicts, most_verdicts, verdicts_in};
+ghost use Rattle.verdict_list.specs.Listed.{AreFirstViolations, StandIn, first_verdicts, most_verdicts, verdicts_in};
 
 use crate::counts::{CountedHeap, HeapCounts};
 use crate::dead::push_dead;
-use crate::instances::{kind_counts, push_instances};
-use crate::over_limit::over_limit;
+use crate::instances::{KindCount, counted_kinds, push_instances};
 use crate::ownees::{CheckedTable, push_ownees};
-use crate::past_limit::past_limits;
-use crate::shown_paths::{PlainPaths, plain_levels};
+use crate::shown_paths::{PlainPaths, plain_levels, shows_some};
 use crate::unshared::{LastPaths, SharedObjects, push_unshared, references_of};
 use crate::violating::{Assertion, violators};
 use graph_meaning::VerdictList;
@@ -22,13 +20,6 @@ use ownee_check::OwnershipCheck;
 use reference_search::TracedTable;
 use std::alloc::Global;
 
-// Whether one of so many verdicts shows its path, where so many may.
-fn shows_some(most: usize, verdicts: usize) -> bool
-    ensures { 0 < most → 0 < verdicts → result ≡ true }
-{
-    most > 0 && verdicts > 0
-}
-
 // No verdict, and room for so many, so that a long list is not copied as it grows.
 fn with_room(alloc: Global, verdicts: usize) -> Result<VerdictList, OutOfMemory>
     requires { verdicts ≤ most_first_verdicts }
@@ -36,6 +27,62 @@ fn with_room(alloc: Global, verdicts: usize) -> Result<VerdictList, OutOfMemory>
 {
     let mut list = VerdictList::empty(alloc);
     list.reserve(verdicts as u32)?;
+    Ok(list)
+}
+
+// What violates the assertions of a heap but those of owners: the cells of what is asserted dead, the types over their limit, and the
+// cells of what is asserted unshared.
+#[derive(Clone, Copy)]
+pub(crate) struct FirstViolations<'a> {
+    pub(crate) dead: &'a [u32],
+    pub(crate) kinds: &'a [KindCount],
+    pub(crate) unshared: &'a [u32],
+}
+
+// The verdicts on these.
+fn verdicts_on<T: HeapCounts>(
+    alloc: Global,
+    counted: &CountedHeap<'_, T>,
+    found: FirstViolations<'_>,
+    paths: u32,
+) -> Result<VerdictList, OutOfMemory>
+    requires roles { AreRolesOf counted.now.table.now.cells (length counted.now.table.now.table.kinds) counted.now.roles.now }
+    requires counts { (h : Heap) × CountsHeap counted.now.table.now counted.now.roles.now (T.counts counted.now.counts.now) h }
+    requires found { StandIn counted.now.table.now found }
+    ensures verdicts { let c = counted.now in let t = T.counts c.counts.now in IfOk result (λ v. (h : Heap) → CountsHeap c.table.now c.roles.now t h → AreFirstViolations c.table.now h paths found.entry → v ≡ first_with_paths paths (first_verdicts (counted_in c.table.now t) h)) }
+    ensures few { IfOk result (λ v. length v ≤ most_first_verdicts) }
+{
+    let shown = paths as usize;
+    let before = found.dead.len() + found.kinds.len();
+    let shows_plain = shows_some(shown, before + found.unshared.len());
+    let levels = plain_levels(alloc, counted.table, counted.roles, shows_plain)?;
+    let traced = TracedTable {
+        table: counted.table,
+        roles: counted.roles,
+        kept: counted.counts.kept(),
+    };
+    let left = shown.saturating_sub(before);
+    let references = references_of(alloc, traced, found.unshared, left)?;
+    let mut list = with_room(alloc, before + references.len())?;
+    let plain = PlainPaths {
+        alloc,
+        table: counted.table,
+        levels: &levels,
+        most: paths,
+    };
+    push_dead(&mut list, plain, found.dead)?;
+    push_instances(&mut list, plain, found.kinds)?;
+    let shared = SharedObjects {
+        cells: found.unshared,
+        references: &references,
+    };
+    let last = LastPaths {
+        alloc,
+        table: counted.table,
+        levels,
+        most: paths,
+    };
+    push_unshared(&mut list, last, counted.counts, shared)?;
     Ok(list)
 }
 
@@ -51,44 +98,15 @@ fn first_verdicts<T: HeapCounts>(
     ensures few { IfOk result (λ v. length v ≤ most_first_verdicts) }
 {
     let dead = violators(alloc, counted, Assertion::Dead)?;
-    let kinds = over_limit(alloc, counted)?;
+    let left = (paths as usize).saturating_sub(dead.len());
+    let kinds = counted_kinds(alloc, counted, left)?;
     let unshared = violators(alloc, counted, Assertion::Unshared)?;
-    let shown = paths as usize;
-    let before = dead.len() + kinds.len();
-    let shows_plain = shows_some(shown, before + unshared.len());
-    let levels = plain_levels(alloc, counted.table, counted.roles, shows_plain)?;
-    let shows_kinds = shows_some(shown.saturating_sub(dead.len()), kinds.len());
-    let traced = TracedTable {
-        table: counted.table,
-        roles: counted.roles,
-        kept: counted.counts.kept(),
+    let found = FirstViolations {
+        dead: &dead,
+        kinds: &kinds,
+        unshared: &unshared,
     };
-    let places = past_limits(alloc, traced, shows_kinds)?;
-    let counts = kind_counts(alloc, counted, &kinds, &places)?;
-    // there is room for the verdicts then
-    std::mem::drop(places);
-    std::mem::drop(kinds);
-    let references = references_of(alloc, traced, &unshared, shown.saturating_sub(before))?;
-    let mut list = with_room(alloc, before + references.len())?;
-    let plain = PlainPaths {
-        alloc,
-        table: counted.table,
-        levels: &levels,
-        most: paths,
-    };
-    push_dead(&mut list, plain, &dead)?;
-    push_instances(&mut list, plain, &counts)?;
-    let shared = SharedObjects {
-        cells: &unshared,
-        references: &references,
-    };
-    let last = LastPaths {
-        alloc,
-        table: counted.table,
-        levels,
-        most: paths,
-    };
-    push_unshared(&mut list, last, counted.counts, shared)?;
+    let list = verdicts_on(alloc, counted, found, paths)?;
     Ok(list)
 }
 

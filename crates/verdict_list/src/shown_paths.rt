@@ -5,7 +5,7 @@ ghost use Rattle.graph_meaning.specs.Roles.{AreRolesOf, RoleTable, id_at};
 ghost use Rattle.object_paths.specs.PlainPaths.{ArePlainLevels};
 ghost use Rattle.object_table.specs.Placed.{id_in};
 ghost use Rattle.std.specs.Option.{option_map};
-ghost use Rattle.std.specs.Prelude.{◌≡◌, true, length, IfOk, IsSome, IfSome, Option};
+ghost use Rattle.std.specs.Prelude.{◌≡◌, ◌<◌, true, length, IfOk, IsSome, IfSome, Option};
 ghost use Rattle.verdict_list.specs.Listed.{path_if, ShowsPaths};
 
 use graph_meaning::{PathView, Roles, Shown, ShownPath};
@@ -21,6 +21,13 @@ pub(crate) struct PlainPaths<'a> {
     pub(crate) table: &'a ObjectTable,
     pub(crate) levels: &'a Option<PlainLevels>,
     pub(crate) most: u32,
+}
+
+/// Whether one of so many verdicts shows its path, where so many may.
+pub(crate) fn shows_some(most: usize, verdicts: usize) -> bool
+    ensures { 0 < most → 0 < verdicts → result ≡ true }
+{
+    most > 0 && verdicts > 0
 }
 
 /// The levels of plain paths, where they are wanted.

@@ -37,6 +37,9 @@ bounds-kept-cell c =
     let (id, held, at) = nth (goal.at.bounds-kept-cell c).After-nth_cell-cell in
     omega (arith, held-within c.args.traced.table.now c.nth_cell-cell.result id held, c.requires.kept)
 
+pub kind_at-kind-requires : goal.kind_at-kind-requires
+kind_at-kind-requires c = let (id, held, at) = nth (goal.at.kind_at-kind-requires c).After-nth_cell-cell in record { taken = ap is_some held }
+
 -- the object's type is one of the table's
 module _ (c : After-kind_at-kind) where
   in_range : c.kind_at-kind.result < length c.args.traced.table.now.table.kinds
