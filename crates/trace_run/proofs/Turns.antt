@@ -1,19 +1,23 @@
 -- What one line of a trace does to a run.
-use Rattle.std.proofs.Common.{◌≡◌, ℕ, ◌≤◌, List, Bool, false, Option, sym, subst}
+use Rattle.std.proofs.Common.{◌≡◌, ℕ, ◌≤◌, ◌++◌, List, Bool, false, Option, refl, sym, ◌∙◌, ap, subst}
 use Rattle.std.specs.Io.KnownBytes.{Appends}
 use Rattle.std.proofs.KnownBytes.{Appends-trans}
+use Rattle.heap_base.specs.Causes.{Rose}
+use Rattle.heap_base.specs.Sinks.{AppendsPart}
 use Rattle.heap_base.specs.Streams.{Stream}
 use Rattle.heap_base.specs.declared.status.Status.{Status}
 use Rattle.heap_base.specs.declared.status.Status.TheVariants.{Clean, Violated, TraceFault, ReadFault, WriteFault, NoMemory, Usage}
 use Rattle.graph_meaning.specs.declared.refusal.Refusal.{Refusal}
+use Rattle.report.specs.declared.writing.WriteError.{WriteError}
+use Rattle.report.specs.declared.writing.WriteError.TheVariants.{WriteFailed, OutOfMemory}
 use Rattle.trace_reader.specs.Meaning.{Item, refused}
 use Rattle.trace_run.specs.declared.taken.LastText.{LastText}
 use Rattle.trace_run.specs.declared.turn.Flow.{Flow}
-use Rattle.trace_run.specs.Program.{ProgramMeaning, Last, IsLast, Effect, halts, takes_item, RunResult, halted, refused_line, by_effect, ends_so, behind, report_on}
+use Rattle.trace_run.specs.Program.{ProgramMeaning, Last, IsLast, Effect, halts, takes_item, Report, RunResult, halted, refused_line, by_effect, ends_so, behind, report_on}
 use Rattle.trace_run.specs.Outcome.{sink_change}
-use Rattle.trace_run.specs.Turn.{EndsRun, TakesLine, line_effect}
+use Rattle.trace_run.specs.Turn.{EndsRun, TakesLine, line_effect, status_of_error}
 use Rattle.trace_run.proofs.Runs.{report_on-text}
-use Rattle.report.proofs.Pieces.{AppendsPart-behind}
+use Rattle.report.proofs.Pieces.{AppendsPart-behind, AppendsPart-longer}
 use Rattle.trace_run.proofs.Endings.{Rose-earlier}
 
 pub Appends-as : (old new : Option (List ℕ)) (text text' : List ℕ) → text ≡ text' → Appends old new text → Appends old new text'
@@ -31,6 +35,20 @@ EndsRun-behind at_end sink mid sink' front r WriteFault before later ends =
 EndsRun-behind at_end sink mid sink' front r NoMemory before later ends =
     AppendsPart-behind _ _ _ front _ _ (report_on-text front r) before ends
 EndsRun-behind at_end sink mid sink' front r Usage before later ends = absurd ends
+
+ends-part : (sink sink' : Stream) (d : Report) (error : WriteError) → AppendsPart sink.bytes sink'.bytes d.text → (error ≡ WriteFailed → Rose sink.faults sink'.faults) →
+    EndsRun false (sink_change sink sink') d (status_of_error error)
+ends-part sink sink' d WriteFailed part failed = (failed refl, part)
+ends-part sink sink' d OutOfMemory part failed = part
+
+-- the text that was due was not written whole
+pub ends-failed : (sink sink' : Stream) (text : List ℕ) (ran rest : RunResult) (error : WriteError) (status : Status) → ran ≡ behind text rest → status ≡ status_of_error error →
+    AppendsPart sink.bytes sink'.bytes text → (error ≡ WriteFailed → Rose sink.faults sink'.faults) → EndsRun false (sink_change sink sink') (report_on ran) status
+ends-failed sink sink' text ran rest error status is same part failed =
+    let whole : (report_on ran).text ≡ text ++ (report_on rest).text = ap (λ (r : RunResult). (report_on r).text) is ∙ report_on-text text rest in
+    let longer = AppendsPart-longer sink.bytes sink'.bytes text (report_on rest).text part in
+    subst (λ (s : Status). EndsRun false (sink_change sink sink') (report_on ran) s) (sym same)
+    (ends-part sink sink' (report_on ran) error (subst (λ (t : List ℕ). AppendsPart sink.bytes sink'.bytes t) (sym whole) longer) failed)
 
 -- the text that was due was written, and the run halts
 pub ends-halted : {State : Type 0} (effect : Effect State) (line : ℕ) (sink mid sink' : Stream) (text : List ℕ) (last : Last) (found : LastText) (status : Status) →

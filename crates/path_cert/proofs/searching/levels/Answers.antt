@@ -2,12 +2,12 @@ use Rattle.std.proofs.Common.{ℕ, false, length, map, sym, ap, subst, get_or}
 use Rattle.graph_meaning.specs.Paths.{ways_from}
 use Rattle.graph_meaning.specs.Roles.{id_at}
 use Rattle.path_cert.specs.declared.start.Start.{Start}
-use Rattle.path_cert.specs.declared.start.Start.TheVariants.{Owners}
+use Rattle.path_cert.specs.declared.start.Start.TheVariants.{Owners, Roots}
 use Rattle.path_cert.specs.Levels.{LevelTable, AreLevelsOf, search_of, sources_of, is_new}
 use Rattle.path_cert.specs.Frontiers.{HasTaken, FrontGrows}
 use Rattle.path_cert.specs.Fronts.{front_of}
 use Rattle.path_cert.proofs.ByIds.{by_id-held, owners-held}
-use Rattle.path_cert.proofs.FirstLevel.{nothing-arrived}
+use Rattle.path_cert.proofs.FirstLevel.{nothing-arrived, taken-nothing}
 use Rattle.path_cert.proofs.LevelSteps.{at-first}
 use Rattle.path_cert.proofs.searching.levels.Goals as goal
 use Rattle.path_cert.proofs.searching.levels.Goals.{in-Roots, in-Owners}
@@ -43,3 +43,6 @@ returns c =
     record {
       levels = subst (λ (l : LevelTable). AreLevelsOf p s l) (sym c.of.ensures) (c.take_levels.ensures.levels s by_cell begun);
     }
+
+pub take_roots-requires-clause-nothing : goal.take_roots-requires-clause-nothing
+take_roots-requires-clause-nothing c = taken-nothing c.args.table.now Roots c.cells.result (front_of c.in_ok-search.search) c.cells.ensures.count c.in_ok-search.ensures.arrivals

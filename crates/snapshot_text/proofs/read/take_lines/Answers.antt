@@ -5,7 +5,7 @@ use Rattle.snapshot_text.specs.Bounds.{IsBounded}
 use Rattle.snapshot_text.specs.Lines.{line_in}
 use Rattle.snapshot_text.specs.Table.{take_said}
 use Rattle.snapshot_text.specs.Reading.{meaning_from}
-use Rattle.snapshot_text.proofs.Bounded.{bounded_nothing, bounded_said}
+use Rattle.snapshot_text.proofs.Bounded.{bounded_nothing, bounded_said, ended_few, ended_rising}
 use Rattle.snapshot_text.proofs.Meanings.{line_breaks, line_taken, bytes_left, not_ended, is_whole_text}
 use Rattle.snapshot_text.proofs.read.take_lines.Goals as goal
 use Rattle.snapshot_text.proofs.read.take_lines.Goals.{then-not-is_empty-via-then-not-is_empty, then-not-is_empty-via-else-not-is_empty+then-not-is_ended}
@@ -48,3 +48,19 @@ pub returns-clause-meaning : goal.returns-clause-meaning
 returns-clause-meaning c =
     let none : length c.loop-n.rest.now ≡ 0 = eqb-true (length c.loop-n.rest.now) 0 (sym c.is_empty.ensures ∙ c.if-not-is_empty.false) in
     is_whole_text c.args.bytes.now c.loop-n.lines c.loop-n.assembly c.loop-n.rest.now c.loop-n.invariant.meaning none (sym c.is_ended.ensures ∙ c.if-not-is_ended.false)
+
+pub returns-clause-few : goal.returns-clause-few
+returns-clause-few c = ended_few c.loop-n.assembly (sym c.is_ended.ensures ∙ c.if-not-is_ended.false) c.loop-n.invariant.bounded
+
+pub returns-clause-rising : goal.returns-clause-rising
+returns-clause-rising c = ended_rising c.loop-n.assembly (sym c.is_ended.ensures ∙ c.if-not-is_ended.false) c.loop-n.invariant.bounded
+
+pub loop-n-smaller : goal.loop-n-smaller
+loop-n-smaller c =
+    let there : c.in-Some.n < length c.loop-n.rest.now = c.in-Some.ensures.there in omega (arith, ap length c.behind-rest.ensures, length-drop (c.in-Some.n + 1) c.loop-n.rest.now)
+
+pub overflow_add-lines : goal.overflow_add-lines
+overflow_add-lines c = omega (arith, c.loop-n.invariant.count, c.requires.few)
+
+pub overflow_add-result : goal.overflow_add-result
+overflow_add-result c = omega (arith, c.loop-n.invariant.count, c.requires.few)

@@ -87,3 +87,19 @@ returns-then-not-is_empty-clause-rows g t c = λ b h. (
     (padded_with_value x c.lend_from_each.new.taker) ss
     (rows_cross b (padded_value x) c.lend_to_each.new.giver c.lend_from_each.new.taker (map key_in qs) ss (length rest) rows.0 lent
     c.lend_from_each.ensures.got (sym marks) later))
+
+pub lend_to_each-requires-clause-give : goal.lend_to_each-requires-clause-give
+lend_to_each-requires-clause-give g t c =
+    let at = (goal.at.lend_to_each-requires-clause-give g t c).After-deref_mut-first in
+    let k = length c.args.places.now - 1 in
+    let first = (subst (AllPlaces (CanLend k)) (front_is (split g t at) c.index-head-0.result) c.requires.give).0 in
+    subst (λ n. CanLend n c.deref_mut-first.result.now) (rest_length g t at) (subst (CanLend k) (sym c.deref_mut-first.ensures.value) first)
+
+pub lend_from_each-requires-clause-get : goal.lend_from_each-requires-clause-get
+lend_from_each-requires-clause-get g t c =
+    let at = (goal.at.lend_from_each-requires-clause-get g t c).After-deref_mut-first in
+    let k = length c.args.places.now - 1 in
+    let first = (subst (AllPlaces (CanReceive k)) (front_is (split g t at) c.index-head-0.result) c.requires.get).0 in
+    let n : k ≡ length c.lend_to_each.new.takers = rest_length g t at ∙ sym (each_length _ _ _ _ c.lend_to_each.ensures.got) in
+    subst (CanReceive (length c.lend_to_each.new.takers)) (sym c.lend_to_each.ensures.given.0)
+    (subst (λ m. CanReceive m c.deref_mut-first.result.now) n (subst (CanReceive k) (sym c.deref_mut-first.ensures.value) first))

@@ -4,8 +4,8 @@ use Rattle.crossbeam_utils.specs.Padded.{padded_with_value}
 use Rattle.heap_base.specs.Counting.{total}
 use Rattle.steal_pool.specs.Lanes.{own_hand}
 use Rattle.steal_pool.specs.Victims.{total_took}
-use Rattle.steal_pool.specs.Loans.{HandKey, hand_key, key_in, keys_of, CanTakeBack, own_took}
-use Rattle.steal_pool.proofs.LoanLemmas.{IsSplit, AllPlaces, front_is, headed}
+use Rattle.steal_pool.specs.Loans.{HandKey, hand_key, key_in, keys_of, CanTakeBack, OnlyTakesBack, ReturnsHands, own_took}
+use Rattle.steal_pool.proofs.LoanLemmas.{IsSplit, AllPlaces, EachBecomes, front_is, headed}
 use Rattle.steal_pool.proofs.returning.+give_back_to_each.Goals as goal
 use Rattle.steal_pool.proofs.returning.+give_back_to_each.Goals.{After-deref_mut-first}
 
@@ -49,3 +49,30 @@ returns-then-not-is_empty-clause-sum g t c = λ h. (
     (λ xs ys. total (own_took h) ys + total_took h c.take_back.new.giver.others.items ≡ total (own_took h) xs + total_took h c.args.giver.now.others.items)
     cut c.index-head-0.result (padded_with_value x c.take_back.new.owner) c.give_back_to_each.new.owners
     (omega arith))
+
+pub take_back-requires-clause-join : goal.take_back-requires-clause-join
+take_back-requires-clause-join g t c =
+    let e = front_is (split g t (goal.at.take_back-requires-clause-join g t c).After-deref_mut-first) c.index-head-0.result in
+    subst (CanTakeBack 1) (sym c.deref_mut-first.ensures.value) (subst (AllPlaces (CanTakeBack 1)) e c.requires.join).0
+
+pub returns-then-not-is_empty-clause-joined : goal.returns-then-not-is_empty-clause-joined
+returns-then-not-is_empty-clause-joined g t c =
+    let cut = split g t (goal.at.returns-then-not-is_empty-clause-joined g t c).After-deref_mut-first in
+    let first = padded_with_value (slice_index_or c.split_at_mut-head.result.0.now 0 c.index-head-0.result) c.take_back.new.owner in
+    let joined = subst (λ u. OnlyTakesBack 1 u c.take_back.new.owner) c.deref_mut-first.ensures.value c.take_back.ensures.joined in
+    headed (EachBecomes (OnlyTakesBack 1)) cut c.index-head-0.result first c.give_back_to_each.new.owners (joined, c.give_back_to_each.ensures.joined)
+
+pub returns-then-not-is_empty-clause-returned : goal.returns-then-not-is_empty-clause-returned
+returns-then-not-is_empty-clause-returned g t c =
+    let e = front_is (split g t (goal.at.returns-then-not-is_empty-clause-returned g t c).After-deref_mut-first) c.index-head-0.result in
+    let x = slice_index_or c.split_at_mut-head.result.0.now 0 c.index-head-0.result in
+    let ms = map key_in c.split_at_mut-head.result.1.now in
+    let new = c.take_back.new.giver in
+    let a = c.give_back_to_each.ensures.returned in
+    let b = subst (λ u. ReturnsHands (hand_key u.lane ∷ []) c.give_back_to_each.new.giver new) c.deref_mut-first.ensures.value c.take_back.ensures.returned in
+    subst (λ xs. ReturnsHands (map key_in xs) c.args.giver.now new) (sym e)
+    (record {
+      rest = b.rest ∙ (λ i. record (a.rest i) { others = new.others });
+      left = a.left ∙ (ap (λ ns. ns ++ ms) b.left ∙ append_assoc (keys_of new) (key_in x ∷ []) ms);
+      space = b.space ∙ a.space;
+    })

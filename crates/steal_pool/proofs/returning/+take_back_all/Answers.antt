@@ -135,3 +135,13 @@ returns-then-not-is_empty-clause-sum g t c = λ h. (
     ap (λ u. total h (own_hand u.lane).took) c.give_back_to_each.ensures.returned.rest in
     headed (λ xs ys. total (all_took h) ys ≡ total (all_took h) xs) (split g t (goal.at.returns-then-not-is_empty-clause-sum g t c).After-deref_mut-first)
     c.index-head-0.result (padded_with_value x c.give_back_to_each.new.giver) ss (omega arith))
+
+pub take_back_from_each-requires-clause-join : goal.take_back_from_each-requires-clause-join
+take_back_from_each-requires-clause-join g t c =
+    let e = front_is (split g t (goal.at.take_back_from_each-requires-clause-join g t c).After-deref_mut-first) c.index-head-0.result in
+    let k = length c.args.places.now - 1 in
+    let o = ap length e in
+    let l = each_length _ _ _ _ c.take_back_all.ensures.each in
+    let n : k ≡ length c.take_back_all.new.places = omega arith in
+    let first = (subst (AllPlaces (CanTakeBack k)) e c.requires.join).0 in
+    subst (λ j. CanTakeBack j c.deref_mut-first.result.now) n (subst (CanTakeBack k) (sym c.deref_mut-first.ensures.value) first)

@@ -75,3 +75,10 @@ returns-then-not-is_empty-clause-sum g t c = λ h. (
     (λ xs ys. total h (own_hand c.take_back_from_each.new.owner.lane).took + total (others_took h) ys ≡ total h (own_hand c.args.owner.now.lane).took + total (others_took h) xs)
     cut c.index-head-0.result (padded_with_value x c.take_back.new.giver) c.take_back_from_each.new.givers
     (omega arith))
+
+pub take_back-requires-clause-join : goal.take_back-requires-clause-join
+take_back-requires-clause-join g t c =
+    let o = ap length (front_is (split g t (goal.at.take_back-requires-clause-join g t c).After-deref_mut-first) c.index-head-0.result) in
+    let can = c.requires.join in
+    let space = can.space in
+    record { space = omega arith; kin = can.kin }

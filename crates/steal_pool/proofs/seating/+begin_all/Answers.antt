@@ -61,3 +61,15 @@ returns-then-not-is_empty g t c =
       subst (λ u. Begins M c.args.shared.now (opening u (slice_index_or fs c.args.number [])) c.begin_place.new.place) c.deref_mut-place.ensures.value begins,
       c.begin_all.ensures,
     ))
+
+pub begin_all-requires-clause-lists : goal.begin_all-requires-clause-lists
+begin_all-requires-clause-lists g t c =
+    let o = ap length (front_is (split g t (goal.at.begin_all-requires-clause-lists g t c).After-deref_mut-place) c.index-head-0.result) in
+    let lists = c.requires.lists in
+    omega arith
+
+pub of-requires : goal.of-requires
+of-requires g t c =
+    let o = ap length (front_is (split g t (goal.at.of-requires g t c).After-deref_mut-place) c.index-head-0.result) in
+    let lists = c.requires.lists in
+    omega arith

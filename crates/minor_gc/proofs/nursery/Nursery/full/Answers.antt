@@ -1,5 +1,6 @@
-use Rattle.std.proofs.Common.{◌≡◌, ◌≤◌, length, false, refl, ◌∙◌, arith}
+use Rattle.std.proofs.Common.{◌≡◌, ◌≤◌, length, false, refl, ap, ◌∙◌, arith}
 use Rattle.std.specs.Vec.{vec_capacity}
+use Rattle.std.proofs.lemmas.List.{length-replicate}
 use Rattle.minor_gc.specs.Generations.{kept_by_full}
 use Rattle.minor_gc.specs.Nurseries.{NurseryParts, generations_of}
 use Rattle.minor_gc.specs.Searches.{marks_of}
@@ -103,3 +104,20 @@ forget-requires-clause-live c =
 pub overflow_cast-remembered : goal.overflow_cast-remembered
 overflow_cast-remembered c =
     omega (arith, c.len-remembered.ensures, c.self.inside.remembered.ok.0, few_remembered (sound c), c.live-live.ensures.count)
+
+pub take_roots-requires : goal.take_roots-requires
+take_roots-requires c = record {
+  placed = c.cells.ensures.placed;
+  each = ap length c.clear.ensures.marks ∙ length-replicate (length c.self.inside.search.marks.items) false ∙ c.self.invariant.each_mark;
+}
+
+pub drop_cells-requires : goal.drop_cells-requires
+drop_cells-requires c = c.run.ensures.done
+
+pub keep-requires-clause-each : goal.keep-requires-clause-each
+keep-requires-clause-each c =
+    ap length c.deref-2.ensures.value ∙ c.run.ensures.each ∙ c.take_roots.ensures.each ∙ ap length c.clear.ensures.marks
+    ∙ length-replicate (length c.self.inside.search.marks.items) false ∙ c.self.invariant.each_mark
+
+pub forget-requires-clause-each : goal.forget-requires-clause-each
+forget-requires-clause-each c = c.self.invariant.each_count

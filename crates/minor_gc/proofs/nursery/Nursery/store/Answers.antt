@@ -1,4 +1,4 @@
-use Rattle.std.proofs.Common.{◌≡◌, ℕ, Bool, set, get_or, None, refl, sym, ap, ◌∙◌, arith}
+use Rattle.std.proofs.Common.{◌≡◌, ℕ, length, Bool, set, get_or, None, IsSome, refl, sym, ap, subst, ◌∙◌, arith}
 use Rattle.std.specs.Prelude.{nat_lt}
 use Rattle.std.specs.List.{count_by}
 use Rattle.std.specs.Result.{result_err}
@@ -7,7 +7,7 @@ use Rattle.std.proofs.lemmas.Bool.{lt-ltb}
 use Rattle.std.proofs.lemmas.List.{get_or_read}
 use Rattle.heap_base.specs.Counting.{bit}
 use Rattle.graph_meaning.specs.Heap.{Table, targets}
-use Rattle.minor_gc.specs.Generations.{is_young}
+use Rattle.minor_gc.specs.Generations.{Generations, is_young}
 use Rattle.minor_gc.specs.Nurseries.{NurseryParts, generations_of}
 use Rattle.minor_gc.proofs.Inside.{parts_in}
 use Rattle.minor_gc.proofs.Stored.{SlotStore, StoredParts, Stores, StoresInOld, Recounts, has_slot, slot_before, slot_after, slot_was, slot_now, stored_young, stored_old}
@@ -34,6 +34,18 @@ invariant_of-self-then-number-self c =
       room = omega arith;
     } in
     stored_young stores (lt-ltb c.self.inside.old_up_to c.args.at (omega (arith, c.if-number-self.true, c.number.ensures.value))) refl refl
+
+-- a table with the age that is old still
+abbrev aged : ℕ → Table → Generations
+aged old_up_to table = record { table = table; old_up_to = old_up_to }
+
+pub returns-then-number-self : goal.returns-then-number-self
+returns-then-number-self c =
+    rw (← c.self.view_is) (record {
+      refused = sym c.in_ok-store.ensures.refused;
+      stored = ap (aged c.self.inside.old_up_to) c.in_ok-store.ensures.stored;
+      err = tt;
+    })
 
 pub returns-in_default-clause-refused : goal.returns-in_default-clause-refused
 returns-in_default-clause-refused c =
@@ -124,3 +136,24 @@ invariant_of-self-2 c =
       list = λ ids was is rise has same was_at. c.recount.ensures.list ids was is rise has same (was_at ∙ ap (nat_lt 0) (sym (read b)));
     } in
     stored_old stores (old b) recounts
+
+pub holds_young-before-requires : goal.holds_young-before-requires
+holds_young-before-requires c = record {
+  placed = c.cells-cells.ensures.placed;
+  each = ap length c.deref.ensures.value ∙ c.self.invariant.each_mark;
+  cell = subst IsSome (sym c.in-Some.ensures.cell) refl;
+}
+
+pub holds_young-after-requires-clause-each : goal.holds_young-after-requires-clause-each
+holds_young-after-requires-clause-each c = ap length c.deref-2.ensures.value ∙ c.self.invariant.each_mark ∙ sym (ap length c.store-2.ensures.cells)
+
+pub holds_young-after-requires-clause-cell : goal.holds_young-after-requires-clause-cell
+holds_young-after-requires-clause-cell c = subst IsSome (sym (ap (λ l. get_or l c.in-Some.cell None) c.store-2.ensures.cells ∙ c.in-Some.ensures.cell)) refl
+
+pub returns : goal.returns
+returns c =
+    rw (← c.self.view_is) (record {
+      refused = sym c.in_ok-store-2.ensures.refused;
+      stored = ap (aged c.self.inside.old_up_to) c.in_ok-store-2.ensures.stored;
+      err = tt;
+    })

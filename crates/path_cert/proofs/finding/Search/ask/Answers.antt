@@ -1,8 +1,9 @@
 use Rattle.std.proofs.Common.{Bool, List, ◌∷◌, [], ◌++◌, map, take, get_or, sym, ap, ◌∙◌, arith}
-use Rattle.std.proofs.lemmas.List.{map-append, take_more}
+use Rattle.std.proofs.lemmas.List.{map-append, take_all, take_more}
 use Rattle.path_cert.specs.Finds.{finds_in}
 use Rattle.path_cert.specs.Quests.{Quest}
 use Rattle.path_cert.specs.Searches.{sought_in}
+use Rattle.path_cert.proofs.HeldObjects.{held-id, held-within}
 use Rattle.path_cert.proofs.QuestSteps.{searching-begin, searching-next, searching-held, followed, met-finds}
 use Rattle.path_cert.proofs.finding.Search.ask.Goals as goal
 
@@ -52,3 +53,30 @@ loop-ownee-preserved c =
           ∙ sym (map-append finds (take i ownees) (ownee ∷ []))
           ∙ sym (ap (map finds) (take_more ownees i 0 c.loop-ownee-test.true));
     }
+
+pub seek-requires : goal.seek-requires
+seek-requires c = record {
+  each = c.loop-ownee.invariant.each ∙ c.requires.each;
+  placed = c.cells-cells.ensures.placed;
+  roles = c.requires.roles;
+  ownee =
+      (let held = held-id c.args.quest.table.now _ (c.requires.ownees c.loop-ownee.ownee-index 0 c.loop-ownee-test.true) in
+      held-within c.args.quest.table.now _ _ held);
+  work = c.loop-ownee.invariant.held;
+}
+
+pub returns : goal.returns
+returns c = record {
+  each = c.loop-ownee.invariant.each;
+  found =
+      c.loop-ownee.invariant.found
+      ∙ ap (map (finds_in c.args.quest.table.now c.args.quest.roles.now c.args.quest.owner)) (take_all c.loop-ownee.ownee-index c.args.ownees.now c.loop-ownee-test.false);
+}
+
+pub follow-requires : goal.follow-requires
+follow-requires c = record {
+  each = c.begin.ensures.each ∙ c.requires.each;
+  placed = c.cells-cells.ensures.placed;
+  roles = c.requires.roles.many_cells;
+  cell = c.requires.owner;
+}

@@ -57,3 +57,11 @@ returns-clause-arrivals c =
     let rest = length-drop c.args.from c.args.self.now.order.items in
     let all = take_all (c.loop-place.place - c.args.from) (drop c.args.from c.args.self.now.order.items) (omega arith) in
     subst (λ ys. AreByObjects r ys f.arrivals c.loop-place.self.arrivals) all c.loop-place.invariant.arrivals
+
+pub take_object-requires-clause-cell : goal.take_object-requires-clause-cell
+take_object-requires-clause-cell c =
+    let p = c.args.table.now in
+    let g = front_of c.loop-place.self in
+    let longer = order-within p (front_of c.args.self.now) g c.loop-place.invariant.grows in
+    let inside : c.loop-place.place < length c.loop-place.self.order.items = omega arith in
+    order-held p c.args.level g c.loop-place.place c.index-cell.result.now c.loop-place.invariant.safe inside c.index-cell.ensures

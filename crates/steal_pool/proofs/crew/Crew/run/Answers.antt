@@ -2,7 +2,7 @@ use Rattle.std.proofs.Common.{arith, ◌≡◌, List, length, vec_len, subst, sy
 use Rattle.std.specs.List.{All}
 use Rattle.crossbeam_utils.specs.Padded.{padded_value}
 use Rattle.steal_pool.specs.Needs.{CanRun}
-use Rattle.steal_pool.specs.Rests.{IsAtRest}
+use Rattle.steal_pool.specs.Rests.{IsAtRest, IsEmpty}
 use Rattle.steal_pool.specs.Runs.{Workload}
 use Rattle.steal_pool.proofs.ListLemmas.{take_front}
 use Rattle.steal_pool.proofs.crew.Crew.run.Goals as goal
@@ -46,3 +46,9 @@ invariant_of-self-clause-rest g c =
     let n = vec_len c.args.self.now.places in
     subst (λ xs. All (λ p. IsAtRest n room (padded_value p)) xs) (sym (take_front n new _ (c.run_on.ensures.count ∙ len)))
     (subst (λ k. All (λ p. IsAtRest k room (padded_value p)) new) len c.run_on.ensures.rest)
+
+pub returns-clause-empty : goal.returns-clause-empty
+returns-clause-empty g c =
+    let ran = c.run_on.ensures in
+    subst (λ xs. All (λ p. IsEmpty (padded_value p)) xs) (sym (take_front (vec_len c.args.self.now.places) c.run_on.new.places _ (ran.count ∙ c.as_mut_slice.ensures.len)))
+    (λ k d l. (ran.rest k d l).1)

@@ -60,3 +60,23 @@ loop-line-preserved g c =
           (sym gives.line) taken.1 taken.2 c.take_told.ensures.later;
       grown = (let grown = is.grown in let before = c.loop-line.invariant.grown in omega (arith, grown, before));
     }
+
+pub overflow_add-place : goal.overflow_add-place
+overflow_add-place g c =
+    let text = c.text-text.result.now in
+    let all : All (IsReadOf text) c.lines-line-items.result.now = rw c.text-text.ensures c.lines-line-items.ensures.read in
+    let read : IsReadOf text c.line-item.result = subst (IsReadOf text) (sym c.line-item.is) (all c.loop-line.line-index c.line-item.result c.loop-line-test.true) in
+    let there = read.first.there in
+    let low = c.if-line-place.false in
+    let high = c.if-line-place-2.false in
+    omega (arith, there, low, high, length-drop c.line-item.result.from text)
+
+pub overflow_add-place-in-loop-line : goal.overflow_add-place-in-loop-line
+overflow_add-place-in-loop-line g c =
+    let text = c.text-text.result.now in
+    let all : All (IsReadOf text) c.lines-line-items.result.now = rw c.text-text.ensures c.lines-line-items.ensures.read in
+    let read : IsReadOf text c.line-item.result = subst (IsReadOf text) (sym c.line-item.is) (all c.loop-line.line-index c.line-item.result c.loop-line-test.true) in
+    let there = read.first.there in
+    let low = c.if-line-place.false in
+    let high = c.if-line-place-2.false in
+    omega (arith, there, low, high, length-drop c.line-item.result.from text)
