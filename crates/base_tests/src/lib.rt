@@ -1,6 +1,8 @@
-//! The tests of the crates that heaps aren't needed for: names, numbers, sources and sinks; the plain types that
-//! travel between layers; the generator; and the words of the command line.
+//! The tests of the lowest crate, of what no contract says: how often a reader or a writer of std is called, and what errors are
+//! printed as.
 #![tactic(auto)]
 
 #[cfg(test)]
-mod tests;
+mod devices;
+#[cfg(test)]
+mod errors;

@@ -1,9 +1,18 @@
 //! Sources and sinks over std's readers and writers, call by call.
 
-use super::memory::four_reads;
 use heap_base::{Failed, Sink, Source, StdSink, StdSource, put_all};
 use std::cell::Cell;
 use std::io;
+
+// How many bytes each read gives, of four reads into a buffer of four bytes, and 9 where a read fails.
+fn four_reads<S: Source>(source: &mut S) -> [usize; 4] {
+    let mut counts = [0; 4];
+    let mut into = [0; 4];
+    for count in counts.iter_mut() {
+        *count = source.read(&mut into).unwrap_or(9);
+    }
+    counts
+}
 
 #[test]
 fn a_reader_of_std_is_adapted(rt: HostRuntime) {

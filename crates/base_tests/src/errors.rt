@@ -1,0 +1,11 @@
+//! What errors are printed as.
+
+use heap_base::{Failed, OutOfMemory};
+use std::test::Fail;
+
+#[test]
+fn errors_are_printed(rt: HostRuntime) -> Result<(), Fail> {
+    let text = format!(in rt.alloc(); "{Failed}; {OutOfMemory}")?;
+    assert_eq!(rt; text.as_str(), "a read or a write failed; out of memory");
+    Ok(())
+}

@@ -1,7 +1,0 @@
-mod devices;
-mod generated;
-mod lists;
-mod memory;
-mod numbers;
-mod shown;
-mod words;
