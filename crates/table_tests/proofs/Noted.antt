@@ -28,14 +28,6 @@ module _ (last : ℕ) where
   upto-finish regions thread upto =
       All-set (All (All (λ id. id ≤ last))) regions thread (drop 1 (regions_of regions thread)) (All-drop (All (λ id. id ≤ last)) 1 (regions_of regions thread) (upto-of regions thread upto)) upto
 
-  pub upto-keep : (p : ℕ → Bool) (regions : List (List (List ℕ))) → AreUpTo last regions → AreUpTo last (map (map (filter p)) regions)
-  upto-keep p regions upto =
-      All-map (All (All (λ id. id ≤ last))) (map (filter p)) regions
-      (All-weaker (All (All (λ id. id ≤ last))) (λ rs. All (All (λ id. id ≤ last)) (map (filter p) rs))
-      (λ rs each. All-map (All (λ id. id ≤ last)) (filter p) rs
-      (All-weaker (All (λ id. id ≤ last)) (λ ids. All (λ id. id ≤ last) (filter p ids)) (λ ids all. All-filter p (λ id. id ≤ last) ids all) rs each))
-      regions upto)
-
   pub upto-above : (regions : List (List (List ℕ))) (thread id : ℕ) → last < id → AreUpTo last regions → IsAbove id (regions_of regions thread)
   upto-above regions thread id above upto =
       All-weaker (All (λ other. other ≤ last)) (All (λ other. other < id))
