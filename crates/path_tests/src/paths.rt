@@ -6,7 +6,7 @@ ghost use Rattle.object_table.specs.Placed.{slots_in, slot_in};
 ghost use Rattle.path_cert.specs.Levels.{AreLevelsIn};
 ghost use Rattle.std.specs.Prelude.{◌<◌, length, IfSome, IsSome};
 
-use graph_meaning::{PathFrom, PathView, Roles, is_path};
+use graph_meaning::{PathFrom, PathStep, PathView, Roles, StepList, is_path};
 use heap_base::OutOfMemory;
 use object_paths::PlainLevels;
 use object_table::ObjectTable;
@@ -263,18 +263,46 @@ fn each_call_gives_its_path(rt: HostRuntime) -> Result<(), Fail> {
 
 // ---- levels, and the view of a heap
 
-// Whether a path leads through what is shown of the heap.
-fn leads(table: &ObjectTable, path: &PathView) -> Result<bool, OutOfMemory> {
-    Ok(is_path(&table.view()?, path))
+// The two steps of a path, of which the second goes by this slot.
+fn with_second_slot(alloc: Global, path: &PathView, slot: u32) -> Result<StepList, Fail> {
+    if path.steps.len() != 2 {
+        return Err("the path has not two steps".into());
+    }
+    let (first, second) = (path.steps.at(0), path.steps.at(1));
+    let mut steps = StepList::empty(alloc);
+    steps.push(PathStep {
+        slot: first.slot,
+        id: first.id,
+        kind: first.kind.copy()?,
+    })?;
+    steps.push(PathStep {
+        slot,
+        id: second.id,
+        kind: second.kind.copy()?,
+    })?;
+    Ok(steps)
 }
 
-// The level of object 4, and whether its path leads through what is shown of the heap.
-fn level_and_path_by(found: &Levels, table: &ObjectTable) -> Result<(Option<u32>, bool), Fail>
+// Whether a path leads through what is shown of the heap, and whether it does where its second step goes by another slot.
+fn leads(alloc: Global, table: &ObjectTable, path: PathView, slot: u32) -> Result<[bool; 2], Fail> {
+    let view = table.view()?;
+    let leads = is_path(&view, &path);
+    let steps = with_second_slot(alloc, &path, slot)?;
+    let other = PathView { steps, ..path };
+    Ok([leads, is_path(&view, &other)])
+}
+
+// The level of object 4, and whether its path leads through what is shown of the heap, as it is and by slot 0 of its second object.
+fn level_and_path_by(
+    alloc: Global,
+    found: &Levels,
+    table: &ObjectTable,
+) -> Result<(Option<u32>, [bool; 2]), Fail>
     requires { AreLevelsIn table.now found.now }
 {
     let last = cell(table, 4).ok_or("object 4 isn't live")?;
     let path = found.path(table, last)?.ok_or("no path leads there")?;
-    Ok((found.level(last), leads(table, &path)?))
+    Ok((found.level(last), leads(alloc, table, path, 0)?))
 }
 
 // The same, by the levels from the roots.
@@ -282,19 +310,19 @@ fn level_and_path(
     alloc: Global,
     table: &ObjectTable,
     roles: &Roles,
-) -> Result<(Option<u32>, bool), Fail>
+) -> Result<(Option<u32>, [bool; 2]), Fail>
     requires { AreRolesOf table.now.cells (length table.now.table.kinds) roles.now }
 {
     let shut = flags(alloc, table, &[], true)?;
     let found = levels(alloc, table, roles, Start::Roots, shut.as_slice())?;
-    level_and_path_by(&found, table)
+    level_and_path_by(alloc, &found, table)
 }
 
 fn level_and_path_in(
     alloc: Global,
     table: &ObjectTable,
     heap: SampleHeap<'_>,
-) -> Result<(Option<u32>, bool), Fail> {
+) -> Result<(Option<u32>, [bool; 2]), Fail> {
     let roles = roles_in(alloc, table, heap)?;
     level_and_path(alloc, table, &roles)
 }
@@ -302,14 +330,14 @@ fn level_and_path_in(
 fn level_and_path_in_heap(
     alloc: Global,
     heap: SampleHeap<'_>,
-) -> Result<(Option<u32>, bool), Fail> {
+) -> Result<(Option<u32>, [bool; 2]), Fail> {
     let table = table_of(alloc, heap)?;
     level_and_path_in(alloc, &table, heap)
 }
 
 #[test]
-fn a_level_counts_the_references_of_a_path(rt: HostRuntime) -> Result<(), Fail> {
+fn a_path_leads_by_its_slots_and_by_no_others(rt: HostRuntime) -> Result<(), Fail> {
     let answer = level_and_path_in_heap(rt.alloc(), DIAMOND)?;
-    assert_eq!(rt; answer, (Some(3), true));
+    assert_eq!(rt; answer, (Some(3), [true, false]));
     Ok(())
 }
