@@ -1,6 +1,5 @@
 //! The cells of a table's objects, by their ids.
 ghost use Rattle.std.specs.Prelude.{◌≡◌, ◌<◌, length, IfSome, IfOk, IsSome};
-ghost use Rattle.graph_meaning.specs.Roles.{id_at};
 ghost use Rattle.object_table.specs.Placed.{id_in};
 
 use heap_base::{ObjId, OutOfMemory};
@@ -17,19 +16,6 @@ pub fn cell(table: &ObjectTable, object: u32) -> Option<u32>
         Some(cell)
     } else {
         None
-    }
-}
-
-/// The id of the object in a cell, and 0 where the cell is empty or none of the table's.
-pub fn id_or_zero(table: &ObjectTable, cell: u32) -> u32
-    ensures { result ≡ id_at table.now.cells cell }
-{
-    if cell >= table.cells() {
-        return 0;
-    }
-    match table.id_at(cell) {
-        Some(id) => id.number(),
-        None => 0,
     }
 }
 

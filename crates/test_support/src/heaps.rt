@@ -52,7 +52,7 @@ fn add_objects(
     Ok(())
 }
 
-pub(crate) fn fill_slots(table: &mut ObjectTable, stores: &[(u32, u32, u32)]) -> Result<(), Fail> {
+fn fill_slots(table: &mut ObjectTable, stores: &[(u32, u32, u32)]) -> Result<(), Fail> {
     for (at, slot, to) in stores {
         table.store(id(*at)?, *slot, Some(id(*to)?))?;
     }

@@ -8,8 +8,8 @@ mod heaps;
 mod host;
 mod names;
 
-pub use apart::{cells_used_again, table_apart};
-pub use cells::{cell, flags, id_or_zero};
+pub use apart::table_apart;
+pub use cells::{cell, flags};
 pub use gates::{Hold, Holding, UNTIL_BOTH_BEGIN, UntilOneIsStolen, Watch, until_many_are_begun};
 pub use heaps::{SampleHeap, registry_of, roles_in, roles_of, table_of};
 pub use host::Host;
