@@ -366,7 +366,7 @@ SHORT = [
     "without reading",
     "2 workers",
     "4 workers",
-    "plain Rust's 2, 4",
+    "4 / plain Rust's 4",
     "Peak MB",
     "/ plain Rust's",
 ]
@@ -398,12 +398,12 @@ def compare(traces, plain, options):
 
 
 def short_row(name, lines, found):
-    """By the clock: the times with 2 and 4 workers are parts of that with one."""
+    """By the clock: the times with 2 and 4 workers are parts of that with one, and those with 4 of plain Rust's with 4."""
     ours, its = found.ours, found.its
     with_reading, _, without, _ = found.ratios(0)
-    gains = [[share(run.clock, runs[0].clock) for run in runs[1:]] for runs in (ours, its)]
+    gains = [share(run.clock, ours[0].clock) for run in ours[1:]]
     peaks = (f"{ours[0].peak:.1f}", share(ours[0].peak, its[0].peak))
-    return (name, f"{lines:,}", f"{ours[0].clock:.2f}", with_reading, without, *gains[0], ", ".join(gains[1]), *peaks)
+    return (name, f"{lines:,}", f"{ours[0].clock:.2f}", with_reading, without, *gains, share(ours[-1].clock, its[-1].clock), *peaks)
 
 
 def grow(traces, plain, options):
