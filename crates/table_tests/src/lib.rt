@@ -1,5 +1,5 @@
-//! The tests of the crates that a heap is made of, of what neither a contract nor a report shows: what a region has before it ends, and
-//! the cells that a sweep leaves.
+//! The tests of the crates that a heap is made of: what a region has before it ends, which no program asks for, and how many cells a sweep
+//! leaves, which no contract says.
 #![tactic(auto)]
 
 #[cfg(test)]

@@ -9,7 +9,7 @@ use std::process::Abort;
 use std::test::Fail;
 use test_support::id;
 
-/// The thread with this number.
+// The thread with this number.
 fn thread(n: u32) -> Result<ThreadNo, Fail> {
     Ok(ThreadNo::of(n).ok_or("not a thread")?)
 }
