@@ -10,7 +10,7 @@ import weakref
 from collections import deque
 from typing import Any, Callable, Dict, List, NamedTuple, Optional, Tuple, Union
 
-from gcaudit_trace.names import cut, legal_name
+from gcaudit_trace.traces.names import cut, legal_name
 
 # A label, or the index of an element; and what is held there. The label WEAK says that it is held weakly.
 Label = Union[str, int]

@@ -15,7 +15,8 @@ import pytest
 
 from gcaudit_trace import TraceError
 
-from .recorder import HeapViolation, Recorder
+from .recorder import Recorder
+from .violation import HeapViolation
 
 
 def pytest_addoption(parser):

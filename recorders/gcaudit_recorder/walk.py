@@ -5,9 +5,10 @@ from array import array
 from bisect import bisect_right
 from typing import Any, Callable, Dict, Iterable, Iterator, List, Optional, Set, Tuple
 
-from gcaudit_trace.growth import Counts
-from gcaudit_trace.paths import Holder, is_between, named_holder
-from gcaudit_trace.writer import MOST_OBJECTS, TraceError
+from gcaudit_trace import TraceError
+from gcaudit_trace.graphs.paths import Holder, is_between, named_holder
+from gcaudit_trace.reports.growth import Counts
+from gcaudit_trace.traces.limits import MOST_OBJECTS
 
 from .contents import LONG_TEXT, PLAIN, PROXIES, WEAK, Label, Shape, contents, object_name, shape_of, size_of
 

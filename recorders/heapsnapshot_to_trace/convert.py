@@ -8,8 +8,11 @@ from operator import floordiv, mod
 from typing import BinaryIO, Dict, Iterator, List, Set, Tuple
 
 from gcaudit_trace import TraceError
-from gcaudit_trace.dumps import DumpFile, Progress, Wishes, output_of, say_left_out
-from gcaudit_trace.passing import LeftOut
+from gcaudit_trace.dumps.command import say_left_out
+from gcaudit_trace.dumps.options import Wishes
+from gcaudit_trace.dumps.output import DumpFile, output_of
+from gcaudit_trace.graphs.left_out import LeftOut
+from gcaudit_trace.progress import Progress
 
 from .reader import Reader, read_members
 

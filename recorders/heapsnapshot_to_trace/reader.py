@@ -4,7 +4,7 @@ import re
 from typing import Any, BinaryIO, Callable, Dict, Iterator, List, Optional, Set
 
 from gcaudit_trace import TraceError
-from gcaudit_trace.command import Progress
+from gcaudit_trace.progress import Progress
 
 PIECE = 1 << 20
 LONGEST_TEXT = 400

@@ -6,8 +6,11 @@ from itertools import chain
 from typing import BinaryIO, Dict, Iterable, Iterator, List, NamedTuple, Set, Tuple
 
 from gcaudit_trace import TraceError
-from gcaudit_trace.dumps import DumpFile, Progress, Wishes, output_of, say_left_out
-from gcaudit_trace.passing import LeftOut
+from gcaudit_trace.dumps.command import say_left_out
+from gcaudit_trace.dumps.options import Wishes
+from gcaudit_trace.dumps.output import DumpFile, output_of
+from gcaudit_trace.graphs.left_out import LeftOut
+from gcaudit_trace.progress import Progress
 
 from .codes import Codes
 from .reader import (CLASS, INSTANCE, OBJECT, OBJECT_ARRAY, PRIMITIVE_ARRAY, PRIMITIVES, ROOTS, SIZES, ClassDump, Dump, Root)

@@ -4,7 +4,7 @@ import struct
 from typing import BinaryIO, Dict, Iterator, List, NamedTuple, Tuple
 
 from gcaudit_trace import TraceError
-from gcaudit_trace.command import Progress
+from gcaudit_trace.progress import Progress
 
 OBJECT = 2
 SIZES = {4: 1, 5: 2, 6: 4, 7: 8, 8: 1, 9: 2, 10: 4, 11: 8}

@@ -19,7 +19,7 @@ from unittest import mock
 from tests.support import PROGRAM, PROGRAMS, RECORDERS, SNAPSHOTS, InFolder, events, needs_commands, needs_program
 
 from gcaudit_trace import audit
-from gcaudit_trace.command import Progress
+from gcaudit_trace.progress import Progress
 from heapsnapshot_to_trace.__main__ import main as heapsnapshot_to_trace
 from hprof_to_trace.__main__ import main as hprof_to_trace
 
@@ -227,9 +227,9 @@ class Java(DumpTests, InFolder):
         os.unlink(dump)
 
     def test_more_objects_than_gcaudit_takes(self):
-        from gcaudit_trace import dumps
-        self.addCleanup(setattr, dumps, "MOST_OBJECTS", dumps.MOST_OBJECTS)
-        dumps.MOST_OBJECTS = 1000
+        from gcaudit_trace.dumps import options
+        self.addCleanup(setattr, options, "MOST_OBJECTS", options.MOST_OBJECTS)
+        options.MOST_OBJECTS = 1000
         status, said = run(hprof_to_trace, self.leak, self.path("none.jsonl"))
         self.assertEqual(status, 2)
         self.assertRegex(said, r"\d+ objects would be kept, and gcaudit takes 1000; leave some out .* Most are of: java\.lang\.String \d+")
@@ -555,7 +555,7 @@ class ProgressLines(unittest.TestCase):
     def said(self, is_terminal):
         said, now = io.StringIO(), [100.0]
         said.isatty = lambda: is_terminal
-        with contextlib.redirect_stderr(said), mock.patch("gcaudit_trace.command.time.monotonic", lambda: now[0]):
+        with contextlib.redirect_stderr(said), mock.patch("gcaudit_trace.progress.time.monotonic", lambda: now[0]):
             progress = Progress("reader")
             for seconds, done in ((0.5, 1), (0.5, 2), (0.9, 3), (0.1, 4), (5, 5)):
                 now[0] += seconds
@@ -574,7 +574,8 @@ class ProgressLines(unittest.TestCase):
 
 class Commands(unittest.TestCase):
     def test_help(self):
-        for module in ("gcaudit_trace", "hprof_to_trace", "heapsnapshot_to_trace"):
+        for module in ("gcaudit_trace", *("gcaudit_trace.commands." + name for name in ("named", "summary", "growth", "view")), "hprof_to_trace",
+                       "heapsnapshot_to_trace"):
             done = subprocess.run([sys.executable, "-m", module, "--help"], cwd=RECORDERS, stdout=subprocess.PIPE)
             self.assertEqual(done.returncode, 0)
             self.assertIn(b"usage: ", done.stdout)

@@ -11,8 +11,8 @@ from tests.support import PROGRAM, RECORDERS, SNAPSHOTS, InFolder, needs_command
 
 GUIDE = os.path.join(os.path.dirname(RECORDERS), "docs", "GUIDE.md")
 PYTEST = python_with("pytest")
-MODULES = {"gcaudit-named": "gcaudit_trace", "gcaudit-view": "gcaudit_trace.view", "gcaudit-growth": "gcaudit_trace.growth",
-           "gcaudit-summary": "gcaudit_trace.summary", "hprof_to_trace": "hprof_to_trace", "heapsnapshot_to_trace": "heapsnapshot_to_trace"}
+MODULES = {"gcaudit-named": "gcaudit_trace", "gcaudit-view": "gcaudit_trace.commands.view", "gcaudit-growth": "gcaudit_trace.commands.growth",
+           "gcaudit-summary": "gcaudit_trace.commands.summary", "hprof_to_trace": "hprof_to_trace", "heapsnapshot_to_trace": "heapsnapshot_to_trace"}
 END = "@@end of a command"
 LIMIT = 900     # seconds for a section; nothing in it waits by the clock, so a busy machine only takes longer
 

@@ -6,10 +6,10 @@ import unittest
 from tests.support import PROGRAM, InFolder, needs_program
 
 from gcaudit_trace import TraceError, audit
-from gcaudit_trace.dominators import kept_alone
-from gcaudit_trace.heap import heaps
-from gcaudit_trace.paths import Holder, Tree, label_shape, named_holder, path_shape
-from gcaudit_trace.report import Path, Step
+from gcaudit_trace.graphs.dominators import kept_alone
+from gcaudit_trace.graphs.trace_heap import heaps
+from gcaudit_trace.graphs.paths import Holder, Tree, label_shape, named_holder, path_shape
+from gcaudit_trace.graphs.path import Path, Step
 
 
 def random_events(seed):

@@ -46,9 +46,11 @@ class Installed(unittest.TestCase):
         return said
 
     def test_the_commands_run(self):
-        for name in ("hprof_to_trace", "heapsnapshot_to_trace", "gcaudit-named"):
+        for name in ("hprof_to_trace", "heapsnapshot_to_trace", "gcaudit-from-hprof", "gcaudit-from-heapsnapshot", "gcaudit-named",
+                     "gcaudit-summary", "gcaudit-growth", "gcaudit-view"):
             self.assertIn("usage: %s " % name, self.run_words(self.command(name), "--help"))
-            self.assertIn("%s: " % name, self.run_words(self.command(name), *["no such file"] * (1 if name == "gcaudit-named" else 2), status=2))
+            takes_one = name in ("gcaudit-named", "gcaudit-summary", "gcaudit-view")
+            self.assertIn("%s: " % name, self.run_words(self.command(name), *["no such file"] * (1 if takes_one else 2), status=2))
 
     def test_the_modules_are_those_installed(self):
         for name in ("gcaudit_recorder", "gcaudit_trace", "hprof_to_trace", "heapsnapshot_to_trace"):

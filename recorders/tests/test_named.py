@@ -15,8 +15,8 @@ from unittest import mock
 from tests.support import PROGRAM, RECORDERS, InFolder, needs_program
 
 from gcaudit_trace import TraceError, audit
-from gcaudit_trace.command import Progress
-from gcaudit_trace.report import read_report
+from gcaudit_trace.progress import Progress
+from gcaudit_trace.reports.report import read_report
 
 LEAK = ('{"op":"alloc","id":1,"type":"App","slots":2}\n{"op":"alloc","id":2,"type":"Config"}\n{"op":"alloc","id":3,"type":"Config"}\n'
         '{"op":"store","at":1,"slot":0,"to":2,"label":".config"}\n{"op":"store","at":1,"slot":1,"to":3,"label":".other"}\n'
@@ -150,7 +150,7 @@ class Named(InFolder):
     def test_progress_after_two_seconds(self):
         said, now = io.StringIO(), [100.0]
         said.isatty = lambda: True
-        with mock.patch("sys.stderr", said), mock.patch("gcaudit_trace.command.time.monotonic", lambda: now[0]):
+        with mock.patch("sys.stderr", said), mock.patch("gcaudit_trace.progress.time.monotonic", lambda: now[0]):
             progress = Progress("gcaudit-named", 2.0)
             for _ in range(35):
                 now[0] += 0.1
@@ -167,7 +167,7 @@ class Named(InFolder):
                       ["\n \t" + json.dumps(event, separators=(" ,", ": ")) + "\r" for event in found],
                       [json.dumps(event, separators=(",", ":")).replace('"at":', '"\\u0061t":').replace('"id":', '"i\\u0064":') for event in found]):
             for paths in ("100", "10000"):
-                with mock.patch("gcaudit_trace.report._MOST_IN_EXPRESSION", int(paths) % 10000):
+                with mock.patch("gcaudit_trace.reports.report._MOST_IN_EXPRESSION", int(paths) % 10000):
                     with open(self.trace, "w") as file:
                         file.write("\n".join(shown))
                     self.assertEqual(audit(self.trace, PROGRAM, ["--paths", paths]).named.encode(), report)
@@ -202,12 +202,12 @@ class LargeTraces(InFolder):
 
     def test_the_names(self):
         self.assertEqual(read_report(self.report, self.trace).named, self.named)
-        with mock.patch("gcaudit_trace.report._MOST_IN_EXPRESSION", 50):
+        with mock.patch("gcaudit_trace.reports.report._MOST_IN_EXPRESSION", 50):
             self.assertEqual(read_report(self.report, self.trace).named, self.named)
 
     def test_lines_of_other_objects_are_not_read(self):
         for most in (4096, 50):
-            with mock.patch("gcaudit_trace.report._MOST_IN_EXPRESSION", most), mock.patch("gcaudit_trace.report.json.loads", side_effect=json.loads) as loads:
+            with mock.patch("gcaudit_trace.reports.report._MOST_IN_EXPRESSION", most), mock.patch("gcaudit_trace.reports.report.json.loads", side_effect=json.loads) as loads:
                 read_report(self.report, self.trace)
             self.assertLess(loads.call_count, 1000)
 
@@ -222,7 +222,7 @@ class LargeTraces(InFolder):
                 file.write(json.dumps(event, sort_keys=True, separators=(",", ":")) + "\n")
         named = self.report.replace("[0]", "[slot 0]").replace("[1]", "[slot 1]")
         for most in (4096, 50):
-            with mock.patch("gcaudit_trace.report._MOST_IN_EXPRESSION", most), mock.patch("gcaudit_trace.report.json.loads", side_effect=json.loads) as loads:
+            with mock.patch("gcaudit_trace.reports.report._MOST_IN_EXPRESSION", most), mock.patch("gcaudit_trace.reports.report.json.loads", side_effect=json.loads) as loads:
                 self.assertEqual(read_report(self.report, self.trace).named, named)
             self.assertLess(loads.call_count, 1000)
 
@@ -232,7 +232,7 @@ class LargeTraces(InFolder):
             file.write('{"id":1,"op":"alloc","type":"A","slots":1}\n{"at":7,"op":"root","name":"top","to":1}\n{"id":7,"op":"root","name":"top","to":1}\n'
                        '{"at":8,"op":"collect"}\n{"id":9,"op":"collect"}\n')
         for most in (4096, 0):
-            with mock.patch("gcaudit_trace.report._MOST_IN_EXPRESSION", most):
+            with mock.patch("gcaudit_trace.reports.report._MOST_IN_EXPRESSION", most):
                 found = read_report("gc 2 dead 1 A: root top -> 1 A", self.trace)
                 self.assertEqual([(verdict.kind, verdict.paths[0].root) for verdict in found.verdicts], [("dead", "top")])
 

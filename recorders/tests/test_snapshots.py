@@ -10,8 +10,9 @@ from unittest import mock
 from tests.support import PROGRAM, PROGRAMS, RECORDERS, SNAPSHOTS, InFolder, needs_commands, needs_snapshots
 from tests.test_dumps import dump_java, run, written_hprof, written_snapshot
 
-from gcaudit_trace import audit, writer
-from gcaudit_trace.summary import main as summary
+from gcaudit_trace import audit
+from gcaudit_trace.commands.summary import main as summary
+from gcaudit_trace.traces import limits, snapshot_writer
 from heapsnapshot_to_trace.__main__ import main as heapsnapshot_to_trace
 from hprof_to_trace.__main__ import main as hprof_to_trace
 
@@ -61,7 +62,7 @@ class Texts(Snapshots):
 
     def test_roots_by_the_bytes_of_their_names(self):
         found = []
-        snapshot = writer.SnapshotWriter(found.append)
+        snapshot = snapshot_writer.SnapshotWriter(found.append)
         snapshot.object("A", [])
         snapshot.object("B", [("", 2, False), ("", 0, False), ("", 1, True), ("", 1, False)])
         snapshot.finish([("\U0001f600", 1), ("z", 2), ("Z", 1), ("\uffee", 2), ("z z", 1), ("é", 2)])
@@ -74,7 +75,7 @@ class Texts(Snapshots):
             said = []
             for words in ([], ["--snapshot"]):
                 self.write_dump(heapsnapshot_to_trace)
-                with mock.patch.object(writer, name, most):
+                with mock.patch.object(limits, name, most):
                     said.append(run(heapsnapshot_to_trace, self.path("dump"), self.path("none"), *words))
                 self.assertEqual(os.listdir(self.folder), ["dump"])
             want = "heapsnapshot_to_trace: the %%s would have more than %s, which gcaudit doesn't take\n" % what
@@ -83,16 +84,16 @@ class Texts(Snapshots):
     def test_at_its_limits(self):
         for name, most in (("MOST_TYPES", 3), ("MOST_OBJECTS", 3), ("MOST_SLOTS", 3), ("MOST_ROOTS", 1), ("LONGEST_SNAPSHOT", len(OF_SNAPSHOT.encode()))):
             self.write_dump(heapsnapshot_to_trace)
-            with mock.patch.object(writer, name, most):
+            with mock.patch.object(limits, name, most):
                 self.assertEqual(self.snapshot_of(heapsnapshot_to_trace, self.path("dump")).decode(), OF_SNAPSHOT)
 
     def test_one_byte_too_long(self):
         self.write_dump(heapsnapshot_to_trace)
-        with mock.patch.object(writer, "LONGEST_SNAPSHOT", len(OF_SNAPSHOT.encode()) - 1):
+        with mock.patch.object(limits, "LONGEST_SNAPSHOT", len(OF_SNAPSHOT.encode()) - 1):
             status, said = run(heapsnapshot_to_trace, self.path("dump"), self.path("none"), "--snapshot")
         self.assertEqual((status, os.listdir(self.folder)), (2, ["dump"]))
         self.assertEqual(said, "heapsnapshot_to_trace: the snapshot would have more than %d bytes, which gcsnap doesn't take\n" % (len(OF_SNAPSHOT.encode()) - 1))
-        self.assertEqual(writer.LONGEST_SNAPSHOT, 2 ** 28)
+        self.assertEqual(limits.LONGEST_SNAPSHOT, 2 ** 28)
 
     def test_assertions_are_refused(self):
         for words in (["--dead", "A"], ["--limit", "A=1"], ["--unshared", "A"], ["--owned-by", "A=B"]):

@@ -46,7 +46,7 @@ class Commands(InFolder):
         return self.path(name)
 
     def run_module(self, module, *words):
-        return subprocess.run([sys.executable, "-B", "-m", "gcaudit_trace." + module, *words], stdout=subprocess.PIPE, stderr=subprocess.PIPE,
+        return subprocess.run([sys.executable, "-B", "-m", "gcaudit_trace.commands." + module, *words], stdout=subprocess.PIPE, stderr=subprocess.PIPE,
                               env=dict(os.environ, PYTHONPATH=RECORDERS), cwd=self.folder)
 
     def said(self, module, *words, status=0):

@@ -2,7 +2,7 @@
 from collections import Counter
 from typing import Dict, Iterable, List, NamedTuple, Optional, Set, Tuple
 
-from .paths import Shape, path_shape
+from ..graphs.paths import Shape, path_shape
 from .report import Verdict
 
 _SHOWN_TYPES = 6
@@ -57,6 +57,11 @@ def _cause(verdict: Verdict, dead: Set[Tuple[int, int]]) -> Optional[int]:
         if (verdict.collection, number) in dead:
             return number
     return None
+
+
+def lasting_name(group: Group) -> str:
+    """A name for the group that is the same from run to run: without ids and counts."""
+    return "%s %s %s" % (group.kind, group.type_name, group.shape or "")
 
 
 def group_text(group: Group) -> str:

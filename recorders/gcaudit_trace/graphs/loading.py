@@ -1,4 +1,4 @@
-"""What the commands for whoever has only a suspicion read: traces and heap dumps, told apart by how they begin."""
+"""The graphs of files: traces and heap dumps, told apart by how they begin."""
 import argparse
 import contextlib
 import importlib
@@ -6,11 +6,12 @@ import os
 import tempfile
 from typing import Iterator, List, Optional
 
-from .command import Progress
-from .dumps import parser_for
-from .heap import Graph, heaps
-from .reading import opened, trace_file
-from .writer import TraceError
+from ..dumps.options import parser_for
+from ..errors import TraceError
+from ..progress import Progress
+from ..traces.opening import opened, trace_file
+from .graph import Graph
+from .trace_heap import heaps
 
 _BEGINNING = 64
 

@@ -3,8 +3,8 @@ import re
 from array import array
 from typing import Dict, Iterator, List, NamedTuple, Optional, Sequence, Tuple
 
-from .heap import Graph
-from .report import MORE, Path, Step
+from .graph import Graph
+from .path import MORE, Path, Step
 
 _NONE = 0xFFFFFFFF
 _SHOWN_STEPS = 32   # at each end of a path

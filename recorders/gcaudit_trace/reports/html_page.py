@@ -2,8 +2,8 @@
 import html
 from typing import TYPE_CHECKING, List
 
-from .names import cut
-from .report import Path
+from ..graphs.path import Path
+from ..traces.names import cut
 
 if TYPE_CHECKING:
     from .view import Shown, View

@@ -1,25 +1,11 @@
-"""gcaudit-summary: what is in a heap by type, and what each root reaches."""
-import argparse
-import sys
+"""What is in a heap by type, and what each root reaches."""
 from typing import Dict, Iterator, List, Optional, Tuple
 
-from . import command
-from .dominators import Kept, kept_alone, kept_by_type
-from .heap import Graph
-from .sources import last_graph
+from ..graphs.dominators import Kept, kept_alone, kept_by_type
+from ..graphs.graph import Graph
 from .tables import table
 
-_PROGRAM = "gcaudit-summary"
 _MOST_STEPS = 20000000  # so many objects are gone through at most to say what roots reach
-
-
-def parser() -> argparse.ArgumentParser:
-    made = argparse.ArgumentParser(prog=_PROGRAM, description="Says of a heap dump or of the last collection of a trace how many objects and bytes "
-                                   "there are of each type, and what each root reaches. What is kept alone is what would be gone with it.")
-    made.add_argument("heap", metavar="DUMP|TRACE", help="an HPROF dump, a snapshot of V8, or a trace; it may be packed by gzip")
-    made.add_argument("--top", metavar="N", type=command.count, default=20, help="so many types and roots are shown; else 20")
-    made.add_argument("--output", metavar="FILE", help="where it is written, else standard output")
-    return made
 
 
 def summary(graph: Graph, top: int) -> str:
@@ -80,19 +66,3 @@ def _shown(graph: Graph, heads: Tuple[str, ...], rows: List[Tuple], top: int, wh
     used = [place for place, head in enumerate(heads) if head and (graph.sizes is not None or "bytes" not in head)]
     text = table([heads[place] for place in used], ([row[place] for place in used] for row in rows[:top]))
     return text + ("\nand %d %s more" % (len(rows) - top, what) if len(rows) > top else "")
-
-
-def main(words=None) -> int:
-    asked = parser().parse_args(words)
-
-    def work() -> int:
-        command.keep_apart([asked.heap], [asked.output])
-        graph = last_graph(asked.heap, command.Progress(_PROGRAM, 2.0))
-        with command.output_to(asked.output) as out:
-            out.write(summary(graph, asked.top))
-        return 0
-    return command.run(_PROGRAM, work)
-
-
-if __name__ == "__main__":
-    sys.exit(main())

@@ -1,14 +1,10 @@
-"""gcaudit-growth: what became more from one heap to the next, by type, and by what holds it."""
-import argparse
-import sys
+"""What became more from one heap to the next, by type, and by what holds it."""
 from typing import Dict, List, NamedTuple, Sequence, Tuple
 
-from . import command
-from .dominators import kept_alone, kept_by_type
-from .heap import Graph
-from .paths import Holder, Tree, is_between
+from ..graphs.dominators import kept_alone, kept_by_type
+from ..graphs.graph import Graph
+from ..graphs.paths import Holder, Tree, is_between
 
-_PROGRAM = "gcaudit-growth"
 _SHOWN = 20
 
 # By type and by what holds them by name: how many objects there are, and their bytes.
@@ -90,34 +86,3 @@ def counts_of(graph: Graph) -> Counts:
 
 def growth_of(graphs: Sequence[Graph], step: str) -> Growth:
     return Growth([counts_of(graph) for graph in graphs], step, [kept_by_type(graph, kept_alone(graph)) for graph in graphs])
-
-
-def parser() -> argparse.ArgumentParser:
-    made = argparse.ArgumentParser(prog=_PROGRAM, description="Compares heaps of one program that follow on one another, and says of which types there "
-                                   "are more each time, what holds them, and how much they keep alive alone.")
-    made.add_argument("heaps", metavar="DUMP|TRACE", nargs="+", help="two or more heap dumps or traces, of each of which the last collection counts; or one "
-                      "trace, whose collections are compared")
-    made.add_argument("--output", metavar="FILE", help="where it is written, else standard output")
-    return made
-
-
-def main(words=None) -> int:
-    from .sources import every_graph, last_graph    # the readers of dumps, which the recorder does without
-    asked = parser().parse_args(words)
-
-    def work() -> int:
-        command.keep_apart(asked.heaps, [asked.output])
-        progress = command.Progress(_PROGRAM, 2.0)
-        if len(asked.heaps) == 1:
-            graphs, step = every_graph(asked.heaps[0], progress), "collection"
-        else:
-            graphs, step = [last_graph(path, progress) for path in asked.heaps], "dump"
-        text = str(growth_of(graphs, step))
-        with command.output_to(asked.output) as out:
-            out.write(text + "\n")
-        return 0
-    return command.run(_PROGRAM, work)
-
-
-if __name__ == "__main__":
-    sys.exit(main())

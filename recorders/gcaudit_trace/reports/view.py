@@ -1,18 +1,12 @@
-"""gcaudit-view: the report in groups, each with a sample path and what it keeps alive, as text, HTML, JUnit XML and SARIF."""
-import argparse
-import sys
+"""The report in groups, each with a sample path and what it keeps alive."""
 from typing import Dict, List, NamedTuple, Optional, Tuple
 
-from . import command
-from .continuous import junit, sarif
-from .dominators import Kept as KeptOfAll, kept_alone, kept_by_type
+from ..graphs.dominators import Kept as KeptOfAll, kept_alone, kept_by_type
+from ..graphs.graph import Graph
+from ..graphs.trace_heap import heaps
+from .audit import Audit
 from .groups import Group, counted, grouped
-from .heap import Graph, heaps
-from .page import page
-from .program import Audit, audit
-from .reading import trace_file
 
-_PROGRAM = "gcaudit-view"
 _SENTENCES = {
     "dead": "must be dead and is reached",
     "instances": "has more objects than its limit",
@@ -110,36 +104,3 @@ def _kept_of(group: Group, graph: Graph, alone: KeptOfAll, by_type: Dict[str, Tu
     if node is None:
         return None
     return Kept(alone.objects[node], alone.bytes[node] if has_sizes else None)
-
-
-def parser() -> argparse.ArgumentParser:
-    made = argparse.ArgumentParser(prog=_PROGRAM, description="Audits a trace with gcaudit and shows its report in groups: one for each type and shape of "
-                                   "path, with a sample path and what it keeps alive. The status is gcaudit's.")
-    made.add_argument("trace", metavar="TRACE", nargs="?", default="-", help="the trace; without it or for -, standard input")
-    made.add_argument("--html", metavar="FILE", help="writes a page that stands alone")
-    made.add_argument("--junit", metavar="FILE", help="writes JUnit XML, with a failed test for each group")
-    made.add_argument("--sarif", metavar="FILE", help="writes SARIF 2.1.0, with a result for each group")
-    command.add_gcaudit(made)
-    return made
-
-
-def main(words=None) -> int:
-    asked = parser().parse_args(words)
-
-    def work() -> int:
-        command.keep_apart([asked.trace], [asked.html, asked.junit, asked.sarif])
-        with trace_file(asked.trace) as trace:
-            done = audit(trace, asked.gcaudit, command.gcaudit_options(asked), command.Progress(_PROGRAM, 2.0))
-            view = view_of(done, trace, "standard input" if asked.trace == "-" else asked.trace)
-        for path, form in ((asked.html, page), (asked.junit, junit), (asked.sarif, sarif)):
-            if path is not None:
-                with command.output_to(path) as out:
-                    out.write(form(view))
-        with command.output_to(None) as out:
-            out.write(view.text())
-        return done.status
-    return command.run(_PROGRAM, work)
-
-
-if __name__ == "__main__":
-    sys.exit(main())

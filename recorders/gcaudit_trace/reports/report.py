@@ -3,10 +3,8 @@ import json
 import re
 from typing import Any, Callable, Dict, Iterable, Iterator, List, NamedTuple, Optional, Set, Tuple
 
-from .names import cut
+from ..graphs.path import MORE, Path, Step
 
-MORE = "(more)"  # the label of a slot that leads to further slots of the same object
-_LONGEST_LABEL = 120
 _READ_AT_A_TIME = 1 << 16
 _NUMBERS = re.compile(r"\d+")
 _MOST_IN_EXPRESSION = 4096                              # of more numbers an expression takes long to make
@@ -19,36 +17,6 @@ _HEADS = (
     ("ownedby", re.compile(r"gc (?P<collection>\d+) ownedby (?P<number>\d+) (?P<type>.*) owner (?P<owner>\d+)(?P<gone> gone)?", re.DOTALL)),
     ("instances", re.compile(r"gc (?P<collection>\d+) instances (?P<type>.*) limit (?P<limit>\d+) found (?P<count>\d+)", re.DOTALL)),
 )
-
-
-class Step(NamedTuple):
-    """A step of a path: the label of the slot, and what it holds. `skipped` steps before it aren't shown."""
-    label: str
-    number: int
-    type_name: str
-    skipped: int = 0
-
-
-class Path(NamedTuple):
-    """A path of a report: from a root of this name, or from an owner (then there is no name), by steps."""
-    root: Optional[str]
-    number: int
-    type_name: str
-    steps: Tuple[Step, ...]
-
-    def __str__(self) -> str:
-        head = "owner" if self.root is None else "root %s ->" % self.root
-        shown = ["%s %d %s" % (head, self.number, self.type_name)]
-        for step in self.steps:
-            if step.skipped:
-                shown.append(" ... %d steps ..." % step.skipped)
-            if step.number:
-                shown.append(" %s -> %d %s" % (cut(step.label, _LONGEST_LABEL), step.number, step.type_name))
-        return "".join(shown)
-
-    def numbers(self) -> List[int]:
-        """The objects on the path that are shown, from its start on."""
-        return [self.number] + [step.number for step in self.steps if step.number]
 
 
 class Verdict(NamedTuple):

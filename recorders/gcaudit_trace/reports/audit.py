@@ -4,9 +4,9 @@ import shutil
 import subprocess
 from typing import Iterable, List, NamedTuple, Optional
 
-from .command import Progress
+from ..errors import TraceError
+from ..progress import Progress
 from .report import Verdict, read_report
-from .writer import TraceError
 
 _PASSED = {0: "no assertion was violated", 1: "some assertion was violated"}
 _LAST_LINES = ("end gcs ", "halt gc ")
@@ -32,7 +32,9 @@ def find_program(program: Optional[str] = None) -> str:
     found = shutil.which("gcaudit")
     if found is not None:
         return found
-    top = os.path.dirname(os.path.dirname(os.path.dirname(os.path.abspath(__file__))))
+    top = os.path.abspath(__file__)
+    for _ in range(4):   # reports, gcaudit_trace, recorders, and the top
+        top = os.path.dirname(top)
     script = os.path.join(top, "gcaudit")
     if os.path.isfile(os.path.join(top, "crates.txt")) and os.access(script, os.X_OK):
         return script

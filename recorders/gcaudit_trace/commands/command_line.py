@@ -1,40 +1,17 @@
-"""What the commands share: errors told in a sentence, progress, and output that may not arrive."""
+"""What the commands share: errors told in a sentence, and output that may not arrive."""
 import argparse
 import contextlib
 import os
 import signal
 import sys
-import time
 from typing import Any, Callable, Iterable, Iterator, List, Optional
 
-from .names import printable
-from .writer import TraceError, WholeFile
+from ..errors import TraceError
+from ..traces.names import printable
+from ..traces.whole_file import WholeFile
 
 REFUSED = 2
 _STOPPED = 128  # and the number of the signal
-
-
-class Progress:
-    """A plain line a second on standard error, where that is a terminal; `say` is always said."""
-
-    def __init__(self, program: str, first_after: float = 1.0) -> None:
-        self._program = program
-        self._shows = sys.stderr.isatty()
-        self._next = time.monotonic() + first_after
-
-    def at(self, step: str, done: int = 0, whole: int = 0) -> None:
-        """What is being done now, and how far it is in bytes where that is known."""
-        now = time.monotonic()
-        if self._shows and now >= self._next:
-            self._next = now + 1
-            self.say("%s: %d of %d MB" % (step, done >> 20, whole >> 20) if whole else step)
-
-    def following(self) -> None:
-        """The references through what is left out are being followed."""
-        self.at("following references through what is left out")
-
-    def say(self, text: str) -> None:
-        print("%s: %s" % (self._program, printable(text)), file=sys.stderr, flush=True)
 
 
 def run(program: str, work: Callable[[], int], about: str = "") -> int:

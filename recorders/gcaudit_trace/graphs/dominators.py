@@ -2,7 +2,7 @@
 from array import array
 from typing import Dict, Iterator, List, NamedTuple, Sequence, Tuple
 
-from .heap import Graph
+from .graph import Graph
 
 _NONE = 0xFFFFFFFF
 

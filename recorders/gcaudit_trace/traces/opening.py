@@ -8,7 +8,7 @@ import tempfile
 import zlib
 from typing import Any, BinaryIO, Iterator
 
-from .writer import TraceError
+from ..errors import TraceError
 
 _GZIP = b"\x1f\x8b"
 

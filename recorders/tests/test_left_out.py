@@ -2,7 +2,7 @@
 import random
 import unittest
 
-from gcaudit_trace.passing import LeftOut
+from gcaudit_trace.graphs.left_out import LeftOut
 
 
 def none():

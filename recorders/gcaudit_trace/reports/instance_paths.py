@@ -1,9 +1,9 @@
 """A path to each object of a type that has more than its limit; gcaudit's own report has one path."""
 from typing import Dict, List
 
-from .heap import heaps
-from .paths import Tree
-from .program import Audit
+from ..graphs.paths import Tree
+from ..graphs.trace_heap import heaps
+from .audit import Audit
 from .report import Verdict
 
 
