@@ -9,6 +9,7 @@ from .contents import shape_of
 
 class Hold:
     """Refers to an object: weakly where its type allows it; else the object itself is held."""
+
     __slots__ = ("_weak", "_object", "serial")
     _serials = itertools.count(1)
 
@@ -40,6 +41,7 @@ class Hold:
 
 class Assertion:
     """Something asserted of an object: "dead", "unshared" or "owned". In a region it counts only where it is reached."""
+
     __slots__ = ("kind", "target", "owner", "owner_type", "in_region", "written")
 
     def __init__(self, kind: str, target: Any, owner: Any = None, in_region: bool = False) -> None:
@@ -53,5 +55,5 @@ class Assertion:
 
 _probe = Hold(())
 _probe.take(object())
-OWN_REFERENCES = _probe.references() - 1   # those of the counting itself
+OWN_REFERENCES = _probe.references() - 1  # those of the counting itself
 del _probe

@@ -9,8 +9,14 @@ from .violation import HeapViolation
 
 
 @contextlib.contextmanager
-def audited(roots: Roots = None, trace: Optional[str] = None, program: Optional[str] = None, deep: bool = False,
-            may_be_empty: bool = False, all_instances: bool = False) -> Iterator[Recorder]:
+def audited(
+    roots: Roots = None,
+    trace: Optional[str] = None,
+    program: Optional[str] = None,
+    deep: bool = False,
+    may_be_empty: bool = False,
+    all_instances: bool = False,
+) -> Iterator[Recorder]:
     """Records the block, runs gcaudit at its end, and raises HeapViolation with the report where it finds one.
 
     The trace stays at `trace`; without it, a temporary file is used, which stays only where there is a violation. The

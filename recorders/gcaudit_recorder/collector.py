@@ -5,6 +5,7 @@ from typing import Any, List
 
 class NoAutomaticCollection:
     """Python's collector would run again and again over the many objects that a walk makes."""
+
     __slots__ = ("_was_enabled",)
 
     def __enter__(self) -> None:

@@ -21,7 +21,7 @@ class HeapWriter:
         self.labels = Labels()
         self.known = Traced()
         self._written_roots: Dict[str, int] = {}
-        self._freed_next: List[int] = []        # the slots of each object that the next collection frees
+        self._freed_next: List[int] = []  # the slots of each object that the next collection frees
 
     def write(self, walk: Walk, chains: Chains, assertions: List[Assertion], region_ended: bool) -> None:
         """Writes what changed since the last collection, what is asserted, and a collection."""
@@ -68,7 +68,7 @@ class HeapWriter:
                 self._write_changes(now, place, old)
             elif number in now.proxied:
                 self._write_slots(now, place, [], now.slots(place))
-            elif first != start:    # a new object has room for all that it holds
+            elif first != start:  # a new object has room for all that it holds
                 self._trace.fill_by_endings(number, now.fillings(first, start, endings))
         for place in walk.gone():
             if known.numbers[place] in known.owns:  # gcaudit traces from it, until this collection frees it
@@ -86,7 +86,9 @@ class HeapWriter:
         if was != slots:
             self._write_slots(now, place, was, slots)
 
-    def _write_slots(self, traced: Traced, place: int, was: List[Tuple[int, int]], slots: List[Tuple[int, int]]) -> None:
+    def _write_slots(
+        self, traced: Traced, place: int, was: List[Tuple[int, int]], slots: List[Tuple[int, int]]
+    ) -> None:
         """Writes the slots that differ from what the trace has."""
         number, room = traced.numbers[place], traced.rooms[place]
         more, more_room = traced.more.get(number, (0, 0))
@@ -105,7 +107,9 @@ class HeapWriter:
             if (to, label) != (old_to, old_label) and (to or old_to):
                 self._trace.store(holder, slot, to or None, self.labels.text(label) if to else "")
 
-    def _make_more(self, traced: Traced, place: int, was: List[Tuple[int, int]], own: int, room: int) -> Tuple[int, int]:
+    def _make_more(
+        self, traced: Traced, place: int, was: List[Tuple[int, int]], own: int, room: int
+    ) -> Tuple[int, int]:
         """Gives an object further slots: they are those of a second object, which its last slot holds."""
         number = traced.numbers[place]
         if number in traced.more:

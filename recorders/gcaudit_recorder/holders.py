@@ -14,6 +14,7 @@ _MOST_OBJECTS = 20000
 
 class Link(NamedTuple):
     """A holder, and the label of the place where it holds the next one, or at last the object in question."""
+
     name: str
     label: str
 
@@ -35,8 +36,8 @@ class _Search:
         self._sought = objects
         self._own = own
         self._nodes: Dict[int, Any] = {id(obj): obj for obj in objects}
-        self._held: Dict[int, List[int]] = {}               # by the address of a holder, what it holds of the nodes
-        self._locals: Dict[int, Tuple[str, str]] = {}       # by address, the frame and the variable that hold it
+        self._held: Dict[int, List[int]] = {}  # by the address of a holder, what it holds of the nodes
+        self._locals: Dict[int, Tuple[str, str]] = {}  # by address, the frame and the variable that hold it
         self._anchors: List[int] = []
 
     def chains(self) -> Dict[int, List[Link]]:
@@ -98,7 +99,7 @@ class _Search:
         above: Dict[int, int] = {}
         order = list(dict.fromkeys(tops))
         seen = set(order)
-        for address in order:   # grows while it is gone through
+        for address in order:  # grows while it is gone through
             for below in self._held.get(address, ()):
                 if below not in seen:
                     seen.add(below)
@@ -122,7 +123,7 @@ class _Search:
             holder, held = objects[place], objects[place + 1]
             merged = _own_dict(holder)
             if merged is held and place + 2 < len(objects):
-                held = objects[place + 2]     # through its __dict__, which stands in no trace
+                held = objects[place + 2]  # through its __dict__, which stands in no trace
                 place += 1
             links.append(Link(object_name(holder, shape_of(holder)), _label(holder, held)))
             place += 1

@@ -45,7 +45,7 @@ class Recorder:
         self._limits: Dict[str, int] = {}
         self._regions = Regions()
         self._region_ended = False
-        self._pending = False                   # something was asserted after the last collection
+        self._pending = False  # something was asserted after the last collection
         self._open = True
         self._everything = False
         self._deep = deep
@@ -56,7 +56,9 @@ class Recorder:
             self.everything()
         elif roots is not None and not isinstance(roots, dict):
             self.abandon()
-            raise TraceError("roots are a dict of names and objects, or the word %r; not %s" % (EVERYTHING, _shown(roots)))
+            raise TraceError(
+                "roots are a dict of names and objects, or the word %r; not %s" % (EVERYTHING, _shown(roots))
+            )
         else:
             try:
                 for name, obj in (roots or {}).items():
@@ -210,7 +212,9 @@ class Recorder:
         if not self._asserted:
             raise TraceError("nothing was asserted, so nothing was checked; assert something, or say may_be_empty")
         if not self._had_root:
-            raise TraceError("no root was there at any collection, so nothing was looked at; name roots that live until then, or say may_be_empty")
+            raise TraceError(
+                "no root was there at any collection, so nothing was looked at; name roots that live until then, or say may_be_empty"
+            )
 
     def __enter__(self) -> "Recorder":
         return self
@@ -230,7 +234,9 @@ class Recorder:
     def _need_recorded(self, obj: Any, inner: bool = False) -> None:
         shape = shape_of(obj)
         if shape.left_out or (shape.inner and not (inner or self._deep)):
-            raise TraceError("objects of the type %s are left out of traces, so nothing can be said of one" % shape.name)
+            raise TraceError(
+                "objects of the type %s are left out of traces, so nothing can be said of one" % shape.name
+            )
 
     def _assert(self, kind: str, obj: Any, owner: Any = None) -> None:
         self._need_open()

@@ -8,14 +8,16 @@ from .holders import Link, holder_chains
 from .regions import Regions
 from .walk import Walk
 
-BESIDE = "(alive, and no root leads to it)"     # the name of the root that stands for what else holds an object
+BESIDE = "(alive, and no root leads to it)"  # the name of the root that stands for what else holds an object
 _MOST_CHAINS = 100
-Chains = List[Tuple[int, List[Link]]]               # the place of an object, and a chain of its holders
+Chains = List[Tuple[int, List[Link]]]  # the place of an object, and a chain of its holders
 
 
 def chains_beside(walk: Walk, assertions: List[Assertion], regions: Regions) -> Chains:
     """Of each object that is asserted dead, alive and not reached: its place, and a chain of what holds it."""
-    unreached = [a.target for a in assertions if a.kind == "dead" and not a.in_region and not walk.traces(a.target.get())]
+    unreached = [
+        a.target for a in assertions if a.kind == "dead" and not a.in_region and not walk.traces(a.target.get())
+    ]
     _drop_what_only_the_recorder_holds(unreached, regions)
     alive = {id(hold.get()): hold.get() for hold in unreached if hold.get() is not None}
     found = []

@@ -21,4 +21,4 @@ class HeapViolation(AssertionError):
         return cls(text, done.report, done.named, trace)
 
 
-HeapViolation.__module__ = "gcaudit_recorder"   # as a program imports it, and a test report names it
+HeapViolation.__module__ = "gcaudit_recorder"  # as a program imports it, and a test report names it

@@ -7,7 +7,12 @@ from .convert import convert
 
 
 def main(words=None) -> int:
-    return command.main("heapsnapshot_to_trace", "Writes the heap of a V8 snapshot (v8.writeHeapSnapshot) as a trace for gcaudit.", convert, words)
+    return command.main(
+        "heapsnapshot_to_trace",
+        "Writes the heap of a V8 snapshot (v8.writeHeapSnapshot) as a trace for gcaudit.",
+        convert,
+        words,
+    )
 
 
 if __name__ == "__main__":

@@ -60,7 +60,7 @@ def _stoppable() -> Iterator[None]:
     """While it lasts the signals that end a program raise, so that temporary files and gcaudit itself are ended too."""
     before = {}
     for name in ("SIGTERM", "SIGHUP"):
-        with contextlib.suppress(AttributeError, ValueError):   # a system without the signal; not the first thread
+        with contextlib.suppress(AttributeError, ValueError):  # a system without the signal; not the first thread
             number = getattr(signal, name)
             if signal.getsignal(number) == signal.SIG_DFL:
                 before[number] = signal.signal(number, _stop)
@@ -124,10 +124,21 @@ def output_to(path: Optional[str]) -> Iterator[Any]:
 
 def add_gcaudit(parser: argparse.ArgumentParser) -> None:
     """The words that say which program gcaudit is run, and how."""
-    parser.add_argument("--gcaudit", metavar="PROGRAM", help="the program gcaudit; else the variable GCAUDIT or the PATH tells it")
-    parser.add_argument("--workers", metavar="N", help="so many workers trace the heap, 1 to 16; the report is the same")
-    parser.add_argument("--paths", metavar="P", help="so many violations of each collection have their paths, 0 to 10000; else 100")
-    parser.add_argument("--react", metavar="R", choices=("report", "halt", "force"), help="report, halt or force: what is done about violations")
+    parser.add_argument(
+        "--gcaudit", metavar="PROGRAM", help="the program gcaudit; else the variable GCAUDIT or the PATH tells it"
+    )
+    parser.add_argument(
+        "--workers", metavar="N", help="so many workers trace the heap, 1 to 16; the report is the same"
+    )
+    parser.add_argument(
+        "--paths", metavar="P", help="so many violations of each collection have their paths, 0 to 10000; else 100"
+    )
+    parser.add_argument(
+        "--react",
+        metavar="R",
+        choices=("report", "halt", "force"),
+        help="report, halt or force: what is done about violations",
+    )
 
 
 def gcaudit_options(asked: argparse.Namespace) -> List[str]:

@@ -11,10 +11,18 @@ _PROGRAM = "gcaudit-growth"
 
 
 def parser() -> argparse.ArgumentParser:
-    made = argparse.ArgumentParser(prog=_PROGRAM, description="Compares heaps of one program that follow on one another, and says of which types there "
-                                   "are more each time, what holds them, and how much they keep alive alone.")
-    made.add_argument("heaps", metavar="DUMP|TRACE", nargs="+", help="two or more heap dumps or traces, of each of which the last collection counts; or one "
-                      "trace, whose collections are compared")
+    made = argparse.ArgumentParser(
+        prog=_PROGRAM,
+        description="Compares heaps of one program that follow on one another, and says of which types there "
+        "are more each time, what holds them, and how much they keep alive alone.",
+    )
+    made.add_argument(
+        "heaps",
+        metavar="DUMP|TRACE",
+        nargs="+",
+        help="two or more heap dumps or traces, of each of which the last collection counts; or one "
+        "trace, whose collections are compared",
+    )
     made.add_argument("--output", metavar="FILE", help="where it is written, else standard output")
     return made
 
@@ -33,6 +41,7 @@ def main(words=None) -> int:
         with command_line.output_to(asked.output) as out:
             out.write(text + "\n")
         return 0
+
     return command_line.run(_PROGRAM, work)
 
 

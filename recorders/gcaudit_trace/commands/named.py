@@ -12,12 +12,19 @@ _PROGRAM = "gcaudit-named"
 
 
 def parser() -> argparse.ArgumentParser:
-    made = argparse.ArgumentParser(prog=_PROGRAM, description="Audits a trace with gcaudit, and prints its report with the "
-                                   "names that the program gives to slots (attributes, keys, indexes). The status is gcaudit's.")
-    made.add_argument("trace", metavar="TRACE", nargs="?", default="-", help="the trace; without it or for -, standard input")
+    made = argparse.ArgumentParser(
+        prog=_PROGRAM,
+        description="Audits a trace with gcaudit, and prints its report with the "
+        "names that the program gives to slots (attributes, keys, indexes). The status is gcaudit's.",
+    )
+    made.add_argument(
+        "trace", metavar="TRACE", nargs="?", default="-", help="the trace; without it or for -, standard input"
+    )
     made.add_argument("--output", metavar="FILE", help="where the report is written, else standard output")
     command_line.add_gcaudit(made)
-    made.add_argument("--all-instances", action="store_true", help="a path to each object of a type that has more than its limit")
+    made.add_argument(
+        "--all-instances", action="store_true", help="a path to each object of a type that has more than its limit"
+    )
     return made
 
 
@@ -33,6 +40,7 @@ def main(words=None) -> int:
         with command_line.output_to(asked.output) as out:
             out.write(text)
         return done.status
+
     return command_line.run(_PROGRAM, work)
 
 

@@ -11,10 +11,17 @@ _PROGRAM = "gcaudit-summary"
 
 
 def parser() -> argparse.ArgumentParser:
-    made = argparse.ArgumentParser(prog=_PROGRAM, description="Says of a heap dump or of the last collection of a trace how many objects and bytes "
-                                   "there are of each type, and what each root reaches. What is kept alone is what would be gone with it.")
-    made.add_argument("heap", metavar="DUMP|TRACE", help="an HPROF dump, a snapshot of V8, or a trace; it may be packed by gzip")
-    made.add_argument("--top", metavar="N", type=command_line.count, default=20, help="so many types and roots are shown; else 20")
+    made = argparse.ArgumentParser(
+        prog=_PROGRAM,
+        description="Says of a heap dump or of the last collection of a trace how many objects and bytes "
+        "there are of each type, and what each root reaches. What is kept alone is what would be gone with it.",
+    )
+    made.add_argument(
+        "heap", metavar="DUMP|TRACE", help="an HPROF dump, a snapshot of V8, or a trace; it may be packed by gzip"
+    )
+    made.add_argument(
+        "--top", metavar="N", type=command_line.count, default=20, help="so many types and roots are shown; else 20"
+    )
     made.add_argument("--output", metavar="FILE", help="where it is written, else standard output")
     return made
 
@@ -28,6 +35,7 @@ def main(words=None) -> int:
         with command_line.output_to(asked.output) as out:
             out.write(summary(graph, asked.top))
         return 0
+
     return command_line.run(_PROGRAM, work)
 
 

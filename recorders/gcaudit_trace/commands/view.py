@@ -15,9 +15,14 @@ _PROGRAM = "gcaudit-view"
 
 
 def parser() -> argparse.ArgumentParser:
-    made = argparse.ArgumentParser(prog=_PROGRAM, description="Audits a trace with gcaudit and shows its report in groups: one for each type and shape of "
-                                   "path, with a sample path and what it keeps alive. The status is gcaudit's.")
-    made.add_argument("trace", metavar="TRACE", nargs="?", default="-", help="the trace; without it or for -, standard input")
+    made = argparse.ArgumentParser(
+        prog=_PROGRAM,
+        description="Audits a trace with gcaudit and shows its report in groups: one for each type and shape of "
+        "path, with a sample path and what it keeps alive. The status is gcaudit's.",
+    )
+    made.add_argument(
+        "trace", metavar="TRACE", nargs="?", default="-", help="the trace; without it or for -, standard input"
+    )
     made.add_argument("--html", metavar="FILE", help="writes a page that stands alone")
     made.add_argument("--junit", metavar="FILE", help="writes JUnit XML, with a failed test for each group")
     made.add_argument("--sarif", metavar="FILE", help="writes SARIF 2.1.0, with a result for each group")
@@ -40,6 +45,7 @@ def main(words=None) -> int:
         with command_line.output_to(None) as out:
             out.write(view.text())
         return done.status
+
     return command_line.run(_PROGRAM, work)
 
 

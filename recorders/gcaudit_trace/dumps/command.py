@@ -25,6 +25,7 @@ def main(program: str, about: str, convert, words=None) -> int:
             except MemoryError:
                 raise TraceError("out of memory; leave out more by --only or --without") from None
         return 0
+
     return command_line.run(program, work, asked.dump)
 
 
@@ -39,5 +40,7 @@ def say_left_out(counts: Dict[str, int], stay: int, left: LeftOut, wishes: Wishe
     if counts:
         progress.say("left out: %d objects (%s)" % (sum(counts.values()), most_of(counts)))
     if stay:
-        progress.say("joints in the %s, as \"left out CLASS\": %d, which stand for %d of them; several references lead through each to what is kept"
-                     % (wishes.kind, stay, left.stand_for()))
+        progress.say(
+            'joints in the %s, as "left out CLASS": %d, which stand for %d of them; several references lead through each to what is kept'
+            % (wishes.kind, stay, left.stand_for())
+        )

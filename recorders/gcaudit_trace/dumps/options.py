@@ -13,20 +13,47 @@ def parser_for(program: str, about: str) -> argparse.ArgumentParser:
     """The words that all readers of dumps take."""
     parser = argparse.ArgumentParser(prog=program, description=about)
     parser.add_argument("dump", metavar="DUMP", help="the heap dump")
-    parser.add_argument("trace", metavar="TRACE", help="the trace that is written for gcaudit, or the snapshot for gcsnap")
-    parser.add_argument("--snapshot", action="store_true", help="write a heap snapshot in place of a trace: gcsnap to-trace makes a trace of it, "
-                        "behind which assertions can be put at any time. It has no assertions itself")
+    parser.add_argument(
+        "trace", metavar="TRACE", help="the trace that is written for gcaudit, or the snapshot for gcsnap"
+    )
+    parser.add_argument(
+        "--snapshot",
+        action="store_true",
+        help="write a heap snapshot in place of a trace: gcsnap to-trace makes a trace of it, "
+        "behind which assertions can be put at any time. It has no assertions itself",
+    )
     said = parser.add_argument_group("what is asserted (each may be given more than once)")
     said.add_argument("--dead", metavar="CLASS", action="append", default=[], help="no object of the class is reached")
-    said.add_argument("--limit", metavar="CLASS=N", action="append", default=[], help="at most N objects of the class are reached")
-    said.add_argument("--unshared", metavar="CLASS", action="append", default=[], help="each object of the class has one reference at most")
-    said.add_argument("--owned-by", metavar="OWNER=CLASS", action="append", default=[],
-                      help="no object of the class outlives the hold that the one object of the class OWNER has on it: where a root leads to "
-                      "it past the owner, the owner must lead to it too")
-    said.add_argument("--may-be-missing", action="store_true", help="it is no mistake where the dump knows nothing of a class that was named")
+    said.add_argument(
+        "--limit", metavar="CLASS=N", action="append", default=[], help="at most N objects of the class are reached"
+    )
+    said.add_argument(
+        "--unshared",
+        metavar="CLASS",
+        action="append",
+        default=[],
+        help="each object of the class has one reference at most",
+    )
+    said.add_argument(
+        "--owned-by",
+        metavar="OWNER=CLASS",
+        action="append",
+        default=[],
+        help="no object of the class outlives the hold that the one object of the class OWNER has on it: where a root leads to "
+        "it past the owner, the owner must lead to it too",
+    )
+    said.add_argument(
+        "--may-be-missing",
+        action="store_true",
+        help="it is no mistake where the dump knows nothing of a class that was named",
+    )
     kept = parser.add_argument_group("what is kept (each may be given more than once)")
-    kept.add_argument("--only", metavar="PREFIX", action="append", default=[], help="keep classes whose names begin so, and no others")
-    kept.add_argument("--without", metavar="PREFIX", action="append", default=[], help="leave out classes whose names begin so")
+    kept.add_argument(
+        "--only", metavar="PREFIX", action="append", default=[], help="keep classes whose names begin so, and no others"
+    )
+    kept.add_argument(
+        "--without", metavar="PREFIX", action="append", default=[], help="leave out classes whose names begin so"
+    )
     return parser
 
 
@@ -39,7 +66,7 @@ class Wishes:
     """What is written, what is asserted and what is kept, by the names of classes."""
 
     def __init__(self, asked: argparse.Namespace, limited: bool = True) -> None:
-        self.limited = limited      # no more is kept than gcaudit takes
+        self.limited = limited  # no more is kept than gcaudit takes
         self.kind = kind_of(asked)
         self._only = tuple(asked.only)
         self._without = tuple(asked.without)
@@ -70,19 +97,25 @@ class Wishes:
 
     def keeps(self, name: str) -> bool:
         """Whether objects of the class are kept."""
-        return (not self._only or name.startswith(self._only)) and not (self._without and name.startswith(self._without))
+        return (not self._only or name.startswith(self._only)) and not (
+            self._without and name.startswith(self._without)
+        )
 
     def need_room(self, kept: int, counts: Dict[str, int]) -> None:
         """Refuses more objects than gcaudit takes, and says which classes have most of them."""
         if kept > MOST_OBJECTS and self.limited:
-            raise TraceError("%d objects would be kept, and gcaudit takes %d; leave some out by --only or --without. Most are of: %s"
-                             % (kept, MOST_OBJECTS, most_of(counts)))
+            raise TraceError(
+                "%d objects would be kept, and gcaudit takes %d; leave some out by --only or --without. Most are of: %s"
+                % (kept, MOST_OBJECTS, most_of(counts))
+            )
 
     def need_known(self, known: Set[str]) -> None:
         """Refuses a class that the dump knows nothing of: what is asserted of it would hold whatever the program does."""
         missing = sorted(self.named - known)
         if missing and not self._may_be_missing:
-            raise TraceError("; ".join("the dump has no class %s%s" % (name, _nearest(name, known)) for name in missing))
+            raise TraceError(
+                "; ".join("the dump has no class %s%s" % (name, _nearest(name, known)) for name in missing)
+            )
 
 
 def _nearest(name: str, known: Set[str]) -> str:

@@ -91,7 +91,9 @@ class DumpTrace(DumpFile):
     def __init__(self, path: str, wishes: Wishes) -> None:
         super().__init__(path)
         try:
-            self._waiting = tempfile.TemporaryFile("w+", encoding="utf-8", newline="\n", dir=self._whole.folder, buffering=1 << 20)
+            self._waiting = tempfile.TemporaryFile(
+                "w+", encoding="utf-8", newline="\n", dir=self._whole.folder, buffering=1 << 20
+            )
         except OSError as error:
             self._whole.give_up()
             raise self._whole.failed(error) from None
@@ -155,7 +157,9 @@ class DumpTrace(DumpFile):
         for owner, ownees in sorted(wishes.owners.items()):
             numbers = self._of_class[owner]
             if len(numbers) != 1:
-                raise TraceError("--owned-by wants exactly one object of the class %s, and there are %d" % (owner, len(numbers)))
+                raise TraceError(
+                    "--owned-by wants exactly one object of the class %s, and there are %d" % (owner, len(numbers))
+                )
             for ownee in ownees:
                 for number in self._of_class[ownee]:
                     if number != numbers[0]:

@@ -13,6 +13,7 @@ class Kept(NamedTuple):
     `dominators` has the node through which every path from a root comes, nearest to it; where there is none, the
     number of nodes.
     """
+
     objects: Sequence[int]
     bytes: Sequence[int]
     dominators: Sequence[int]
@@ -101,8 +102,8 @@ def _dominators(graph: Graph, order: Sequence[int], place_of: Sequence[int], par
     for _, root in graph.roots:
         is_root[place_of[root]] = 1
     semi = array("I", range(count))
-    best = array("I", range(count))         # the place with the least semidominator on the way up that was walked
-    linked = array("I", [_NONE]) * count    # the next place up that was linked
+    best = array("I", range(count))  # the place with the least semidominator on the way up that was walked
+    linked = array("I", [_NONE]) * count  # the next place up that was linked
     for place in range(count - 1, 0, -1):
         least = 0 if is_root[place] else parents[place]
         for at in range(begins[place], begins[place + 1]):
@@ -145,7 +146,7 @@ def kept_by_type(graph: Graph, kept: Kept) -> Dict[str, Tuple[int, int]]:
     size = len(graph)
     begins, below = _kept_directly(kept.dominators, size)
     found: Dict[int, List[int]] = {}
-    open_of = [0] * len(graph.type_names)     # how many objects of each type are open on the way down
+    open_of = [0] * len(graph.type_names)  # how many objects of each type are open on the way down
     stack = [(size, begins[size])]
     while stack:
         node, at = stack.pop()

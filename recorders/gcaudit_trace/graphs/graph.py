@@ -11,15 +11,15 @@ class Graph:
     """
 
     def __init__(self) -> None:
-        self.numbers: Sequence[int] = array("I")    # the id of each node
-        self.kinds: Sequence[int] = array("I")      # the type of each node, a place among `type_names`
+        self.numbers: Sequence[int] = array("I")  # the id of each node
+        self.kinds: Sequence[int] = array("I")  # the type of each node, a place among `type_names`
         self.type_names: List[str] = []
-        self.sizes: Optional[array] = None          # bytes of each node, where they are known
+        self.sizes: Optional[array] = None  # bytes of each node, where they are known
         self.starts: Sequence[int] = array("Q", [0])
         self.targets: Sequence[int] = array("I")
-        self.labels: Sequence[int] = array("I")     # places among `label_texts`
+        self.labels: Sequence[int] = array("I")  # places among `label_texts`
         self.label_texts: List[str] = []
-        self.roots: List[Tuple[str, int]] = []      # the name and the node of each
+        self.roots: List[Tuple[str, int]] = []  # the name and the node of each
 
     def __len__(self) -> int:
         return len(self.kinds)
@@ -28,7 +28,7 @@ class Graph:
         return self.type_names[self.kinds[node]]
 
     def held_by(self, node: int) -> Sequence[int]:
-        return self.targets[self.starts[node]:self.starts[node + 1]]
+        return self.targets[self.starts[node] : self.starts[node + 1]]
 
     def node_of(self, number: int) -> Optional[int]:
         """The node with this id."""

@@ -12,21 +12,23 @@ from array import array
 from itertools import accumulate
 from typing import AbstractSet, Callable, Dict, Iterable, Iterator, List, NamedTuple, Sequence, Tuple
 
-_NOTHING = 0            # as a code: nothing that is kept is reached
-_CLOSED = 0xFFFFFFFF    # in place of the number in which an object was met
+_NOTHING = 0  # as a code: nothing that is kept is reached
+_CLOSED = 0xFFFFFFFF  # in place of the number in which an object was met
 
 
 class Joint(NamedTuple):
     """What stands for left-out objects that lead on to the same things."""
-    outs: Tuple[int, ...]   # codes of kept objects, and of other joints: -1 for the first, -2 and so on
-    place: int              # of the first of the left-out objects
+
+    outs: Tuple[int, ...]  # codes of kept objects, and of other joints: -1 for the first, -2 and so on
+    place: int  # of the first of the left-out objects
 
 
 class Staying(NamedTuple):
     """A joint that stays in the trace."""
-    place: int              # of one of the left-out objects that it stands for
-    count: int              # how many these are
-    contents: List[Tuple[str, int, bool]]   # label, number in the trace, and that it isn't weak
+
+    place: int  # of one of the left-out objects that it stands for
+    count: int  # how many these are
+    contents: List[Tuple[str, int, bool]]  # label, number in the trace, and that it isn't weak
 
 
 class LeftOut:
@@ -40,12 +42,12 @@ class LeftOut:
         self._label_of = label_of
         self._unshared = unshared
         # At the place of each object, counted from 0:
-        self._counts = array("I")           # how many references it holds
-        self._led_to = array("I")           # how many lead to it from kept objects, and two for each root
-        self._starts = array("Q")           # where its references begin among `_held`
-        self._resolved = array("i")         # what it leads to: a kept object, a joint, or nothing
-        self._passed = array("I")           # how many left-out objects lie before that, itself counted
-        self._held = array("i")             # the codes of what all of them hold
+        self._counts = array("I")  # how many references it holds
+        self._led_to = array("I")  # how many lead to it from kept objects, and two for each root
+        self._starts = array("Q")  # where its references begin among `_held`
+        self._resolved = array("i")  # what it leads to: a kept object, a joint, or nothing
+        self._passed = array("I")  # how many left-out objects lie before that, itself counted
+        self._held = array("i")  # the codes of what all of them hold
         self._joints: List[Joint] = []
         self._joint_counts: List[int] = []  # how many objects each stands for
         self._numbers: Dict[int, int] = {}  # the number in the trace of each joint that stays, by its code
@@ -163,7 +165,9 @@ class LeftOut:
         for out in joint.outs:
             label = self._inner_label(joint.place, out) if is_one else ""
             for number, further in self._beyond(out):
-                yield ("%s (over %d left out)" % (label, further) if further and label else label or "(held)"), number, False
+                yield (
+                    "%s (over %d left out)" % (label, further) if further and label else label or "(held)"
+                ), number, False
 
     def _resolve(self, tell: Callable[[], None]) -> None:
         """Finds what each leads to. A strongly connected part comes when all that it leads to is resolved (Tarjan)."""
@@ -219,8 +223,8 @@ class LeftOut:
 
     def _resolve_part(self, part: Sequence[int], seen: array, known: Dict[Tuple[int, ...], int]) -> None:
         starts, held, resolved, unshared = self._starts, self._held, self._resolved, self._unshared
-        outs: Dict[int, int] = {}   # with a reference by which each is reached
-        again: List[int] = []       # references more to what must not be shared
+        outs: Dict[int, int] = {}  # with a reference by which each is reached
+        again: List[int] = []  # references more to what must not be shared
         for place in part:
             for edge in range(starts[place], starts[place + 1]):
                 code = held[edge]

@@ -46,7 +46,10 @@ def as_trace(path: str, progress: Progress) -> Iterator[str]:
                 yield trace
             return
         if beginning.startswith(b"heapsnap "):
-            raise TraceError("%s is a snapshot for gcsnap: gcsnap to-trace makes a trace of it, and a collection belongs behind that" % path)
+            raise TraceError(
+                "%s is a snapshot for gcsnap: gcsnap to-trace makes a trace of it, and a collection belongs behind that"
+                % path
+            )
         if not beginning.lstrip().startswith(b"{") and beginning.strip():
             raise TraceError("%s is neither a trace nor a heap dump: HPROF, or a snapshot of V8" % path)
     with trace_file(path) as trace:

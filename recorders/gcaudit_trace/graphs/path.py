@@ -9,6 +9,7 @@ _LONGEST_LABEL = 120
 
 class Step(NamedTuple):
     """A step of a path: the label of the slot, and what it holds. `skipped` steps before it aren't shown."""
+
     label: str
     number: int
     type_name: str
@@ -17,6 +18,7 @@ class Step(NamedTuple):
 
 class Path(NamedTuple):
     """A path of a report: from a root of this name, or from an owner (then there is no name), by steps."""
+
     root: Optional[str]
     number: int
     type_name: str

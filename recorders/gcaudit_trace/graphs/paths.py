@@ -7,14 +7,45 @@ from .graph import Graph
 from .path import MORE, Path, Step
 
 _NONE = 0xFFFFFFFF
-_SHOWN_STEPS = 32   # at each end of a path
+_SHOWN_STEPS = 32  # at each end of a path
 _FROM_ROOT = 0xFFFFFFFE
 # Objects that only stand between a holder with a name and what it holds.
-_BETWEEN = frozenset({
-    "list", "dict", "tuple", "set", "frozenset", "cell", "function", "method", "builtin_function_or_method", "generator", "coroutine",
-    "async_generator", "collections.deque", "collections.OrderedDict", "collections.defaultdict", "functools.partial", "mappingproxy",
-    "weakref.ReferenceType", "dict_itemiterator", "list_iterator", "Array", "Map", "Set", "Object", "code", "array", "hidden", "closure",
-    "system / Context", "system / PropertyCell", "(object elements)", "(object properties)"})
+_BETWEEN = frozenset(
+    {
+        "list",
+        "dict",
+        "tuple",
+        "set",
+        "frozenset",
+        "cell",
+        "function",
+        "method",
+        "builtin_function_or_method",
+        "generator",
+        "coroutine",
+        "async_generator",
+        "collections.deque",
+        "collections.OrderedDict",
+        "collections.defaultdict",
+        "functools.partial",
+        "mappingproxy",
+        "weakref.ReferenceType",
+        "dict_itemiterator",
+        "list_iterator",
+        "Array",
+        "Map",
+        "Set",
+        "Object",
+        "code",
+        "array",
+        "hidden",
+        "closure",
+        "system / Context",
+        "system / PropertyCell",
+        "(object elements)",
+        "(object properties)",
+    }
+)
 _BETWEEN_BEGINS = ("java.util.", "function ", "system / ", "left out ", "more of ", "more ", "joint ")
 _INDEX = re.compile(r"\[[^\]]*\]")
 
@@ -31,6 +62,7 @@ def label_shape(label: str) -> str:
 
 class Holder(NamedTuple):
     """What holds objects by name: its type (empty for a root), and the name, as `shop.EventBus.listeners` or `root bus`."""
+
     type_name: str
     name: str
 
@@ -40,9 +72,11 @@ class Tree:
 
     def __init__(self, graph: Graph) -> None:
         self.graph = graph
-        self.order = array("I")                         # the nodes, those nearest to the roots first
+        self.order = array("I")  # the nodes, those nearest to the roots first
         self.holders = array("I", [_NONE]) * len(graph)  # the node before each; _FROM_ROOT where a root names it
-        self.edges = array("Q", bytes(8 * len(graph)))  # the place of its slot among the graph's edges, or of its root among the roots
+        self.edges = array(
+            "Q", bytes(8 * len(graph))
+        )  # the place of its slot among the graph's edges, or of its root among the roots
         self._walk()
 
     def _walk(self) -> None:
@@ -135,6 +169,7 @@ def named_holder(type_name: str, label: str) -> Holder:
 
 class Shape(NamedTuple):
     """What paths have in common: the root's name without numbers, and types and labels without indexes and keys."""
+
     start: str
     steps: Tuple[Tuple[str, str], ...]  # label and type; what repeats stands once
 

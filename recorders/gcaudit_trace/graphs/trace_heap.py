@@ -21,14 +21,14 @@ class TraceHeap:
         self._first_slots = array("Q", [0])
         self._is_live = bytearray()
         # Of each slot:
-        self._held = array("I")         # an id, or 0
+        self._held = array("I")  # an id, or 0
         self._labels = array("I")
         self._is_weak = bytearray()
         self._types = Names()
         self._label_names = Names()
         self._label_names.place("")
         self._roots: Dict[str, int] = {}
-        self._owners: Dict[int, int] = {}   # by ownee, both by id
+        self._owners: Dict[int, int] = {}  # by ownee, both by id
         self._has_sizes = False
 
     def _cell(self, number: int) -> int:

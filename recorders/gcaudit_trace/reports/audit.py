@@ -14,6 +14,7 @@ _LAST_LINES = ("end gcs ", "halt gc ")
 
 class Audit(NamedTuple):
     """What gcaudit said of a trace: its report, the same with the slots named, its violations, its status, its standard error."""
+
     report: str
     named: str
     verdicts: List[Verdict]
@@ -33,7 +34,7 @@ def find_program(program: Optional[str] = None) -> str:
     if found is not None:
         return found
     top = os.path.abspath(__file__)
-    for _ in range(4):   # reports, gcaudit_trace, recorders, and the top
+    for _ in range(4):  # reports, gcaudit_trace, recorders, and the top
         top = os.path.dirname(top)
     script = os.path.join(top, "gcaudit")
     if os.path.isfile(os.path.join(top, "crates.txt")) and os.access(script, os.X_OK):
@@ -41,7 +42,9 @@ def find_program(program: Optional[str] = None) -> str:
     raise TraceError("gcaudit was not found: put it on the PATH, or its place into the variable GCAUDIT")
 
 
-def audit(trace: str, program: Optional[str] = None, options: Iterable[str] = (), progress: Optional[Progress] = None) -> Audit:
+def audit(
+    trace: str, program: Optional[str] = None, options: Iterable[str] = (), progress: Optional[Progress] = None
+) -> Audit:
     """Runs gcaudit on a trace, with further words of its command line. Where it could not read the trace to its end, that is a TraceError."""
     found = find_program(program)
     progress = progress or Progress("gcaudit", 2.0)

@@ -10,11 +10,12 @@ _SHOWN_TYPES = 6
 
 class Group(NamedTuple):
     """Violations of one kind, of one type and with one shape of path, in one collection, and what hangs from their objects."""
+
     kind: str
     type_name: str
     shape: Optional[Shape]
     verdicts: List[Verdict]
-    hanging: List[Verdict]      # of other objects, each of which is asserted dead and is reached through one of these
+    hanging: List[Verdict]  # of other objects, each of which is asserted dead and is reached through one of these
 
     @property
     def sample(self) -> Verdict:
@@ -70,8 +71,14 @@ def group_text(group: Group) -> str:
     if len(group.verdicts) > 1:
         lines.append("    and %d more in the same way" % (len(group.verdicts) - 1))
     if group.hanging:
-        lines.append("    from %s hang %d more that must be dead: %s" % ("it" if len(group.verdicts) == 1 else "them", len(group.hanging),
-                                                                        counted(verdict.type_name for verdict in group.hanging)))
+        lines.append(
+            "    from %s hang %d more that must be dead: %s"
+            % (
+                "it" if len(group.verdicts) == 1 else "them",
+                len(group.hanging),
+                counted(verdict.type_name for verdict in group.hanging),
+            )
+        )
     return "\n".join(lines)
 
 

@@ -15,6 +15,7 @@ KeptAlone = Dict[str, Tuple[int, int]]
 
 class Grown(NamedTuple):
     """Objects of a type with one holder: their number in each heap, what they became more on average, and in bytes."""
+
     type_name: str
     holder: Holder
     numbers: Tuple[int, ...]
@@ -42,10 +43,27 @@ class Growth:
             counts = [heap.get(key, (0, 0)) for heap in self._heaps]
             numbers = tuple(one[0] for one in counts)
             if numbers[-1] > numbers[0] and all(before <= after for before, after in zip(numbers, numbers[1:])):
-                found.append(Grown(key[0], key[1], numbers, (numbers[-1] - numbers[0]) / steps, (counts[-1][1] - counts[0][1]) / steps))
+                found.append(
+                    Grown(
+                        key[0],
+                        key[1],
+                        numbers,
+                        (numbers[-1] - numbers[0]) / steps,
+                        (counts[-1][1] - counts[0][1]) / steps,
+                    )
+                )
         grown_types = {one.type_name for one in found}
-        return sorted(found, key=lambda one: (one.holder.type_name in grown_types, is_between(one.type_name), -one.more, -one.more_bytes,
-                                              one.type_name, one.holder))
+        return sorted(
+            found,
+            key=lambda one: (
+                one.holder.type_name in grown_types,
+                is_between(one.type_name),
+                -one.more,
+                -one.more_bytes,
+                one.type_name,
+                one.holder,
+            ),
+        )
 
     def __str__(self) -> str:
         found = self.grown()
@@ -54,8 +72,18 @@ class Growth:
         for one in found[:_SHOWN]:
             indent = "  " if one.holder.type_name in grown_types else ""
             size = ", %s bytes" % _number(one.more_bytes) if one.more_bytes > 0 else ""
-            lines.append("%s+%s %s a %s%s, held by %s (%s)" % (indent, _number(one.more), one.type_name, self._step, size, one.holder.name,
-                                                              " -> ".join(map(str, one.numbers))))
+            lines.append(
+                "%s+%s %s a %s%s, held by %s (%s)"
+                % (
+                    indent,
+                    _number(one.more),
+                    one.type_name,
+                    self._step,
+                    size,
+                    one.holder.name,
+                    " -> ".join(map(str, one.numbers)),
+                )
+            )
             if not indent and self._kept:
                 lines.append("    its objects keep %s more alone a %s%s" % self._kept_more(one.type_name))
         if len(found) > _SHOWN:
@@ -85,4 +113,6 @@ def counts_of(graph: Graph) -> Counts:
 
 
 def growth_of(graphs: Sequence[Graph], step: str) -> Growth:
-    return Growth([counts_of(graph) for graph in graphs], step, [kept_by_type(graph, kept_alone(graph)) for graph in graphs])
+    return Growth(
+        [counts_of(graph) for graph in graphs], step, [kept_by_type(graph, kept_alone(graph)) for graph in graphs]
+    )

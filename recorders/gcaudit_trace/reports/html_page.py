@@ -8,12 +8,13 @@ from ..traces.names import cut
 if TYPE_CHECKING:
     from .view import Shown, View
 
-_WIDTH = 340        # of a picture; it is shown smaller where there is less room
+_WIDTH = 340  # of a picture; it is shown smaller where there is less room
 _BOX = 44
 _ARROW = 40
-_LETTERS = 42       # that fit into a box
+_LETTERS = 42  # that fit into a box
 
-_STYLE = """
+_STYLE = (
+    """
 :root { color-scheme: light dark; --line: #8886; --strong: #b3261e; --box: #8881; --accent: #0b57d0; }
 @media (prefers-color-scheme: dark) { :root { --strong: #f2b8b5; --accent: #a8c7fa; } }
 * { box-sizing: border-box; }
@@ -37,7 +38,9 @@ svg text { fill: CanvasText; font: 13px system-ui, sans-serif; }
 svg .small { font-size: 11px; opacity: .75; }
 svg path { stroke: CanvasText; fill: none; opacity: .6; }
 pre { white-space: pre-wrap; font-size: .85rem; border: 1px solid var(--line); border-radius: .3rem; padding: .5rem; }
-""" % _WIDTH
+"""
+    % _WIDTH
+)
 
 _SCRIPT = """
 (function () {
@@ -73,7 +76,12 @@ _SCRIPT = """
 
 def page(view: "View") -> str:
     """The whole page."""
-    title = "%d violation%s in %d group%s" % (view.violations, "" if view.violations == 1 else "s", len(view.shown), "" if len(view.shown) == 1 else "s")
+    title = "%d violation%s in %d group%s" % (
+        view.violations,
+        "" if view.violations == 1 else "s",
+        len(view.shown),
+        "" if len(view.shown) == 1 else "s",
+    )
     groups = "\n".join(_group(shown, place == 0) for place, shown in enumerate(view.shown))
     return """<!DOCTYPE html>
 <html lang="en">
@@ -98,7 +106,16 @@ def page(view: "View") -> str:
 <script>%s</script>
 </body>
 </html>
-""" % (title, _STYLE, title, html.escape(view.trace), view.collections, "" if view.collections == 1 else "s", groups, _SCRIPT)
+""" % (
+        title,
+        _STYLE,
+        title,
+        html.escape(view.trace),
+        view.collections,
+        "" if view.collections == 1 else "s",
+        groups,
+        _SCRIPT,
+    )
 
 
 def _group(shown: "Shown", is_open: bool) -> str:
@@ -106,8 +123,17 @@ def _group(shown: "Shown", is_open: bool) -> str:
     text = " ".join([shown.title, notes] + shown.paths)
     paths = shown.group.sample.paths
     pictures = '<div class="paths">%s</div>' % "".join(map(picture, paths)) if paths else ""
-    return '<details data-text="%s"%s><summary><b>%s</b><br>%s</summary><div class="inside">%s<pre>%s</pre></div></details>' % (
-        html.escape(text), " open" if is_open else "", html.escape(shown.title), html.escape(notes), pictures, html.escape("\n".join(shown.paths)))
+    return (
+        '<details data-text="%s"%s><summary><b>%s</b><br>%s</summary><div class="inside">%s<pre>%s</pre></div></details>'
+        % (
+            html.escape(text),
+            " open" if is_open else "",
+            html.escape(shown.title),
+            html.escape(notes),
+            pictures,
+            html.escape("\n".join(shown.paths)),
+        )
+    )
 
 
 def picture(path: Path) -> str:
@@ -121,11 +147,18 @@ def picture(path: Path) -> str:
             height = _text(rows, height + 18, "%d steps" % step.skipped) + 6
         height = _box(rows, _arrow(rows, height, step.label), step.type_name, step.number, place == len(path.steps) - 1)
     return '<figure><svg viewBox="0 0 %d %d" role="img" aria-label="%s"><title>%s</title>%s</svg></figure>' % (
-        _WIDTH, height + 4, html.escape(str(path)), html.escape(str(path)), "".join(rows))
+        _WIDTH,
+        height + 4,
+        html.escape(str(path)),
+        html.escape(str(path)),
+        "".join(rows),
+    )
 
 
 def _text(rows: List[str], at: int, text: str) -> int:
-    rows.append('<text x="%d" y="%d" text-anchor="middle">%s</text>' % (_WIDTH // 2, at, html.escape(cut(text, _LETTERS))))
+    rows.append(
+        '<text x="%d" y="%d" text-anchor="middle">%s</text>' % (_WIDTH // 2, at, html.escape(cut(text, _LETTERS)))
+    )
     return at
 
 
@@ -133,13 +166,28 @@ def _arrow(rows: List[str], at: int, label: str) -> int:
     middle, end = _WIDTH // 2, at + _ARROW
     rows.append('<path d="M%d %d V%d m-5 -7 l5 7 l5 -7"/>' % (middle, at + 2, end - 2))
     if label:
-        rows.append('<text x="%d" y="%d">%s</text>' % (middle + 12, at + _ARROW // 2 + 4, html.escape(cut(label, _LETTERS // 2))))
+        rows.append(
+            '<text x="%d" y="%d">%s</text>'
+            % (middle + 12, at + _ARROW // 2 + 4, html.escape(cut(label, _LETTERS // 2)))
+        )
     return end
 
 
 def _box(rows: List[str], at: int, type_name: str, number: int, is_last: bool) -> int:
-    rows.append('<g%s><rect x="2" y="%d" width="%d" height="%d" rx="6"/><text x="%d" y="%d" text-anchor="middle">%s</text>'
-                '<text class="small" x="%d" y="%d" text-anchor="middle">object %d</text></g>'
-                % (' class="last"' if is_last else "", at, _WIDTH - 4, _BOX, _WIDTH // 2, at + 19, html.escape(cut(type_name, _LETTERS)),
-                   _WIDTH // 2, at + 35, number))
+    rows.append(
+        '<g%s><rect x="2" y="%d" width="%d" height="%d" rx="6"/><text x="%d" y="%d" text-anchor="middle">%s</text>'
+        '<text class="small" x="%d" y="%d" text-anchor="middle">object %d</text></g>'
+        % (
+            ' class="last"' if is_last else "",
+            at,
+            _WIDTH - 4,
+            _BOX,
+            _WIDTH // 2,
+            at + 19,
+            html.escape(cut(type_name, _LETTERS)),
+            _WIDTH // 2,
+            at + 35,
+            number,
+        )
+    )
     return at + _BOX

@@ -32,6 +32,14 @@ def with_instances(done: Audit, trace: str) -> str:
 def _lines(verdict: Verdict, tree: Tree) -> List[str]:
     graph = tree.graph
     nodes = [node for node in range(len(graph)) if graph.type_of(node) == verdict.type_name]
-    return ["gc %d instance %d of %d %s: %s" % (verdict.collection, place, len(nodes), verdict.type_name,
-                                                tree.path(node) if tree.is_reached(node) else "only an owner leads to it")
-            for place, node in enumerate(nodes, 1)]
+    return [
+        "gc %d instance %d of %d %s: %s"
+        % (
+            verdict.collection,
+            place,
+            len(nodes),
+            verdict.type_name,
+            tree.path(node) if tree.is_reached(node) else "only an owner leads to it",
+        )
+        for place, node in enumerate(nodes, 1)
+    ]

@@ -7,34 +7,54 @@ from ..graphs.path import MORE, Path, Step
 
 _READ_AT_A_TIME = 1 << 16
 _NUMBERS = re.compile(r"\d+")
-_MOST_IN_EXPRESSION = 4096                              # of more numbers an expression takes long to make
+_MOST_IN_EXPRESSION = 4096  # of more numbers an expression takes long to make
 # How lines begin that tell of one object, the expression for its number being between the two: as the recorders write them, and as gcsnap does.
-_OF_OBJECT = ((r'\{"op":"(?:store","at|alloc","id)":', ""), (r'\{"at":', r'[0-9]*,"op":"store"'), (r'\{"id":', r'[0-9]*,"op":"alloc"'))
-_NEVER_NAMED = r'\{"op":"(?:set-weak"|assert-|start-region")'    # and those that tell no type, no label and no root
+_OF_OBJECT = (
+    (r'\{"op":"(?:store","at|alloc","id)":', ""),
+    (r'\{"at":', r'[0-9]*,"op":"store"'),
+    (r'\{"id":', r'[0-9]*,"op":"alloc"'),
+)
+_NEVER_NAMED = r'\{"op":"(?:set-weak"|assert-|start-region")'  # and those that tell no type, no label and no root
 _HEADS = (
     ("dead", re.compile(r"gc (?P<collection>\d+) dead (?P<number>\d+) (?P<type>.*)", re.DOTALL)),
-    ("unshared", re.compile(r"gc (?P<collection>\d+) unshared (?P<number>\d+) (?P<type>.*) refs (?P<count>\d+)", re.DOTALL)),
-    ("ownedby", re.compile(r"gc (?P<collection>\d+) ownedby (?P<number>\d+) (?P<type>.*) owner (?P<owner>\d+)(?P<gone> gone)?", re.DOTALL)),
-    ("instances", re.compile(r"gc (?P<collection>\d+) instances (?P<type>.*) limit (?P<limit>\d+) found (?P<count>\d+)", re.DOTALL)),
+    (
+        "unshared",
+        re.compile(r"gc (?P<collection>\d+) unshared (?P<number>\d+) (?P<type>.*) refs (?P<count>\d+)", re.DOTALL),
+    ),
+    (
+        "ownedby",
+        re.compile(
+            r"gc (?P<collection>\d+) ownedby (?P<number>\d+) (?P<type>.*) owner (?P<owner>\d+)(?P<gone> gone)?",
+            re.DOTALL,
+        ),
+    ),
+    (
+        "instances",
+        re.compile(
+            r"gc (?P<collection>\d+) instances (?P<type>.*) limit (?P<limit>\d+) found (?P<count>\d+)", re.DOTALL
+        ),
+    ),
 )
 
 
 class Verdict(NamedTuple):
     """A violation: what was asserted, of which object (0 for instances) and type, and the paths that the report has."""
+
     kind: str
     collection: int
     number: int
     type_name: str
-    count: int      # references, or objects found
+    count: int  # references, or objects found
     limit: int
     owner: int
     owner_gone: bool
     paths: Tuple[Path, ...]
-    line: str       # with the slots named
+    line: str  # with the slots named
 
 
 class Report(NamedTuple):
     """The report with its slots named, and its violations."""
+
     named: str
     verdicts: List[Verdict]
 
@@ -49,7 +69,13 @@ def read_report(report: str, trace: str, at: Callable[[int], None] = lambda done
             of_collection.setdefault(int(words[1]), []).append(place)
     verdicts: List[Verdict] = []
     if of_collection:
-        wanted = {int(n) for places in of_collection.values() for place in places for n in _NUMBERS.findall(lines[place]) if len(n) < 11}
+        wanted = {
+            int(n)
+            for places in of_collection.values()
+            for place in places
+            for n in _NUMBERS.findall(lines[place])
+            if len(n) < 11
+        }
         heap, collection, last = _Labels(wanted), 0, max(of_collection)
         for line in _lines_about(trace, wanted, at):
             if heap.read(line):
@@ -85,13 +111,15 @@ def _lines_finder(wanted: Set[int]) -> Callable[[bytes, int, int], Iterable[byte
     An object has millions of neighbours in a trace, and a step of Python for each of their lines would take longer than gcaudit itself.
     """
     if len(wanted) <= _MOST_IN_EXPRESSION:
-        other = r'(?!(?:%s)(?![0-9]))[0-9]' % _one_of(wanted)
+        other = r"(?!(?:%s)(?![0-9]))[0-9]" % _one_of(wanted)
         about_others = "|".join([before + other + behind for before, behind in _OF_OBJECT] + [_NEVER_NAMED])
-        return re.compile((r'\n(?!%s)[^\n]*' % about_others).encode()).findall
+        return re.compile((r"\n(?!%s)[^\n]*" % about_others).encode()).findall
     about_one = "|".join(before + "([0-9]+)" + behind.replace("[0-9]*", "") for before, behind in _OF_OBJECT)
-    split = re.compile((r'\n(?!%s)(?=(?:%s)?)([^\n]*)' % (_NEVER_NAMED, about_one)).encode()).findall
+    split = re.compile((r"\n(?!%s)(?=(?:%s)?)([^\n]*)" % (_NEVER_NAMED, about_one)).encode()).findall
     numbers = {b"%d" % number for number in wanted}
-    return lambda text, start, end: [line for *found, line in split(text, start, end) if not any(found) or numbers.intersection(found)]
+    return lambda text, start, end: [
+        line for *found, line in split(text, start, end) if not any(found) or numbers.intersection(found)
+    ]
 
 
 def _one_of(numbers: Iterable[int]) -> str:
@@ -106,6 +134,7 @@ def _one_of(numbers: Iterable[int]) -> str:
     def expression(at: Dict[str, Any]) -> str:
         further = "|".join(digit + expression(more) for digit, more in at.items() if digit)
         return "(?:%s)%s" % (further, "?" if "" in at else "") if further else ""
+
     return expression(by_digit)
 
 
@@ -140,7 +169,7 @@ def _verdict(line: str, heap: _Labels) -> Verdict:
         paths = [_path(text, heap) for text in _paths(line[at:])] if has_paths else []
         if all(path is not None for path in paths):
             for kind, head in _HEADS:
-                found = head.fullmatch(line[:at - 2])
+                found = head.fullmatch(line[: at - 2])
                 if found is not None:
                     shown = line[:at] + " | ".join(map(str, paths)) if has_paths else line
                     return _made(kind, found.groupdict(), tuple(paths), shown)
@@ -150,8 +179,19 @@ def _verdict(line: str, heap: _Labels) -> Verdict:
 def _made(kind: str, words: Dict[str, Optional[str]], paths: Tuple[Path, ...], line: str) -> Verdict:
     def number(name: str) -> int:
         return int(words.get(name) or 0)
-    return Verdict(kind, number("collection"), number("number"), words["type"] or "", number("count"), number("limit"), number("owner"),
-                   bool(words.get("gone")), paths, line)
+
+    return Verdict(
+        kind,
+        number("collection"),
+        number("number"),
+        words["type"] or "",
+        number("count"),
+        number("limit"),
+        number("owner"),
+        bool(words.get("gone")),
+        paths,
+        line,
+    )
 
 
 def _starts(line: str) -> Iterator[Tuple[int, bool]]:
@@ -168,7 +208,7 @@ def _starts(line: str) -> Iterator[Tuple[int, bool]]:
 def _paths(text: str) -> List[str]:
     """An unshared line has two paths, with a bar between them."""
     for bar in re.finditer(r" \| (?=root |owner )", text):
-        return [text[:bar.start()], text[bar.end():]]
+        return [text[: bar.start()], text[bar.end() :]]
     return [text]
 
 
@@ -184,7 +224,7 @@ def _path(text: str, heap: _Labels) -> Optional[Path]:
     while rest:
         left_out = re.match(r" \.\.\. (\d+) steps \.\.\.", rest)
         if left_out:
-            skipped, rest, holder = int(left_out.group(1)), rest[left_out.end():], None
+            skipped, rest, holder = int(left_out.group(1)), rest[left_out.end() :], None
             continue
         step = re.match(r" \[(\d+)\] -> (\d+) ", rest)
         if step is None:
@@ -197,7 +237,7 @@ def _path(text: str, heap: _Labels) -> Optional[Path]:
         if label != MORE:
             steps.append(Step(label or "[slot %d]" % slot, held, held_type, skipped))
             skipped = 0
-        rest, holder = rest[step.end() + len(held_type):], held
+        rest, holder = rest[step.end() + len(held_type) :], held
     return Path(root, number, kind, tuple(steps))
 
 
@@ -209,10 +249,10 @@ def _path_head(text: str, heap: _Labels) -> Optional[Tuple[Optional[str], int, s
         kind = heap.types.get(number)
         if kind is None or not text.startswith(kind, owner.end()):
             return None
-        return None, number, kind, text[owner.end() + len(kind):]
+        return None, number, kind, text[owner.end() + len(kind) :]
     for name, to in heap.roots.items():
         kind = heap.types.get(to) if to is not None else None
         head = "root %s -> %s %s" % (name, to, kind)
-        if kind is not None and text.startswith(head) and text[len(head):len(head) + 1] in ("", " "):
-            return name, to, kind, text[len(head):]
+        if kind is not None and text.startswith(head) and text[len(head) : len(head) + 1] in ("", " "):
+            return name, to, kind, text[len(head) :]
     return None

@@ -24,7 +24,10 @@ def _types(graph: Graph, kept: Kept, top: int) -> str:
         one[0] += 1
         one[1] += graph.sizes[node] if graph.sizes is not None else 0
     alone = kept_by_type(graph, kept)
-    rows = [(objects, size, *alone.get(graph.type_names[kind], (0, 0)), graph.type_names[kind]) for kind, (objects, size) in counts.items()]
+    rows = [
+        (objects, size, *alone.get(graph.type_names[kind], (0, 0)), graph.type_names[kind])
+        for kind, (objects, size) in counts.items()
+    ]
     by = 1 if graph.sizes is not None else 0
     rows.sort(key=lambda row: (-row[by], -row[0], row[-1]))
     return _shown(graph, ("objects", "bytes", "kept alone", "bytes kept alone", "type"), rows, top, "types")

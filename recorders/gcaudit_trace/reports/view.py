@@ -18,6 +18,7 @@ _SENTENCES = {
 
 class Kept(NamedTuple):
     """How many objects something keeps alive alone, itself counted, and their bytes where these are known."""
+
     objects: int
     bytes: Optional[int]
 
@@ -28,6 +29,7 @@ class Kept(NamedTuple):
 
 class Shown(NamedTuple):
     """A group with what its sample keeps alive; None where the graph doesn't tell it."""
+
     group: Group
     kept: Optional[Kept]
 
@@ -36,8 +38,17 @@ class Shown(NamedTuple):
         """What is wrong, in one line."""
         group, count = self.group, len(self.group.verdicts)
         if group.kind == "instances":
-            return "%s %s: %d, and the limit is %d" % (group.type_name, _SENTENCES[group.kind], group.sample.count, group.sample.limit)
-        return "%s%s %s" % (group.type_name or "an assertion", " (%d times)" % count if count > 1 else "", _SENTENCES[group.kind])
+            return "%s %s: %d, and the limit is %d" % (
+                group.type_name,
+                _SENTENCES[group.kind],
+                group.sample.count,
+                group.sample.limit,
+            )
+        return "%s%s %s" % (
+            group.type_name or "an assertion",
+            " (%d times)" % count if count > 1 else "",
+            _SENTENCES[group.kind],
+        )
 
     @property
     def paths(self) -> List[str]:
@@ -50,16 +61,23 @@ class Shown(NamedTuple):
         if self.group.sample.kind == "unshared":
             found.append("%d references" % self.group.sample.count)
         if self.group.sample.kind == "ownedby":
-            found.append("its owner, object %d, %s" % (self.group.sample.owner, "is gone" if self.group.sample.owner_gone else "doesn't lead to it"))
+            found.append(
+                "its owner, object %d, %s"
+                % (self.group.sample.owner, "is gone" if self.group.sample.owner_gone else "doesn't lead to it")
+            )
         if self.kept is not None:
             found.append(str(self.kept))
         if self.group.hanging:
-            found.append("%d more that must be dead hang from it: %s" % (len(self.group.hanging), counted(one.type_name for one in self.group.hanging)))
+            found.append(
+                "%d more that must be dead hang from it: %s"
+                % (len(self.group.hanging), counted(one.type_name for one in self.group.hanging))
+            )
         return found
 
 
 class View(NamedTuple):
     """All that is shown of a trace."""
+
     trace: str
     shown: List[Shown]
     violations: int
@@ -70,7 +88,9 @@ class View(NamedTuple):
         for one in self.shown:
             lines.append("%s (%s)" % (one.title, "; ".join(one.notes)))
             lines += ["    " + path for path in one.paths]
-        lines.append("%d violations in %d groups; %d collections" % (self.violations, len(self.shown), self.collections))
+        lines.append(
+            "%d violations in %d groups; %d collections" % (self.violations, len(self.shown), self.collections)
+        )
         return "\n".join(lines) + "\n"
 
 
@@ -92,7 +112,9 @@ def view_of(done: Audit, trace: str, name: str) -> View:
             if collection >= max(wanted):
                 break
     last = done.report.rstrip("\n").split("\n")[-1].split(" ")
-    return View(name, [Shown(group, kept.get(place)) for place, group in enumerate(groups)], int(last[-1]), int(last[2]))
+    return View(
+        name, [Shown(group, kept.get(place)) for place, group in enumerate(groups)], int(last[-1]), int(last[2])
+    )
 
 
 def _kept_of(group: Group, graph: Graph, alone: KeptOfAll, by_type: Dict[str, Tuple[int, int]]) -> Optional[Kept]:

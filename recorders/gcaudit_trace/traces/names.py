@@ -23,14 +23,14 @@ def legal_name(text: str) -> str:
     encoded = name.encode("utf-8")
     if len(encoded) <= MOST_BYTES:
         return name
-    front = encoded[:MOST_BYTES - _MARK_BYTES].decode("utf-8", "ignore")
+    front = encoded[: MOST_BYTES - _MARK_BYTES].decode("utf-8", "ignore")
     return front + "~" + hashlib.sha256(encoded).hexdigest()[:8]
 
 
 def cut(text: str, most: int) -> str:
     """The text on one line, with at most so many characters."""
     text = printable(text)
-    return text if len(text) <= most else text[:most - 3] + "..."
+    return text if len(text) <= most else text[: most - 3] + "..."
 
 
 class UniqueNames:

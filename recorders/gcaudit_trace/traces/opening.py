@@ -49,7 +49,9 @@ def _unpack(file: BinaryIO, plain: Any, path: str) -> None:
     except (EOFError, zlib.error, gzip.BadGzipFile) as error:
         raise TraceError("%s is packed by gzip and damaged: %s" % (path, error)) from None
     except OSError as error:
-        raise TraceError("%s can't be unpacked into the folder for temporary files: %s" % (path, error.strerror or error)) from None
+        raise TraceError(
+            "%s can't be unpacked into the folder for temporary files: %s" % (path, error.strerror or error)
+        ) from None
 
 
 @contextlib.contextmanager
@@ -71,5 +73,7 @@ def trace_file(path: str) -> Iterator[str]:
                 shutil.copyfileobj(source, file, 1 << 20)
         except OSError as error:
             name = "standard input" if path == "-" else path
-            raise TraceError("%s can't be copied into the folder for temporary files: %s" % (name, error.strerror or error)) from None
+            raise TraceError(
+                "%s can't be copied into the folder for temporary files: %s" % (name, error.strerror or error)
+            ) from None
         yield copy

@@ -21,7 +21,9 @@ class SnapshotWriter(Counted):
     def _write(self, text: str) -> None:
         self._bytes += len(text) if text.isascii() else len(text.encode("utf-8"))
         if self._bytes > limits.LONGEST_SNAPSHOT:
-            raise TraceError("the snapshot would have more than %d bytes, which gcsnap doesn't take" % limits.LONGEST_SNAPSHOT)
+            raise TraceError(
+                "the snapshot would have more than %d bytes, which gcsnap doesn't take" % limits.LONGEST_SNAPSHOT
+            )
         self._write_text(text)
 
     def object(self, type_name: str, contents: List[Tuple[str, int, bool]]) -> int:

@@ -19,7 +19,9 @@ class TraceWriter(Counted):
     def _quote(self, text: str) -> str:
         quoted = self._quoted.get(text)
         if quoted is None:
-            quoted = json.dumps(text.encode("utf-8", "backslashreplace").decode("utf-8"))   # a lone surrogate is no JSON for gcaudit
+            quoted = json.dumps(
+                text.encode("utf-8", "backslashreplace").decode("utf-8")
+            )  # a lone surrogate is no JSON for gcaudit
             if len(self._quoted) < 200000:
                 self._quoted[text] = quoted
         return quoted
@@ -29,7 +31,9 @@ class TraceWriter(Counted):
         number = self._see_object(type_name, slots)
         on_thread = ',"thread":%d' % thread if thread else ""
         sized = "" if size is None else ',"bytes":%d' % size
-        self._write(f'{{"op":"alloc","id":{number},"type":{self._quoted.get(type_name) or self._quote(type_name)},"slots":{slots}{on_thread}{sized}}}\n')
+        self._write(
+            f'{{"op":"alloc","id":{number},"type":{self._quoted.get(type_name) or self._quote(type_name)},"slots":{slots}{on_thread}{sized}}}\n'
+        )
         return number
 
     def freed(self, objects: int, slots: int) -> None:

@@ -21,10 +21,12 @@ class WholeFile:
         try:
             self.path = os.path.abspath(os.fsdecode(path))
         except TypeError:
-            raise TraceError("a trace is written to a path or to an open text file, not to a %s" % type(path).__name__) from None
+            raise TraceError(
+                "a trace is written to a path or to an open text file, not to a %s" % type(path).__name__
+            ) from None
         if "\0" in self.path or not path:
             raise TraceError("a path is not empty, and has no zero byte in it")
-        self._place = os.path.realpath(self.path)   # a link stays, and what it leads to is replaced
+        self._place = os.path.realpath(self.path)  # a link stays, and what it leads to is replaced
         self.folder, base = os.path.split(self._place)
         if os.path.exists(self._place) and not os.path.isfile(self._place):
             raise TraceError("%s can't be written: something is there that is no plain file" % path)
