@@ -15,11 +15,11 @@ class Hold:
 
     def __init__(self, obj: Any) -> None:
         self.serial = next(self._serials)
-        self._object = None
+        self._object: Any = None
+        self._weak: Optional[weakref.ref] = None
         try:
             self._weak = weakref.ref(obj)
         except TypeError:
-            self._weak = None
             self._object = obj
 
     def get(self) -> Any:
@@ -48,7 +48,7 @@ class Assertion:
         self.kind = kind
         self.target = Hold(target)
         self.owner = None if owner is None else Hold(owner)
-        self.owner_type = None if owner is None else shape_of(owner).name
+        self.owner_type = "" if owner is None else shape_of(owner).name
         self.in_region = in_region
         self.written: Optional[Tuple[int, ...]] = None  # the ids that the trace has this assertion of
 

@@ -17,7 +17,7 @@ Label = Union[str, int]
 Content = Tuple[Label, Any]
 
 WEAK = "(weak)"
-CellType = type((lambda x: lambda: x)(0).__closure__[0])
+CellType = types.CellType
 PLAIN = frozenset({int, float, complex, bool, str, bytes, type(None), type(Ellipsis), type(NotImplemented), range})
 PROXIES = frozenset({weakref.ProxyType, weakref.CallableProxyType})
 OWN_MODULES = ("gcaudit_recorder.", "gcaudit_trace.")
@@ -38,13 +38,20 @@ _IS_HEAP_TYPE = 1 << 9
 _GC_HEAD = 16
 LONG_TEXT = 256  # a text or bytes of more than this count for the object that holds them
 _OPTIMIZED = 1  # code whose variables don't stand in a dict
-_class_dict = type.__dict__["__dict__"].__get__
-_module_dict = types.ModuleType.__dict__["__dict__"].__get__
-_qualified = type.__dict__["__qualname__"].__get__
-_module = type.__dict__["__module__"].__get__
-_order = type.__dict__["__mro__"].__get__
-_bases = type.__dict__["__bases__"].__get__
-_flags = type.__dict__["__flags__"].__get__
+
+
+def _descriptor(kind: type, name: str) -> Any:
+    """What a built-in type has under a name, by which it is read without a method of the program's."""
+    return vars(kind)[name]
+
+
+class_dict = _descriptor(type, "__dict__").__get__
+_module_dict = _descriptor(types.ModuleType, "__dict__").__get__
+_qualified = _descriptor(type, "__qualname__").__get__
+_module = _descriptor(type, "__module__").__get__
+_order = _descriptor(type, "__mro__").__get__
+_bases = _descriptor(type, "__bases__").__get__
+_flags = _descriptor(type, "__flags__").__get__
 
 
 class Shape(NamedTuple):
@@ -56,7 +63,7 @@ class Shape(NamedTuple):
     weakly: bool  # objects of the type can be referred to weakly
     grows: bool  # what an object holds can become more
     reader: Callable[[Any, "Shape"], List[Content]]
-    own_dict: Optional[Any]  # the descriptor of __dict__
+    own_dict: Any  # the descriptor of __dict__
     members: Tuple[Tuple[str, Any], ...]  # label and descriptor of each name in __slots__
     size: Callable[[Any], int]  # the bytes of an object itself
     head: int  # the bytes before it
@@ -131,7 +138,7 @@ def object_name(obj: Any, shape: Shape) -> str:
 def _new_shape(kind: type) -> Shape:
     own_dict, members, size = None, [], None
     for base in _order(kind) or ():  # a type of C code that isn't ready has none
-        for name, found in list(_class_dict(base).items()):
+        for name, found in list(class_dict(base).items()):
             if name == "__dict__" and type(found) in (types.GetSetDescriptorType, types.MemberDescriptorType):
                 own_dict = own_dict or found
             elif type(found) is types.MemberDescriptorType and kind is not types.FunctionType:
@@ -189,7 +196,7 @@ def _holds_by_its_dict(kind: type) -> bool:
         kind.__basicsize__ == _Plain.__basicsize__
         and kind.__dictoffset__ == _Plain.__dictoffset__
         and kind.__itemsize__ == 0
-        and all(_flags(base) & _IS_HEAP_TYPE and "__slots__" not in _class_dict(base) for base in bases)
+        and all(_flags(base) & _IS_HEAP_TYPE and "__slots__" not in class_dict(base) for base in bases)
     )
 
 
@@ -302,13 +309,12 @@ def _of_any(obj: Any, shape: Shape) -> List[Content]:
         if issubclass(kind, dict):
             found += _items(obj)
         elif issubclass(kind, (list, tuple)):
-            base = list if issubclass(kind, list) else tuple
-            found += enumerate(base.__iter__(obj))
+            found += enumerate(list.__iter__(obj) if issubclass(kind, list) else tuple.__iter__(obj))
         elif issubclass(kind, deque):
             found += enumerate(list(deque.__iter__(obj)))
         elif issubclass(kind, (set, frozenset)):
-            base = set if issubclass(kind, set) else frozenset
-            found += [("(element)", one) for one in list(base.__iter__(obj))]
+            elements = set.__iter__(obj) if issubclass(kind, set) else frozenset.__iter__(obj)
+            found += [("(element)", one) for one in list(elements)]
         elif shape.name == "numpy.ndarray":
             found += _of_array(obj)
     found += _unnamed(gc.get_referents(obj), found, merged, kind)
@@ -401,7 +407,7 @@ def _of_frame(obj: types.FrameType, shape: Shape) -> List[Content]:
 
 
 def _of_class(obj: type, shape: Shape) -> List[Content]:
-    found = _attributes(_class_dict(obj))
+    found = _attributes(class_dict(obj))
     return found + [("(base)", base) for base in _bases(obj)]
 
 

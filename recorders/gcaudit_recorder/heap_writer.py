@@ -158,7 +158,7 @@ class HeapWriter:
 
     def _write_owned(self, one: Assertion, ownee: int, walk: Walk) -> None:
         """The owner may have died since; then an object without contents stands for it until this collection."""
-        owner = one.owner.get()
+        owner = None if one.owner is None else one.owner.get()
         if owner is not None:
             number = walk.now.numbers[walk.now.place_of[id(owner)]]
             walk.now.owns.add(number)

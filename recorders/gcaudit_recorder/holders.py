@@ -3,9 +3,9 @@ import gc
 import sys
 import threading
 import types
-from typing import Any, Dict, Iterable, Iterator, List, NamedTuple, Set, Tuple
+from typing import Any, Dict, Iterable, Iterator, List, NamedTuple, Optional, Set, Tuple
 
-from .contents import PLAIN, Label, contents, is_own_frame, locals_of, object_name, shape_of
+from .contents import PLAIN, Label, class_dict, contents, is_own_frame, locals_of, object_name, shape_of
 
 NOBODY = "no object that Python's collector knows: the interpreter, C code, or a running call"
 _MOST_LEVELS = 40
@@ -22,7 +22,8 @@ class Link(NamedTuple):
 def running_frames() -> Iterator[Tuple[str, types.FrameType]]:
     """The frames of all threads with the names of the threads, but for the recorder's own."""
     names = {thread.ident: thread.name for thread in threading.enumerate()}
-    for ident, frame in list(sys._current_frames().items()):
+    for ident, innermost in list(sys._current_frames().items()):
+        frame: Optional[types.FrameType] = innermost
         while frame is not None:
             if not is_own_frame(frame):
                 yield names.get(ident, "thread %d" % ident), frame
@@ -139,7 +140,7 @@ def _is_own(holder: Any) -> bool:
 def _own_dict(holder: Any) -> Any:
     """The dict of an object's attributes, as gc.get_referrers tells it; None where it has none."""
     if isinstance(holder, type):
-        return gc.get_referents(type.__dict__["__dict__"].__get__(holder))[0]
+        return gc.get_referents(class_dict(holder))[0]
     shape = shape_of(holder)
     return None if shape.own_dict is None else shape.own_dict.__get__(holder)
 

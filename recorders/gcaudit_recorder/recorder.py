@@ -129,7 +129,7 @@ class Recorder:
         self._need_open()
         if isinstance(ignore, str):
             raise TraceError("ignore takes a list of patterns; write [%r]" % ignore)
-        patterns = list(ignore) if isinstance(ignore, Iterable) else [ignore]
+        patterns: List[Any] = list(ignore) if isinstance(ignore, Iterable) else [ignore]
         if not all(isinstance(pattern, str) for pattern in patterns):
             raise TraceError("ignore takes a list of patterns, which are texts; not %r" % (ignore,))
         with NoAutomaticCollection():
@@ -251,7 +251,7 @@ class Recorder:
         return [(name, obj) for name, obj in found if obj is not None]
 
     def _owners(self) -> List[Any]:
-        pairs = [(a.target.get(), a.owner.get()) for a in self._assertions if a.kind == "owned"]
+        pairs = [(a.target.get(), a.owner.get()) for a in self._assertions if a.owner is not None]
         return [owner for ownee, owner in pairs if ownee is not None and owner is not None]
 
     def _held_addresses(self) -> Dict[int, Set[int]]:

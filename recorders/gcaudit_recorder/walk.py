@@ -27,7 +27,7 @@ class Labels:
         self._indexes: List[str] = []
 
     def number(self, label: Label) -> int:
-        if type(label) is int:
+        if isinstance(label, int):
             return -1 - label
         found = self._numbers.get(label)
         if found is None:
@@ -217,7 +217,7 @@ class Walk:
             kind = type(held)
             if kind in PLAIN:
                 if (kind is str or kind is bytes) and len(held) > LONG_TEXT:
-                    texts += kind.__sizeof__(held)
+                    texts += held.__sizeof__()
                 continue
             recorded = recorded_of.get(kind)
             if not recorded and (recorded is False or not self._records(held)):

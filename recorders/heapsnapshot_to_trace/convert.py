@@ -5,7 +5,7 @@ from array import array
 from collections import Counter
 from itertools import chain, compress, repeat
 from operator import floordiv, mod
-from typing import BinaryIO, Dict, Iterator, List, Set, Tuple
+from typing import BinaryIO, Callable, Dict, Iterator, List, Set, Tuple
 
 from gcaudit_trace import TraceError
 from gcaudit_trace.dumps.command import say_left_out
@@ -65,7 +65,7 @@ class Snapshot:
     # ---- the first time through: the nodes and the names
 
     def read(self) -> None:
-        takers = {
+        takers: Dict[str, Callable[[Reader], None]] = {
             "snapshot": self._take_meta,
             "nodes": self._take_nodes,
             "edges": self._take_edge_names,
@@ -234,7 +234,7 @@ class Snapshot:
         """All edges, some at a time. A code is 0 where a node is neither kept nor left out."""
         width, node_width = self._edge_width, self._node_width
         kind_at, name_at, to_at = self._edge_at
-        holders = chain.from_iterable(map(repeat, self.codes, self.edge_counts))
+        holders: Iterator[int] = chain.from_iterable(map(repeat, self.codes, self.edge_counts))  # type: ignore[arg-type]
         reader = Reader(self.file, self.name, self.progress, step, self.size, self._edges_start)
         for rows in self._rows(reader, width):
             held = map(self.codes.__getitem__, map(floordiv, rows[to_at::width], repeat(node_width)))

@@ -204,7 +204,7 @@ def read_members(reader: Reader, takers: Dict[str, Callable[[Reader], None]]) ->
     while reader.next_sign() != b"}":
         name = reader.string()
         reader.take(b":")
-        taker = takers.get(name)
+        taker = None if name is None else takers.get(name)
         if taker is None:
             reader.skip()
         elif name in seen:

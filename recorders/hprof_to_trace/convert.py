@@ -3,7 +3,7 @@ import argparse
 import struct
 from array import array
 from itertools import chain
-from typing import BinaryIO, Dict, Iterable, Iterator, List, NamedTuple, Set, Tuple
+from typing import BinaryIO, Dict, Iterable, Iterator, List, NamedTuple, Sequence, Set, Tuple
 
 from gcaudit_trace import TraceError
 from gcaudit_trace.dumps.command import say_left_out
@@ -165,7 +165,7 @@ class Heap:
                 layout = layouts.get(class_id)
                 if layout is None or layout.unpack.size > length:
                     layout = self._fields(place)[0]  # refuses one that is too short
-                found = layout.unpack.unpack_from(data, place + size)
+                found: Sequence[int] = layout.unpack.unpack_from(data, place + size)
                 if layout.has_weak:
                     found = [to for to, weak in zip(found, layout.weak) if not weak]
                 yield many(found)

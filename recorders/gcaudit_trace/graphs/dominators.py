@@ -49,7 +49,7 @@ def _in_depth(graph: Graph):
         place_of[root] = len(order)
         parents.append(0)
         order.append(root)
-        stack: List[Sequence[int]] = [[root, starts[root]]]
+        stack: List[List[int]] = [[root, starts[root]]]
         while stack:
             top = stack[-1]
             node, edge = top

@@ -27,7 +27,7 @@ class Staying(NamedTuple):
     """A joint that stays in the trace."""
 
     place: int  # of one of the left-out objects that it stands for
-    count: int  # how many these are
+    count: int  # type: ignore[assignment]  # how many these are
     contents: List[Tuple[str, int, bool]]  # label, number in the trace, and that it isn't weak
 
 

@@ -145,7 +145,7 @@ class Tree:
         between = [is_between(name) for name in graph.type_names]
         known: Dict[Tuple[int, int], Holder] = {}
         roots = [Holder("", "root " + name) for name, _ in graph.roots]
-        found: List[Optional[Holder]] = [None] * len(graph)
+        found = [Holder("", "")] * len(graph)
         for node in self.order:
             above, edge = self.holders[node], self.edges[node]
             if above == _FROM_ROOT:
@@ -154,9 +154,9 @@ class Tree:
                 holder = found[above]
             else:
                 key = graph.kinds[above], graph.labels[edge]
-                holder = known.get(key)
-                if holder is None:
-                    holder = known[key] = named_holder(graph.type_names[key[0]], graph.label_texts[key[1]])
+                if key not in known:
+                    known[key] = named_holder(graph.type_names[key[0]], graph.label_texts[key[1]])
+                holder = known[key]
             found[node] = holder
             yield node, holder
 

@@ -47,7 +47,7 @@ def audit(
 ) -> Audit:
     """Runs gcaudit on a trace, with further words of its command line. Where it could not read the trace to its end, that is a TraceError."""
     found = find_program(program)
-    progress = progress or Progress("gcaudit", 2.0)
+    said = progress or Progress("gcaudit", 2.0)
     try:
         lines = open(trace, "rb")
     except OSError as error:
@@ -60,16 +60,16 @@ def audit(
             raise TraceError("%s could not be run: %s" % (found, error.strerror)) from None
         with process:
             try:
-                out, err = _outputs(process, lines.fileno(), size, progress)
+                out, err = _outputs(process, lines.fileno(), size, said)
             except BaseException:
                 process.kill()
                 raise
     report, errors = out.decode("utf-8", "replace"), err.decode("utf-8", "replace")
     last = report.rstrip("\n").split("\n")[-1]
     if process.returncode not in _PASSED or not last.startswith(_LAST_LINES):
-        said = (last if last.startswith("fault ") else "") or errors.strip().split("\n")[-1] or "no report"
-        raise TraceError("gcaudit did not read %s to its end (status %d): %s" % (trace, process.returncode, said))
-    named = read_report(report, trace, lambda done: progress.at("naming the slots", done, size))
+        why = (last if last.startswith("fault ") else "") or errors.strip().split("\n")[-1] or "no report"
+        raise TraceError("gcaudit did not read %s to its end (status %d): %s" % (trace, process.returncode, why))
+    named = read_report(report, trace, lambda done: said.at("naming the slots", done, size))
     return Audit(report, named.named, named.verdicts, process.returncode, errors)
 
 

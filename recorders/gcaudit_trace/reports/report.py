@@ -44,7 +44,7 @@ class Verdict(NamedTuple):
     collection: int
     number: int
     type_name: str
-    count: int  # references, or objects found
+    count: int  # type: ignore[assignment]  # references, or objects found
     limit: int
     owner: int
     owner_gone: bool
@@ -77,8 +77,8 @@ def read_report(report: str, trace: str, at: Callable[[int], None] = lambda done
             if len(n) < 11
         }
         heap, collection, last = _Labels(wanted), 0, max(of_collection)
-        for line in _lines_about(trace, wanted, at):
-            if heap.read(line):
+        for told in _lines_about(trace, wanted, at):
+            if heap.read(told):
                 collection += 1
                 for place in of_collection.get(collection, ()):
                     verdict = _verdict(lines[place], heap)
@@ -166,8 +166,9 @@ class _Labels:
 def _verdict(line: str, heap: _Labels) -> Verdict:
     """The violation that a line tells, with its slots named; where it can't be read with certainty, without paths."""
     for at, has_paths in _starts(line):
-        paths = [_path(text, heap) for text in _paths(line[at:])] if has_paths else []
-        if all(path is not None for path in paths):
+        texts = _paths(line[at:]) if has_paths else []
+        paths = [path for path in (_path(text, heap) for text in texts) if path is not None]
+        if len(paths) == len(texts):
             for kind, head in _HEADS:
                 found = head.fullmatch(line[: at - 2])
                 if found is not None:

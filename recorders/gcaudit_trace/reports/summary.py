@@ -1,5 +1,5 @@
 """What is in a heap by type, and what each root reaches."""
-from typing import Dict, Iterator, List, Optional, Tuple
+from typing import Any, Dict, Iterator, List, Optional, Sequence, Tuple
 
 from ..graphs.dominators import Kept, kept_alone, kept_by_type
 from ..graphs.graph import Graph
@@ -24,7 +24,7 @@ def _types(graph: Graph, kept: Kept, top: int) -> str:
         one[0] += 1
         one[1] += graph.sizes[node] if graph.sizes is not None else 0
     alone = kept_by_type(graph, kept)
-    rows = [
+    rows: List[Tuple[Any, ...]] = [
         (objects, size, *alone.get(graph.type_names[kind], (0, 0)), graph.type_names[kind])
         for kind, (objects, size) in counts.items()
     ]
@@ -64,7 +64,7 @@ def _reached(graph: Graph) -> Iterator[Optional[int]]:
         yield count
 
 
-def _shown(graph: Graph, heads: Tuple[str, ...], rows: List[Tuple], top: int, what: str) -> str:
+def _shown(graph: Graph, heads: Tuple[str, ...], rows: Sequence[Tuple], top: int, what: str) -> str:
     """The first rows, without columns that say nothing."""
     used = [place for place, head in enumerate(heads) if head and (graph.sizes is not None or "bytes" not in head)]
     text = table([heads[place] for place in used], ([row[place] for place in used] for row in rows[:top]))

@@ -1,4 +1,6 @@
 """What gcaudit and gcsnap take, and counting what a trace or a snapshot has of it."""
+from typing import Set
+
 from ..errors import TraceError
 
 MOST_OBJECTS = 1048576
@@ -18,8 +20,8 @@ class Counted:
     def __init__(self, what: str, limited: bool = True) -> None:
         self._what = what
         self._limited = limited
-        self._types = set()
-        self._roots = set()
+        self._types: Set[str] = set()
+        self._roots: Set[str] = set()
         self.last_id = 0
         self.objects = 0
         self.slots = 0

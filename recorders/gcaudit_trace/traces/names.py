@@ -1,5 +1,6 @@
 """Names as gcaudit takes them: 1 to 256 bytes of UTF-8 without control characters."""
 import hashlib
+from typing import Dict
 
 MOST_BYTES = 256
 _MARK_BYTES = 9  # "~" and eight hexadecimal digits
@@ -37,7 +38,7 @@ class UniqueNames:
     """Gives each thing a legal name of its own: the second of a name becomes "NAME #2"."""
 
     def __init__(self) -> None:
-        self._given = {}
+        self._given: Dict[str, int] = {}
 
     def name_for(self, text: str) -> str:
         name = legal_name(text)

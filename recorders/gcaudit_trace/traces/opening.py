@@ -6,7 +6,7 @@ import shutil
 import sys
 import tempfile
 import zlib
-from typing import Any, BinaryIO, Iterator
+from typing import Any, BinaryIO, Iterator, cast
 
 from ..errors import TraceError
 
@@ -37,7 +37,7 @@ def opened(path: str) -> Iterator[BinaryIO]:
             return
         with tempfile.TemporaryFile(prefix="gcaudit-") as plain:
             _unpack(file, plain, path)
-            yield plain
+            yield cast(BinaryIO, plain)
 
 
 def _unpack(file: BinaryIO, plain: Any, path: str) -> None:
