@@ -11,6 +11,7 @@ from gcaudit_trace import TraceError
 
 from .auditing import audited
 from .recorder import Recorder
+from .unchecked import UncheckedWarning
 from .violation import HeapViolation
 
-__all__ = ["HeapViolation", "Recorder", "TraceError", "audited"]
+__all__ = ["HeapViolation", "Recorder", "TraceError", "UncheckedWarning", "audited"]

@@ -15,6 +15,7 @@ from .everything import everything
 from .heap_writer import HeapWriter
 from .ignoring import is_ignored, matches
 from .regions import Region, Regions
+from .unchecked import check_for
 from .unreached import chains_beside
 from .violation import HeapViolation
 from .walk import Walk
@@ -33,9 +34,12 @@ class Recorder:
     them. As a context manager the recorder finishes the file at the end, and leaves none where the block raises.
 
     `may_be_empty` says that it is no mistake where `check` finds that nothing was asserted, or that no root was there.
+    `audit_later` says that it is none where `check` isn't called: the trace is audited by itself.
     """
 
-    def __init__(self, file: Any, roots: Roots = None, deep: bool = False, may_be_empty: bool = False) -> None:
+    def __init__(
+        self, file: Any, roots: Roots = None, deep: bool = False, may_be_empty: bool = False, audit_later: bool = False
+    ) -> None:
         self._whole = None if hasattr(file, "write") else WholeFile(file)
         self._lines = Batch(file.write if self._whole is None else self._whole.write)
         self._trace = TraceWriter(self._lines.add)
@@ -49,7 +53,11 @@ class Recorder:
         self._open = True
         self._everything = False
         self._deep = deep
-        self._asserted = self._had_root = False
+        self._had_root = False
+        self._check = check_for(self)
+        self._check.is_settled = (
+            audit_later or self._whole is None
+        )  # what is written to an open file isn't checked here
         self.may_be_empty = may_be_empty
         self.collections = 0
         if roots == EVERYTHING if isinstance(roots, str) else False:
@@ -117,7 +125,7 @@ class Recorder:
             raise TraceError("%s is a plain value, which the recorder leaves out" % cls.__name__)
         self._limits[type_name(cls)] = limit
         self._trace.assert_instances(type_name(cls), limit)
-        self._asserted = self._pending = True
+        self._check.asserted = self._pending = True
 
     @contextlib.contextmanager
     def region(self, ignore: Iterable[str] = ()) -> Iterator[None]:
@@ -136,11 +144,9 @@ class Recorder:
             region = self._regions.begin()
         try:
             yield
-        except BaseException:
-            self._regions.end(region)
-            raise
-        with NoAutomaticCollection():
-            self._end_region(region, patterns)
+        finally:  # whoever catches what the block raises goes on, and what the block left is to be dead all the same
+            with NoAutomaticCollection():
+                self._end_region(region, patterns)
 
     # ---- a collection
 
@@ -186,6 +192,7 @@ class Recorder:
         if self._open and self._whole is not None:
             self._whole.give_up()
         self._open = False
+        self._check.is_settled = True
 
     def check(self, program: Optional[str] = None, all_instances: bool = False) -> str:
         """Makes a last collection, closes the recorder, runs gcaudit, and answers its report.
@@ -195,6 +202,7 @@ class Recorder:
         """
         if self._whole is None:
             raise TraceError("check() needs a recorder that was made with a path")
+        self._check.is_settled = True
         if self._open:
             self._pending = True
             self.close()
@@ -209,7 +217,7 @@ class Recorder:
 
     def _need_something(self) -> None:
         """Refuses a check that would pass whatever the program does."""
-        if not self._asserted:
+        if not self._check.asserted:
             raise TraceError("nothing was asserted, so nothing was checked; assert something, or say may_be_empty")
         if not self._had_root:
             raise TraceError(
@@ -242,7 +250,7 @@ class Recorder:
         self._need_open()
         self._need_recorded(obj)
         self._assertions.append(Assertion(kind, obj, owner))
-        self._asserted = self._pending = True
+        self._check.asserted = self._pending = True
 
     def _live_roots(self) -> List[Tuple[str, Any]]:
         """The roots that are still there; one whose object died is forgotten."""
@@ -312,7 +320,7 @@ class Recorder:
                 if not shape.left_out and not shape.inner and not matches(shape.name, patterns):
                     new.append(obj)
         self._assertions += [Assertion("dead", obj, in_region=True) for obj in new]
-        self._region_ended = self._pending = self._asserted = True
+        self._region_ended = self._pending = self._check.asserted = True
 
 
 def _shown(value: Any) -> str:

@@ -7,12 +7,13 @@ import subprocess
 import sys
 import types
 import unittest
+import warnings
 import weakref
 
 from tests.support import PROGRAM, RECORDERS, InFolder, events, needs_program, python_with
 from tests.programs import service
 
-from gcaudit_recorder import HeapViolation, Recorder, TraceError, audited
+from gcaudit_recorder import HeapViolation, Recorder, TraceError, UncheckedWarning, audited
 from gcaudit_trace import audit
 
 
@@ -301,7 +302,7 @@ class Traces(InFolder):
         self.trace = self.path("trace.jsonl")
 
     def recorder(self, **roots):
-        return Recorder(self.trace, roots, may_be_empty=True)
+        return Recorder(self.trace, roots, may_be_empty=True, audit_later=True)
 
     def clean(self, recorder):
         recorder.close()
@@ -607,6 +608,23 @@ class Traces(InFolder):
             recorder.collect()
         recorder.abandon()
 
+    def test_a_recorder_that_is_left_without_a_check_says_so(self):
+        def said(end, **words):
+            recorder = Recorder(self.trace, {"app": app}, **words)
+            recorder.assert_dead(app)
+            with warnings.catch_warnings(record=True) as found:
+                warnings.simplefilter("always")
+                end(recorder)
+                del recorder
+            return [(one.category, os.path.basename(one.filename)) for one in found]
+
+        app = App()
+        self.assertEqual(said(Recorder.close), [(UncheckedWarning, "test_python.py")])
+        self.assertEqual(said(lambda recorder: None), [(UncheckedWarning, "test_python.py")])
+        self.assertEqual(said(Recorder.close, audit_later=True), [])
+        self.assertEqual(said(Recorder.abandon), [])
+        self.assertEqual(said(lambda recorder: self.assertRaises(HeapViolation, recorder.check, PROGRAM)), [])
+
     def test_open_file(self):
         text = io.StringIO()
         entry = Entry()
@@ -712,7 +730,7 @@ PYTEST = python_with("pytest")
 @needs_program
 @unittest.skipIf(PYTEST is None, "pytest is not there")
 class Plugin(InFolder):
-    def run_pytest(self, text, program=PROGRAM):
+    def run_pytest(self, text, program=PROGRAM, more=()):
         """The status of pytest over a file of tests, and what it says."""
         with open(self.path("test_it.py"), "w") as file:
             file.write(text)
@@ -730,6 +748,7 @@ class Plugin(InFolder):
             "--basetemp",
             self.path("temporary"),
             "test_it.py",
+            *more,
         ]
         done = subprocess.run(
             words,
@@ -774,6 +793,71 @@ class Plugin(InFolder):
         status, said = self.run_pytest(mark)
         self.assertEqual(status, 0, said)
         self.assertIn("1 xfailed in ", said)
+
+    def test_the_fixture_in_a_unittest_and_by_its_name(self):
+        """However a test gets the fixture, a leak fails it and its mended twin passes."""
+        ways = {
+            "unittest": """
+import pytest
+import unittest
+
+class TestShop(unittest.TestCase):
+    @pytest.fixture(autouse=True)
+    def take_heap(self, heap):
+        self.heap = heap
+
+    def test_it(self):
+        test_logout(self.heap)
+""",
+            "getfixturevalue": """
+def test_it(request):
+    test_logout(request.getfixturevalue("heap"))
+""",
+        }
+        for way, text in ways.items():
+            for is_mended in (False, True):
+                with self.subTest(way=way, is_mended=is_mended):
+                    status, said = self.run_pytest(
+                        (LOGOUT % is_mended).replace("test_logout", "logout_test")
+                        + text.replace("test_logout", "logout_test")
+                    )
+                    self.assertEqual(status, 0 if is_mended else 1, said)
+                    self.assertIn("1 passed in " if is_mended else "1 failed in ", said)
+                    if not is_mended:
+                        self.assertRegex(
+                            said, r"gc 1 dead \d+ test_it\.Session: root bus -> 1 test_it\.EventBus \.listeners"
+                        )
+
+    def test_a_unittest_that_fails_itself(self):
+        text = "import pytest, unittest\nclass TestIt(unittest.TestCase):\n    @pytest.fixture(autouse=True)\n    def take(self, heap):\n        pass\n"
+        status, said = self.run_pytest(text + "    def test_it(self):\n        self.assertEqual(1, 2)\n")
+        self.assertEqual(status, 1, said)
+        self.assertNotIn("nothing was asserted", said)
+
+    def test_a_recorder_without_a_check_is_a_warning(self):
+        """One that a test or a fixture makes and forgets. As an error where that is asked."""
+        made = "    with Recorder(str(tmp_path / 'a.jsonl'), {'bus': bus}) as recorder:\n        recorder.assert_dead(bus)\n"
+        head = "import pytest\nfrom gcaudit_recorder import Recorder\nbus = [[]]\n"
+        by_test = head + "def test_it(tmp_path):\n" + made
+        by_fixture = (
+            head
+            + "@pytest.fixture\ndef recorder(tmp_path):\n"
+            + made
+            + "        yield recorder\n\ndef test_it(recorder):\n    pass\n"
+        )
+        for text, line in ((by_test, 5), (by_fixture, 6)):
+            status, said = self.run_pytest(text)
+            self.assertEqual(status, 0, said)
+            self.assertRegex(
+                said,
+                r"test_it\.py:%d: UncheckedWarning: a recorder asserted something, and gcaudit never checked it" % line,
+            )
+            self.assertIn("1 passed, 1 warning in ", said)
+            status, said = self.run_pytest(text, more=["-W", "error::gcaudit_recorder.UncheckedWarning"])
+            self.assertEqual(status, 1, said)
+            self.assertIn("UncheckedWarning: a recorder asserted something", said)
+        status, said = self.run_pytest(by_test + "    recorder.abandon()\n")
+        self.assertIn("1 passed in ", said)
 
     def test_a_test_that_asserts_nothing_or_names_no_root_fails(self):
         for text, why in (

@@ -1,5 +1,6 @@
 """Regions: what is new is told from what was there, also at addresses that were used before."""
 import collections
+import contextlib
 import unittest
 import weakref
 
@@ -114,6 +115,19 @@ class Regions(InFolder):
             self.assertIsNone(watched())
         self.assertEqual(self.violations(recorder), 0)
 
+    def test_a_region_whose_exception_somebody_swallows(self):
+        """It asserts as any other one; the mended twin passes, with the exception gone."""
+        for leaks in (True, False):
+            app = App(log=[])
+            recorder = self.recorder(app=app)
+            with contextlib.suppress(KeyError):
+                with recorder.region():
+                    app.log.append(Session())
+                    if not leaks:
+                        app.log.clear()
+                    {}["missing"]
+            self.assertEqual(self.violations(recorder) > 8, leaks)
+
     def test_one_session_is_one_group_with_its_cause_first(self):
         app = App(log=[])
         recorder = self.recorder(app=app)
@@ -159,6 +173,7 @@ class Regions(InFolder):
         with recorder.region():
             app.log.append(Slotted())
         recorder.close()
+        recorder.abandon()  # nobody is to check it
         ops = [event["op"] for event in events(self.path("trace.jsonl"))]
         self.assertEqual(ops[:3], ["start-region", "alloc", "assert-alldead"])
 
