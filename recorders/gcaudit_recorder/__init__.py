@@ -10,8 +10,8 @@ See README.md beside this file.
 from gcaudit_trace import TraceError
 
 from .auditing import audited
+from .notices import HeapWarning, UncheckedWarning
 from .recorder import Recorder
-from .unchecked import UncheckedWarning
 from .violation import HeapViolation
 
-__all__ = ["HeapViolation", "Recorder", "TraceError", "UncheckedWarning", "audited"]
+__all__ = ["HeapViolation", "HeapWarning", "Recorder", "TraceError", "UncheckedWarning", "audited"]

@@ -47,7 +47,7 @@ def _descriptor(kind: type, name: str) -> Any:
 
 class_dict = _descriptor(type, "__dict__").__get__
 _module_dict = _descriptor(types.ModuleType, "__dict__").__get__
-_qualified = _descriptor(type, "__qualname__").__get__
+qualified_name = _descriptor(type, "__qualname__").__get__
 _module = _descriptor(type, "__module__").__get__
 _order = _descriptor(type, "__mro__").__get__
 _bases = _descriptor(type, "__bases__").__get__
@@ -74,7 +74,7 @@ _shapes: Dict[int, Tuple[Any, Shape]] = {}
 
 
 def shape_of(obj: Any) -> Shape:
-    """The shape of the object's type. Types are kept by weak references."""
+    """The shape of the object's type."""
     kind = type(obj)
     known = _shapes.get(id(kind))
     if known is not None and known[0]() is kind:
@@ -82,6 +82,13 @@ def shape_of(obj: Any) -> Shape:
     shape = _new_shape(kind)
     _shapes[id(kind)] = (weakref.ref(kind), shape)
     return shape
+
+
+def forget_shapes() -> None:
+    """Forgets the shapes of classes that a program can make. Their descriptors refer to the classes, and would keep them."""
+    for address, (_, shape) in list(_shapes.items()):
+        if shape.of_program:
+            del _shapes[address]
 
 
 # Python 3.8 has other names for these. They are found by address, since a class may have a hash of its own.
@@ -99,7 +106,7 @@ def type_name(kind: type) -> str:
     """The qualified name of a type, with its module where that isn't builtins, as a trace may have it."""
     if id(kind) in _REFERENCES:
         return _REFERENCES[id(kind)]
-    module, name = module_of(kind), _qualified(kind)
+    module, name = module_of(kind), qualified_name(kind)
     return legal_name(name if module in ("", "builtins") else "%s.%s" % (module, name))
 
 
@@ -318,11 +325,23 @@ def _of_any(obj: Any, shape: Shape) -> List[Content]:
         elif shape.name == "numpy.ndarray":
             found += _of_array(obj)
     found += _unnamed(gc.get_referents(obj), found, merged, kind)
+    if _is_connection(kind):
+        found = [(label, held) for label, held in found if not (label == "(held)" and _has_only_weak_references(held))]
     if issubclass(kind, weakref.ReferenceType):
         target = weakref.ReferenceType.__call__(obj)
         if target is not None:
             found.append((WEAK, target))
     return found
+
+
+def _is_connection(kind: type) -> bool:
+    """Whether objects of the type are connections of sqlite3, which keep lists of weak references to their cursors."""
+    sqlite3 = sys.modules.get("sqlite3")
+    return sqlite3 is not None and any(base is sqlite3.Connection for base in _order(kind))
+
+
+def _has_only_weak_references(obj: Any) -> bool:
+    return type(obj) is list and all(type(one) is weakref.ReferenceType for one in obj)
 
 
 def _of_array(obj: Any) -> List[Content]:

@@ -1,5 +1,5 @@
 """The trace of a program's heap: what changed from one collection to the next."""
-from typing import Dict, List, Tuple
+from typing import Dict, List, Set, Tuple
 
 from gcaudit_trace import TraceWriter, legal_name
 from gcaudit_trace.graphs.path import MORE
@@ -7,7 +7,7 @@ from gcaudit_trace.traces.names import UniqueNames
 
 from .assertions import Assertion
 from .holders import Link
-from .unreached import BESIDE, Chains
+from .unreached import BESIDE, NOT_LOOKED_FOR, Beside
 from .walk import EMPTY, WEAK_LABEL, Labels, Traced, Walk
 
 _REGION_THREAD = 1
@@ -23,15 +23,21 @@ class HeapWriter:
         self._written_roots: Dict[str, int] = {}
         self._freed_next: List[int] = []  # the slots of each object that the next collection frees
 
-    def write(self, walk: Walk, chains: Chains, assertions: List[Assertion], region_ended: bool) -> None:
+    def write(self, walk: Walk, beside: Beside, assertions: List[Assertion], region_ended: bool) -> None:
         """Writes what changed since the last collection, what is asserted, and a collection."""
         self._write_objects(walk, assertions, region_ended)
         self._write_contents(walk)
-        self._write_roots(walk, chains)
+        self._write_roots(walk, beside)
         self._write_assertions(walk, assertions)
         self._trace.collect()
         self._keep_traced(walk)
-        self._freed_next = [1] * sum(map(len, (chain for _, chain in chains)))
+        self._freed_next = [1] * sum(map(len, (chain for _, chain in beside.chains))) + [len(beside.rest)] * bool(
+            beside.rest
+        )
+
+    def own(self) -> Set[int]:
+        """The addresses of what it keeps from one collection to the next."""
+        return set(map(id, vars(self.known).values()))
 
     def _write_objects(self, walk: Walk, assertions: List[Assertion], region_ended: bool) -> None:
         """New objects, those of a region first: between its start and its end, on a thread of their own."""
@@ -120,11 +126,13 @@ class HeapWriter:
         self._trace.store(number, own, made[0], MORE)
         return made
 
-    def _write_roots(self, walk: Walk, chains: Chains) -> None:
+    def _write_roots(self, walk: Walk, beside: Beside) -> None:
         numbers, names = walk.now.numbers, UniqueNames()
         now = {names.name_for(name): numbers[walk.now.place_of[id(obj)]] for name, obj in walk.roots}
-        for place, chain in chains:
+        for place, chain in beside.chains:
             now[names.name_for(BESIDE)] = self._write_chain(chain, numbers[place])
+        if beside.rest:
+            now[names.name_for(BESIDE)] = self._write_holder([numbers[place] for place in beside.rest])
         for name in self._written_roots:
             if name not in now:
                 self._trace.root(name, None)
@@ -140,6 +148,13 @@ class HeapWriter:
             self._trace.store(number, 0, held, link.label)
             held = number
         return held
+
+    def _write_holder(self, held: List[int]) -> int:
+        """One object that stands for all holders that were not looked for. The answer is its id."""
+        number = self._trace.alloc(NOT_LOOKED_FOR, len(held))
+        for slot, one in enumerate(held):
+            self._trace.store(number, slot, one, "(held)")
+        return number
 
     def _write_assertions(self, walk: Walk, assertions: List[Assertion]) -> None:
         for one in assertions:

@@ -17,8 +17,9 @@ import pytest
 from gcaudit_trace import TraceError
 
 from . import unchecked
+from .notices import UncheckedWarning
 from .recorder import Recorder
-from .unchecked import Check, UncheckedWarning
+from .unchecked import Check
 from .violation import HeapViolation
 
 _HEAP = "_gcaudit_heap"  # the recorder of the fixture, as a test has it

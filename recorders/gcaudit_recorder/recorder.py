@@ -1,6 +1,5 @@
 """The recorder: what the roots of a program reach, collection by collection, as a trace for gcaudit."""
 import contextlib
-import gc
 from typing import Any, Callable, Dict, Iterable, Iterator, List, Optional, Set, Tuple, Union
 
 from gcaudit_trace import TraceError, TraceWriter, WholeFile, audit, legal_name
@@ -10,13 +9,15 @@ from gcaudit_trace.traces.whole_file import Batch
 
 from .assertions import Assertion, Hold
 from .collector import NoAutomaticCollection
-from .contents import PLAIN, shape_of, type_name
+from .contents import PLAIN, forget_shapes, shape_of, type_name
 from .everything import everything
 from .heap_writer import HeapWriter
-from .ignoring import is_ignored, matches
+from .instances import Limit, Limits
+from .leftovers import left_by
+from .notices import Place, place_of_program
 from .regions import Region, Regions
 from .unchecked import check_for
-from .unreached import chains_beside
+from .unreached import find_beside
 from .violation import HeapViolation
 from .walk import Walk
 
@@ -46,7 +47,7 @@ class Recorder:
         self._roots: Dict[str, Hold] = {}
         self._heap = HeapWriter(self._trace)
         self._assertions: List[Assertion] = []
-        self._limits: Dict[str, int] = {}
+        self._limits = Limits()
         self._regions = Regions()
         self._region_ended = False
         self._pending = False  # something was asserted after the last collection
@@ -114,8 +115,12 @@ class Recorder:
         self._assertions = [a for a in self._assertions if a.kind != "owned" or a.target.get() is not obj]
         self._assert("owned", obj, owner)
 
-    def assert_instances(self, cls: type, limit: int) -> None:
-        """At each later collection the roots reach at most so many objects of exactly this class."""
+    def assert_instances(self, cls: type, limit: int, subclasses: bool = False, reached_only: bool = False) -> None:
+        """At each later collection there are at most so many objects of exactly this class, or of its `subclasses` too.
+
+        What counts is reached by the roots, or alive otherwise: held by a class, a cache, a handler. `reached_only`
+        leaves out what no root leads to. Where the class has no objects, and subclasses have some, a warning says so.
+        """
         self._need_open()
         if not isinstance(cls, type):
             raise TraceError("assert_instances takes a class, not %s" % _shown(cls))
@@ -123,8 +128,9 @@ class Recorder:
             raise TraceError("a limit is a whole number from 0 to 4294967295, not %s" % _shown(limit))
         if cls in PLAIN:
             raise TraceError("%s is a plain value, which the recorder leaves out" % cls.__name__)
-        self._limits[type_name(cls)] = limit
-        self._trace.assert_instances(type_name(cls), limit)
+        made = Limit(cls, limit, subclasses, reached_only)
+        self._limits.add(made)
+        self._trace.assert_instances(made.name, limit)
         self._check.asserted = self._pending = True
 
     @contextlib.contextmanager
@@ -140,22 +146,25 @@ class Recorder:
         patterns: List[Any] = list(ignore) if isinstance(ignore, Iterable) else [ignore]
         if not all(isinstance(pattern, str) for pattern in patterns):
             raise TraceError("ignore takes a list of patterns, which are texts; not %r" % (ignore,))
+        place = place_of_program()
         with NoAutomaticCollection():
             region = self._regions.begin()
         try:
             yield
         finally:  # whoever catches what the block raises goes on, and what the block left is to be dead all the same
             with NoAutomaticCollection():
-                self._end_region(region, patterns)
+                self._end_region(region, patterns, place)
 
     # ---- a collection
 
     def collect(self) -> None:
         """Collects Python's own garbage, writes what changed since the last collection, and `collect`."""
         self._need_open()
+        forget_shapes()
         self._regions.collect()
         with NoAutomaticCollection():
             self._collect()
+        forget_shapes()
 
     def growth(self, rounds: int, work: Callable[[], Any]) -> Growth:
         """Calls `work` once, and then so many times again, and says what became more in each of these: by type, and by what holds it.
@@ -271,8 +280,8 @@ class Recorder:
                 found.setdefault(id(hold.get()), set()).add(hold.serial)
         return found
 
-    def _walk_from_roots(self) -> Walk:
-        walk = Walk(self._heap.known, self._heap.labels, self._deep, self._held_addresses())
+    def _walk_from_roots(self, counted: Optional[Dict[int, List[Limit]]] = None) -> Walk:
+        walk = Walk(self._heap.known, self._heap.labels, self._deep, self._held_addresses(), counted)
         walk.from_roots(self._live_roots())
         if self._everything:
             everything(walk)
@@ -281,16 +290,16 @@ class Recorder:
 
     def _collect(self) -> None:
         self._assertions = [a for a in self._assertions if a.target.get() is not None]
-        walk = self._walk_from_roots()
+        walk = self._walk_from_roots(self._limits.counted())
         walk.from_owners(self._owners())
-        chains = chains_beside(walk, self._assertions, self._regions)
+        beside = find_beside(walk, self._assertions, self._limits, self._held_addresses(), self._regions)
         for one in self._assertions:
             target = one.target.get()
             if target is not None and (not one.in_region or walk.has(target)):
                 walk.add(target, False)
         fresh = {id(one.target.get()) for one in self._assertions if one.in_region and one.written is None}
         walk.settle(lambda obj: id(obj) in fresh)
-        self._heap.write(walk, chains, self._assertions, self._region_ended)
+        self._heap.write(walk, beside, self._assertions, self._region_ended)
         self._lines.flush()
         self.collections += 1
         self._drop_what_is_gone(walk)
@@ -303,22 +312,15 @@ class Recorder:
                 if hold is not None and hold.holds_itself() and not walk.has(hold.get()):
                     hold.drop()
         self._assertions = [a for a in self._assertions if a.target.get() is not None]
+        self._limits.forget_all_but(walk.now.place_of)
 
     # ---- regions
 
-    def _end_region(self, region: Region, patterns: List[str]) -> None:
+    def _end_region(self, region: Region, patterns: List[str], place: Place) -> None:
         tracked = self._regions.end(region)
         walk = self._walk_from_roots()
-        new = []
-        for place, obj in enumerate(walk.objects):
-            if region.is_new(obj, tracked) and not is_ignored(walk, place, patterns):
-                new.append(obj)
-        for obj in gc.get_objects():
-            # What no root reaches now is remembered by a weak reference, or not at all.
-            if type(obj).__weakrefoffset__ and not walk.has(obj) and region.is_new(obj, tracked):
-                shape = shape_of(obj)
-                if not shape.left_out and not shape.inner and not matches(shape.name, patterns):
-                    new.append(obj)
+        own = self._heap.own() | set(map(id, vars(walk).values())) | set(map(id, vars(walk.now).values()))
+        new = [obj for obj in left_by(region, tracked, walk, patterns, place, own) if not self._limits.has_marker(obj)]
         self._assertions += [Assertion("dead", obj, in_region=True) for obj in new]
         self._region_ended = self._pending = self._check.asserted = True
 

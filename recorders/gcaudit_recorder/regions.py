@@ -5,6 +5,7 @@ What it doesn't track (a dict or tuple of plain values) and is there at the begi
 weak reference where its type has these, so its address is not used again meanwhile.
 """
 import gc
+import sys
 import weakref
 from typing import Any, Dict, Iterator, List, Set
 
@@ -20,6 +21,7 @@ class Region:
             int
         ] = set()  # the addresses of tracked objects that were seen new before something was frozen again
         self.fresh_plain: Set[int] = set()  # of untracked ones
+        self.modules = frozenset(map(str, sys.modules))  # the names of those that were there when it began
         self.old: Dict[int, Any] = {}  # untracked objects that are no new ones, or weak references to them
 
     def hold_untracked(self) -> None:

@@ -10,6 +10,7 @@ from gcaudit_trace.graphs.paths import Holder, is_between, named_holder
 from gcaudit_trace.reports.growth import Counts
 from gcaudit_trace.traces.limits import MOST_OBJECTS
 
+from .instances import Limit
 from .contents import LONG_TEXT, PLAIN, PROXIES, WEAK, Label, Shape, contents, object_name, shape_of, size_of
 
 _NONE = 0xFFFFFFFF
@@ -97,11 +98,21 @@ class Traced:
 class Walk:
     """What the roots, the owners and the assertions of a recorder lead to, nearest first."""
 
-    def __init__(self, known: Traced, labels: Labels, deep: bool, held: Dict[int, Set[int]]) -> None:
+    def __init__(
+        self,
+        known: Traced,
+        labels: Labels,
+        deep: bool,
+        held: Dict[int, Set[int]],
+        counted: Optional[Dict[int, List[Limit]]] = None,
+    ) -> None:
         self._known = known
         self._labels = labels
         self._deep = deep
         self._held = held
+        self._counted = (
+            counted or {}
+        )  # by the address of a type the limits for which its objects have others beside them
         self._recorded: Dict[type, bool] = {}  # whether objects of the type are objects of the trace
         self._inner_roots: Set[int] = set()  # the addresses of classes and modules that are roots
         self._weak_edges: List[Tuple[int, Any]] = []  # the place among the targets, and what is held weakly there
@@ -146,6 +157,15 @@ class Walk:
             found = self._put(obj, traced)
             self._end_object([], shape_of(obj))
         return found
+
+    def add_all(self, objects: List[Any], held_of: Callable[[Any], List[Tuple[Label, Any]]]) -> None:
+        """Objects that stand in the trace, and hold there only what is said of them."""
+        added = [obj for obj in objects if id(obj) not in self.now.place_of]
+        for obj in added:
+            self._put(obj, False)
+        for obj in added:
+            self._end_object(held_of(obj), shape_of(obj))
+        self._go_on()
 
     def has(self, obj: Any) -> bool:
         return id(obj) in self.now.place_of
@@ -198,6 +218,8 @@ class Walk:
                     found = shape.reader(obj, shape)
                 except RuntimeError:  # another thread changed it meanwhile
                     found = contents(obj, shape)
+            if self._counted and id(type(obj)) in self._counted:
+                found = found + [("(is a)", limit.marker(obj)) for limit in self._counted[id(type(obj))]]
             self._end_object(found, shape)
 
     def _end_object(self, found: List[Tuple[Label, Any]], shape: Shape) -> None:

@@ -1,25 +1,33 @@
-"""53 kinds of holder of a Python object: each function makes one hold the object, and says by `undo` how it ends.
+"""Kinds of holder of a Python object: each function makes one hold the object, and says by `undo` how it ends.
 
 A holder that is an object of the program is put into the module `place`; the others are held by Python itself.
 """
 import asyncio
 import atexit
+import codecs
 import collections
 import contextlib
 import contextvars
+import copyreg
+import ctypes
 import dataclasses
 import functools
+import gc
 import itertools
 import logging
 import operator
+import os
 import queue
+import sched
+import selectors
 import signal
 import sqlite3
 import sys
 import threading
 import types
+import warnings
 import weakref
-from concurrent.futures import Future
+from concurrent.futures import Future, ThreadPoolExecutor
 
 
 class Plain:
@@ -422,3 +430,185 @@ def array_of_numpy(place, obj, undo):
     import numpy
 
     place.array = numpy.array([obj, None], dtype=object)
+
+
+# ---- hooks, caches and what waits
+
+
+@holder
+def codec(place, obj, undo):
+    """Python's list of search functions; before 3.10 nothing takes one away, so the function lets its object go."""
+    box = [obj]
+    function = functools.partial(lambda box, name: None, box)
+    codecs.register(function)
+    undo.callback(getattr(codecs, "unregister", lambda function: None), function)
+    undo.callback(box.clear)
+
+
+@holder
+def audit_hook(place, obj, undo):
+    """Nothing takes one away either."""
+    box = [obj]
+    sys.addaudithook(functools.partial(lambda box, *event: None, box))
+    undo.callback(box.clear)
+
+
+@holder
+def callback_of_the_collector(place, obj, undo):
+    function = functools.partial(lambda held, phase, info: None, obj)
+    gc.callbacks.append(function)
+    undo.callback(gc.callbacks.remove, function)
+
+
+@holder
+def exception_hook(place, obj, undo):
+    undo.callback(setattr, sys, "excepthook", sys.excepthook)
+    sys.excepthook = functools.partial(sys.excepthook, held=obj)
+
+
+@holder
+def finder_of_modules(place, obj, undo):
+    finder = types.SimpleNamespace(find_spec=lambda *words: None, held=obj)
+    sys.meta_path.append(finder)
+    undo.callback(sys.meta_path.remove, finder)
+
+
+@holder
+def hook_of_paths(place, obj, undo):
+    def hook(path, held=obj):
+        raise ImportError
+
+    sys.path_hooks.append(hook)
+    undo.callback(sys.path_hooks.remove, hook)
+
+
+@holder
+def function_of_pickling(place, obj, undo):
+    copyreg.pickle(Plain, functools.partial(lambda held, obj: (Plain, ()), obj))
+    undo.callback(copyreg.dispatch_table.pop, Plain)
+
+
+@holder
+def hook_of_warnings(place, obj, undo):
+    undo.callback(setattr, warnings, "showwarning", warnings.showwarning)
+    warnings.showwarning = functools.partial(warnings.showwarning, line=obj)
+
+
+@holder
+def logging_filter(place, obj, undo):
+    function = functools.partial(lambda held, record: True, obj)
+    logging.getLogger("gcaudit.tests.holders").addFilter(function)
+    undo.callback(logging.getLogger("gcaudit.tests.holders").removeFilter, function)
+
+
+@holder
+def single_dispatch(place, obj, undo):
+    place.dispatched = functools.singledispatch(lambda value: None)
+    place.dispatched.register(Plain, functools.partial(lambda held, value: None, obj))
+
+
+@holder
+def cached_property(place, obj, undo):
+    box = [obj]
+    kind = type("WithCache", (), {"held": functools.cached_property(lambda self: box.pop())})
+    kind.held.__set_name__(kind, "held")
+    place.with_cache = kind()
+    place.with_cache.held
+
+
+@holder
+def cached_method(place, obj, undo):
+    class Keeper:
+        @functools.lru_cache(maxsize=None)
+        def of(self, held):
+            return None
+
+    Keeper().of(obj)
+    place.Keeper = Keeper
+    undo.callback(Keeper.of.cache_clear)
+
+
+@holder
+def callback_of_a_weak_reference(place, obj, undo):
+    place.watched = Plain()
+    place.reference = weakref.ref(place.watched, functools.partial(lambda held, reference: None, obj))
+
+
+@holder
+def async_generator(place, obj, undo):
+    async def generate(held):
+        yield
+        del held
+
+    place.async_generator = generate(obj)
+    with contextlib.suppress(StopIteration):
+        place.async_generator.__anext__().send(None)
+    undo.callback(drive, place.async_generator.aclose())
+
+
+def drive(coroutine):
+    with contextlib.suppress(StopIteration):
+        coroutine.send(None)
+
+
+@holder
+def pending_task(place, obj, undo):
+    loop = asyncio.new_event_loop()
+
+    async def wait(held):
+        await loop.create_future()
+        del held
+
+    task = loop.create_task(wait(obj))
+    loop.run_until_complete(asyncio.sleep(0))
+    place.task_loop = loop
+
+    def end():
+        task.cancel()
+        loop.run_until_complete(asyncio.gather(task, return_exceptions=True))
+        loop.close()
+
+    undo.callback(end)
+
+
+@holder
+def work_of_an_executor(place, obj, undo):
+    """The first piece of work holds the only worker up, so that the second one waits."""
+    end = threading.Event()
+    executor = ThreadPoolExecutor(1)
+    executor.submit(end.wait)
+    executor.submit(functools.partial(lambda held: None, obj))
+    place.executor = executor
+    undo.callback(executor.shutdown)
+    undo.callback(end.set)
+
+
+@holder
+def scheduled_event(place, obj, undo):
+    place.scheduler = sched.scheduler()
+    place.scheduler.enter(1000, 1, print, (obj,))
+
+
+@holder
+def data_of_a_selector(place, obj, undo):
+    read, write = os.pipe()
+    place.selector = selectors.DefaultSelector()
+    place.selector.register(read, selectors.EVENT_READ, obj)
+    for end in (read, write):
+        undo.callback(os.close, end)
+    undo.callback(place.selector.close)
+
+
+@holder
+def callback_of_ctypes(place, obj, undo):
+    place.callback = ctypes.CFUNCTYPE(None)(functools.partial(lambda held: None, obj))
+
+
+@holder
+def user_data_of_a_memory_view(place, obj, undo):
+    class Buffer(bytearray):
+        pass
+
+    buffer = Buffer(b"1")
+    buffer.held = obj
+    place.view = memoryview(buffer)

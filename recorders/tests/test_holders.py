@@ -3,19 +3,29 @@ import contextlib
 import gc
 import importlib.util
 import os
+import re
 import subprocess
 import sys
 import types
 import unittest
+import warnings
 
-from tests.holders import HOLDERS
+from tests.holders import HOLDERS, Plain
 from tests.support import PROGRAM, RECORDERS, InFolder, needs_program, python_with
 
-from gcaudit_recorder import HeapViolation, Recorder
+from gcaudit_recorder import HeapViolation, HeapWarning, Recorder
 
 NEEDS_NUMPY = "array_of_numpy"
 # The interpreter or C code holds these where Python's collector doesn't look, in some versions of Python or in all.
 UNSEEN = {"exit_handler", "callback_of_sqlite", "chained_iterators"}
+
+
+# Nothing takes these away, so what they are made of stays.
+ENDLESS = {"audit_hook", "codec"}
+
+
+class Thing:
+    """What all that is held has in common."""
 
 
 class Held:
@@ -27,7 +37,7 @@ class Held:
         self.objects = {}
         for name in names:
             self.places[name] = types.ModuleType("place of " + name)
-            self.objects[name] = type("Held by " + name, (), {})()
+            self.objects[name] = type("Held by " + name, (Thing,), {})()
             HOLDERS[name](self.places[name], self.objects[name], self.undo)
 
     def assert_dead(self, recorder):
@@ -60,8 +70,9 @@ class Holders(InFolder):
                 recorder.check(PROGRAM)
         return caught.exception.named
 
-    def test_there_are_53(self):
-        self.assertEqual(len(HOLDERS), 53)
+    def test_there_are_73(self):
+        """As gcaudit_recorder/README.md says."""
+        self.assertEqual(len(HOLDERS), 73)
 
     def test_each_is_found(self):
         held = Held(kinds())
@@ -115,6 +126,64 @@ class Holders(InFolder):
             held.let_go()
             recorder.check(PROGRAM)
         self.assertEqual(len(gc.get_objects()) > 0, True)
+
+    def test_a_region_sees_what_each_holds(self):
+        """Nothing of it is reached by a root; when it is let go in the region, nothing is left."""
+        Held(kinds()).let_go()  # what Python keeps from a first use on
+        for is_mended in (False, True):
+            recorder = Recorder(self.path("trace.jsonl"), {"test": self})
+            with recorder.region():
+                held = Held(name for name in kinds() if not (is_mended and name in ENDLESS))
+                held.objects.clear()
+                if is_mended:
+                    held.let_go()
+                    del held
+            said = ""
+            try:
+                recorder.check(PROGRAM)
+            except HeapViolation as violation:
+                said = violation.named
+            if not is_mended:
+                held.let_go()
+                del held
+            found = re.findall(r" dead \d+ tests\.test_holders\.Held by (\w+): ", said)
+            self.assertEqual(sorted(found), [] if is_mended else sorted(kinds()))
+            self.assertEqual(" dead " in said, not is_mended, said)
+
+    def test_a_limit_counts_what_each_holds(self):
+        """Of all subclasses, the class itself, and what the roots reach: so many as there are kinds, or none."""
+        kept = Plain()
+        for is_mended, words, found in (
+            (False, dict(subclasses=True), len(kinds())),
+            (True, dict(subclasses=True), None),
+            (False, dict(subclasses=True, reached_only=True), None),
+            (False, {}, None),
+        ):
+            held = Held(kinds())
+            held.objects.clear()
+            if is_mended:
+                held.let_go()
+            recorder = Recorder(self.path("trace.jsonl"), {"kept": kept})
+            recorder.assert_instances(Thing, 0, **words)
+            said = ""
+            with warnings.catch_warnings(record=True) as warned:
+                warnings.simplefilter("always", HeapWarning)
+                try:
+                    recorder.check(PROGRAM)
+                except HeapViolation as violation:
+                    said = violation.named
+            if not is_mended:
+                held.let_go()
+            self.assertEqual(
+                re.findall(r"instances (\S+) limit 0 found (\d+)", said),
+                [] if found is None else [("tests.test_holders.Thing+", str(found))],
+            )
+            texts = [str(one.message) for one in warned if one.category is HeapWarning]
+            self.assertEqual(len(texts), 0 if words else 1)
+            if not words:
+                self.assertRegex(
+                    texts[0], r"no object of exactly \S+Thing is there, and %d of its subclasses " % len(kinds())
+                )
 
     @unittest.skipIf(python_with("numpy") is None, "numpy is not there")
     def test_numpy(self):

@@ -616,7 +616,9 @@ class Traces(InFolder):
                 warnings.simplefilter("always")
                 end(recorder)
                 del recorder
-            return [(one.category, os.path.basename(one.filename)) for one in found]
+            return [
+                (one.category, os.path.basename(one.filename)) for one in found if one.category is not ResourceWarning
+            ]
 
         app = App()
         self.assertEqual(said(Recorder.close), [(UncheckedWarning, "test_python.py")])
