@@ -1,12 +1,17 @@
 """Regions: what is new is told from what was there, also at addresses that were used before."""
 import collections
 import contextlib
+import importlib
+import os
+import subprocess
+import sys
 import unittest
+import warnings
 import weakref
 
-from tests.support import PROGRAM, InFolder, events, needs_program
+from tests.support import PROGRAM, PROGRAMS, RECORDERS, InFolder, events, needs_program
 
-from gcaudit_recorder import HeapViolation, Recorder
+from gcaudit_recorder import HeapViolation, HeapWarning, Recorder
 
 
 class App:
@@ -127,6 +132,43 @@ class Regions(InFolder):
                         app.log.clear()
                     {}["missing"]
             self.assertEqual(self.violations(recorder) > 8, leaks)
+
+    def test_a_program_that_leaks_nothing(self):
+        """With named roots, sqlite's connection among them, and with everything as roots; a leak is found in both."""
+        program = os.path.join(PROGRAMS, "clean_region.py")
+        for roots in ("shop", "everything"):
+            done = subprocess.run(
+                [sys.executable, "-B", program, roots, self.path("trace.jsonl")],
+                env=dict(os.environ, PYTHONPATH=RECORDERS, GCAUDIT=PROGRAM),
+                stdout=subprocess.PIPE,
+                stderr=subprocess.PIPE,
+            )
+            said = done.stderr.decode()
+            self.assertEqual(done.stdout.decode().split()[-2:], ["0", "1"], said)
+            self.assertEqual(said.count("gcaudit found a violation"), 1, said)
+
+    def test_what_an_import_brings_is_let_be(self):
+        """Where objects of the program are among it, a warning says so."""
+        for text, warnings_of_it in (
+            ("value = {'a': [set()]}\ndef function(): pass\n", 0),
+            ("class Thing: pass\nthing = Thing()\n", 1),
+        ):
+            with open(self.path("imported_in_a_region.py"), "w") as file:
+                file.write(text)
+            app = App(log=[])
+            recorder = self.recorder(app=app)
+            sys.path.insert(0, self.folder)
+            self.addCleanup(sys.path.remove, self.folder)
+            self.addCleanup(sys.modules.pop, "imported_in_a_region", None)
+            with warnings.catch_warnings(record=True) as found:
+                warnings.simplefilter("always", HeapWarning)
+                with recorder.region():
+                    importlib.invalidate_caches()
+                    importlib.import_module("imported_in_a_region")
+                self.assertEqual(self.violations(recorder), 0)
+            self.assertEqual(len([one for one in found if one.category is HeapWarning]), warnings_of_it)
+            del sys.modules["imported_in_a_region"]
+            os.unlink(self.path("imported_in_a_region.py"))
 
     def test_one_session_is_one_group_with_its_cause_first(self):
         app = App(log=[])
