@@ -8,7 +8,7 @@ from tests.support import PROGRAM, InFolder, needs_program
 from gcaudit_trace import TraceError, audit
 from gcaudit_trace.graphs.dominators import kept_alone
 from gcaudit_trace.graphs.trace_heap import heaps
-from gcaudit_trace.graphs.paths import Holder, Tree, label_shape, named_holder, path_shape
+from gcaudit_trace.graphs.paths import Holder, Tree, label_shape, named_holder, path_shape, type_shape
 from gcaudit_trace.graphs.path import Path, Step
 
 
@@ -180,10 +180,27 @@ class Graphs(InFolder):
         for type_name, label, name in (
             ("shop.EventBus", ".listeners", "shop.EventBus.listeners"),
             ("A", "(variable x)", "A (variable x)"),
-            ("shop.Table", "['key'] (over 2 left out)", "shop.Table[*] (over 2 left out)"),
+            ("shop.Table", "['key'] (over 2 left out)", "shop.Table[*] (over * left out)"),
         ):
             self.assertEqual(named_holder(type_name, label), Holder(type_name, name))
-        self.assertEqual(label_shape(".items[3]"), ".items[*]")
+        for label, shape in (
+            (".items[3]", ".items[*]"),
+            (".a2", ".a2"),
+            ("part of key (Object @88985)", "part of key (Object @*)"),
+            ("12 / part of key", "* / part of key"),
+            (".field (over 3 left out)", ".field (over * left out)"),
+        ):
+            self.assertEqual(label_shape(label), shape)
+        for name, shape in (
+            ("array (132)", "array (*)"),
+            ("left out Node and 12 more", "left out Node and * more"),
+            ("frame run:12 (thread Thread-3 (run))", "frame run:* (thread Thread-* (run))"),
+            ("shop.Session2", "shop.Session2"),
+        ):
+            self.assertEqual(type_shape(name), shape)
+        for number in ("", " #2", " #13"):
+            path = Path("(alive, and no root leads to it)" + number, 5, "Thing", ())
+            self.assertEqual(str(path_shape(path)), "root (alive, and no root leads to it) -> Thing")
         path = Path("thread 7", 1, "T", (Step("[3]", 2, "list"), Step("['a']", 3, "dict")))
         self.assertEqual(str(path_shape(path)), "root thread * -> T [*] -> list [*] -> dict")
 

@@ -215,13 +215,67 @@ class View(Commands):
         self.assertEqual(
             self.view(self.write(*LEAK, *DEAD, COLLECT)).split("\n"),
             [
-                "Session (2 times) must be dead and is reached (collection 1; keeps 2 objects, 1,010 bytes alive alone; "
-                "1 more that must be dead hang from it: Buffer 1)",
+                "Session (2 times) must be dead and is reached (collection 1; they keep 3 objects, 1,020 bytes alive alone; "
+                "1 more that must be dead hang from them: Buffer 1)",
                 "    root bus -> 1 Bus .listeners -> 2 list [0] -> 3 Session",
                 "Session must be dead and is reached (collection 1; keeps 1 object, 10 bytes alive alone)",
                 "    root cache -> 6 Cache ['%s'] -> 7 Session" % HOSTILE,
                 "4 violations in 2 groups; 1 collections",
                 "",
+            ],
+        )
+
+    def test_what_differs_from_object_to_object_is_one_group(self):
+        """As V8 tells it: a map's table with its length, and labels with numbers of objects."""
+        lines, roots = [alloc(1, "Map", 200)], [{"op": "root", "name": "map", "to": 1}]
+        for at in range(200):
+            table, session = 2 * at + 2, 2 * at + 3
+            lines += [alloc(table, "array (%d)" % (at + 4), 1), alloc(session, "Session")]
+            roots += [
+                store(1, at, table, ".table"),
+                store(table, 0, session, "%d / part of key (Object @%d)" % (at, at + 88985)),
+            ]
+            roots.append({"op": "assert-dead", "id": session})
+        for words in ([], ["--paths", "3"]):
+            said = self.view(self.write(*lines, *roots, COLLECT), "--junit", self.path("junit.xml"), *words).split("\n")
+            self.assertEqual(
+                said,
+                [
+                    "Session (200 times) must be dead and is reached (collection 1; they keep 200 objects, 2,000 bytes alive alone)",
+                    "    root map -> 1 Map .table -> 2 array (4) 0 / part of key (Object @88985) -> 3 Session",
+                    "200 violations in 1 groups; 1 collections",
+                    "",
+                ],
+            )
+            case = ElementTree.parse(self.path("junit.xml")).getroot()[0].find("testcase")
+            name = "dead Session root map -> Map .table -> array (*) * / part of key (Object @*) -> Session"
+            self.assertEqual(case.get("name"), name)
+
+    def test_what_a_group_keeps_is_counted_once(self):
+        """The third node is kept by the second, and both are one group. What is largest comes first."""
+        lines = [
+            alloc(1, "Small", 0, 1),
+            alloc(2, "Node", 1),
+            alloc(3, "Node", 1),
+            alloc(4, "Node", 1),
+            alloc(5, "Text", 0, 500),
+            store(2, 0, 3, ".next"),
+            store(3, 0, 4, ".next"),
+            store(4, 0, 5, ".text"),
+            {"op": "root", "name": "a", "to": 1},
+            {"op": "root", "name": "b", "to": 2},
+            {"op": "assert-dead", "id": 1},
+            {"op": "assert-ownedby", "owner": 1, "ownee": 3},
+            {"op": "assert-ownedby", "owner": 1, "ownee": 4},
+            COLLECT,
+        ]
+        self.assertEqual(
+            self.view(self.write(*lines)).split("\n")[::2],
+            [
+                "Node (2 times) outlives its owner's hold on it (collection 1; its owner, object 1, doesn't lead to it; "
+                "they keep 3 objects, 520 bytes alive alone)",
+                "Small must be dead and is reached (collection 1; keeps 1 object, 1 bytes alive alone)",
+                "3 violations in 2 groups; 1 collections",
             ],
         )
 
@@ -274,7 +328,7 @@ class View(Commands):
         suite = ElementTree.parse(path).getroot()[0]
         self.assertEqual((suite.get("tests"), suite.get("failures")), ("3", "3"))
         self.assertEqual([len(case.findall("failure")) for case in suite.findall("testcase")], [1, 1, 1])
-        self.assertIn("root cache -> 6 Cache ['%s'] -> 7 Session" % HOSTILE, suite.findall("testcase")[1][0].text)
+        self.assertIn("root cache -> 6 Cache ['%s'] -> 7 Session" % HOSTILE, suite.findall("testcase")[2][0].text)
         if shutil.which("xmllint") is None:
             self.skipTest("xmllint is not there")
         for schema in ("jenkins-junit-10.xsd", "ant-junit.xsd"):
@@ -305,12 +359,12 @@ class View(Commands):
         with open(path) as file:
             run = json.load(file)["runs"][0]
         rules = [rule["id"] for rule in run["tool"]["driver"]["rules"]]
-        self.assertEqual([rules[result["ruleIndex"]] for result in run["results"]], ["dead", "dead", "unshared"])
-        self.assertEqual([result["occurrenceCount"] for result in run["results"]], [2, 1, 1])
+        self.assertEqual([rules[result["ruleIndex"]] for result in run["results"]], ["unshared", "dead", "dead"])
+        self.assertEqual([result["occurrenceCount"] for result in run["results"]], [1, 2, 1])
         self.assertEqual(
-            run["results"][0]["locations"][0]["physicalLocation"]["artifactLocation"]["uri"], "a%20trace%20%C3%A9.jsonl"
+            run["results"][1]["locations"][0]["physicalLocation"]["artifactLocation"]["uri"], "a%20trace%20%C3%A9.jsonl"
         )
-        self.assertEqual(run["results"][0]["properties"]["keptAlone"], {"objects": 1, "bytes": 10})
+        self.assertEqual(run["results"][1]["properties"]["keptAlone"], {"objects": 2, "bytes": 20})
 
     @unittest.skipIf(python_with("jsonschema") is None, "jsonschema is not there")
     def test_sarif_by_its_schema(self):

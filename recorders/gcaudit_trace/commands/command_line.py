@@ -122,8 +122,8 @@ def output_to(path: Optional[str]) -> Iterator[Any]:
     whole.finish()
 
 
-def add_gcaudit(parser: argparse.ArgumentParser) -> None:
-    """The words that say which program gcaudit is run, and how."""
+def add_gcaudit(parser: argparse.ArgumentParser, paths: int = 100) -> None:
+    """The words that say which program gcaudit is run, and how; so many violations have `paths` where nothing is said."""
     parser.add_argument(
         "--gcaudit", metavar="PROGRAM", help="the program gcaudit; else the variable GCAUDIT or the PATH tells it"
     )
@@ -131,7 +131,10 @@ def add_gcaudit(parser: argparse.ArgumentParser) -> None:
         "--workers", metavar="N", help="so many workers trace the heap, 1 to 16; the report is the same"
     )
     parser.add_argument(
-        "--paths", metavar="P", help="so many violations of each collection have their paths, 0 to 10000; else 100"
+        "--paths",
+        metavar="P",
+        default=None if paths == 100 else str(paths),
+        help="so many violations of each collection have their paths, 0 to 10000; else %d" % paths,
     )
     parser.add_argument(
         "--react",

@@ -1,7 +1,7 @@
 """Shortest paths from the roots of a graph, what holds an object by name, and the shape of a path."""
 import re
 from array import array
-from typing import Dict, Iterator, List, NamedTuple, Optional, Sequence, Tuple
+from typing import Dict, Iterator, List, Match, NamedTuple, Optional, Sequence, Tuple
 
 from .graph import Graph
 from .path import MORE, Path, Step
@@ -47,7 +47,10 @@ _BETWEEN = frozenset(
     }
 )
 _BETWEEN_BEGINS = ("java.util.", "function ", "system / ", "left out ", "more of ", "more ", "joint ")
-_INDEX = re.compile(r"\[[^\]]*\]")
+# What differs from element to element, or from run to run: indexes and keys, V8's numbers of objects, counts.
+_CHANGING = re.compile(r"(\[)[^\]]*(\])|(@)\d+()|(^)\d+( / )|(\(over )\d+( left out\))")
+_CHANGING_IN_TYPES = re.compile(r"(@)\d+()|( \()\d+(\))|( and )\d+( more$)")
+_NUMBERS = re.compile(r"\d+")
 
 
 def is_between(type_name: str) -> bool:
@@ -55,9 +58,27 @@ def is_between(type_name: str) -> bool:
     return type_name in _BETWEEN or type_name.startswith(_BETWEEN_BEGINS) or type_name.endswith("[]")
 
 
+def _star(found: Match) -> str:
+    """What stands around a number, with a star in its place."""
+    before, after = (part for part in found.groups() if part is not None)
+    return before + "*" + after
+
+
 def label_shape(label: str) -> str:
-    """A label without what differs from element to element: `[*]` for an index or a key."""
-    return _INDEX.sub("[*]", label) if "[" in label else label
+    """A label without what differs from element to element and from run to run: `[*]` for an index or a key."""
+    return _CHANGING.sub(_star, label)
+
+
+def type_shape(type_name: str) -> str:
+    """A type without what differs from object to object: lengths, numbers of objects, and the lines of frames."""
+    if type_name.startswith("frame "):
+        return _NUMBERS.sub("*", type_name)
+    return _CHANGING_IN_TYPES.sub(_star, type_name)
+
+
+def root_shape(root: str) -> str:
+    """The name of a root without numbers; those that were given a number to be told apart have one shape."""
+    return _NUMBERS.sub("*", re.sub(r" #\d+$", "", root))
 
 
 class Holder(NamedTuple):
@@ -179,10 +200,10 @@ class Shape(NamedTuple):
 
 def path_shape(path: Path) -> Shape:
     """The shape of a path: a run of the same step, as along a list of nodes, counts once."""
-    start = "owner" if path.root is None else "root " + re.sub(r"\d+", "*", path.root)
+    start = "owner" if path.root is None else "root " + root_shape(path.root)
     steps: List[Tuple[str, str]] = []
     for step in path.steps:
-        one = label_shape(step.label), step.type_name
+        one = label_shape(step.label), type_shape(step.type_name)
         if one not in steps[-2:]:
             steps.append(one)
-    return Shape("%s -> %s" % (start, path.type_name), tuple(steps))
+    return Shape("%s -> %s" % (start, type_shape(path.type_name)), tuple(steps))

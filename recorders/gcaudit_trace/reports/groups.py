@@ -2,14 +2,14 @@
 from collections import Counter
 from typing import Dict, Iterable, List, NamedTuple, Optional, Set, Tuple
 
-from ..graphs.paths import Shape, path_shape
+from ..graphs.paths import Shape, path_shape, type_shape
 from .report import Verdict
 
 _SHOWN_TYPES = 6
 
 
 class Group(NamedTuple):
-    """Violations of one kind, of one type and with one shape of path, in one collection, and what hangs from their objects."""
+    """Violations of one kind, of one type and with one shape of path, in one collection, and what hangs from them."""
 
     kind: str
     type_name: str
@@ -23,29 +23,57 @@ class Group(NamedTuple):
 
 
 def grouped(verdicts: Iterable[Verdict]) -> List[Group]:
-    """The groups in the order of their first violation.
+    """The groups by collection, those with most violations first.
 
     Where an object that must be dead is reached only through another one by the path that the report shows, the other
-    one is the cause, and the first hangs from it.
+    one is the cause, and the first hangs from it. A violation without a path joins the largest group of its kind and
+    type, or hangs where others of its type do.
     """
     found: Dict[Tuple, Group] = {}
     all_of_them = list(verdicts)
     dead = {(verdict.collection, verdict.number) for verdict in all_of_them if verdict.kind == "dead"}
     causes: Dict[Tuple[int, int], Group] = {}
     hanging: List[Tuple[int, Verdict]] = []
+    without: List[Verdict] = []
     for verdict in all_of_them:
+        if not verdict.paths:
+            without.append(verdict)
+            continue
         cause = _cause(verdict, dead)
         if cause is not None:
             hanging.append((cause, verdict))
             continue
-        shape = path_shape(verdict.paths[0]) if verdict.paths else None
-        key = (verdict.collection, verdict.kind, verdict.type_name, shape)
-        group = found.setdefault(key, Group(verdict.kind, verdict.type_name, shape, [], []))
+        group = _group_of(verdict, path_shape(verdict.paths[0]), found)
         group.verdicts.append(verdict)
         causes[verdict.collection, verdict.number] = group
     for cause, verdict in hanging:
         causes[verdict.collection, cause].hanging.append(verdict)
-    return sorted(found.values(), key=lambda group: group.sample.collection)
+    _join(without, found)
+    return sorted(found.values(), key=lambda group: (group.sample.collection, -_size(group)))
+
+
+def _group_of(verdict: Verdict, shape: Optional[Shape], found: Dict[Tuple, Group]) -> Group:
+    """The group of a violation by the shape of its path; a new one where there is none."""
+    name = type_shape(verdict.type_name)
+    return found.setdefault((verdict.collection, verdict.kind, name, shape), Group(verdict.kind, name, shape, [], []))
+
+
+def _size(group: Group) -> int:
+    """How many violations a group has, what hangs counted."""
+    return len(group.verdicts) + len(group.hanging)
+
+
+def _join(without: List[Verdict], found: Dict[Tuple, Group]) -> None:
+    """Puts violations whose paths were left out where others of their collection, kind and type are."""
+    places: Dict[Tuple, List[Verdict]] = {}
+    for group in sorted(found.values(), key=_size):
+        for verdict in group.hanging:
+            places[verdict.collection, "dead", type_shape(verdict.type_name)] = group.hanging
+    for group in sorted(found.values(), key=_size):
+        places[group.sample.collection, group.kind, group.type_name] = group.verdicts
+    for verdict in without:
+        place = places.get((verdict.collection, verdict.kind, type_shape(verdict.type_name)))
+        (_group_of(verdict, None, found).verdicts if place is None else place).append(verdict)
 
 
 def _cause(verdict: Verdict, dead: Set[Tuple[int, int]]) -> Optional[int]:

@@ -1,5 +1,5 @@
 """The report in groups, each with a sample path and what it keeps alive."""
-from typing import Dict, List, NamedTuple, Optional, Tuple
+from typing import Dict, List, NamedTuple, Optional, Set, Tuple
 
 from ..graphs.dominators import Kept as KeptOfAll, kept_alone, kept_by_type
 from ..graphs.graph import Graph
@@ -24,11 +24,11 @@ class Kept(NamedTuple):
 
     def __str__(self) -> str:
         size = "" if self.bytes is None else ", {:,} bytes".format(self.bytes)
-        return "keeps {:,} object{}{} alive alone".format(self.objects, "" if self.objects == 1 else "s", size)
+        return "{:,} object{}{} alive alone".format(self.objects, "" if self.objects == 1 else "s", size)
 
 
 class Shown(NamedTuple):
-    """A group with what its sample keeps alive; None where the graph doesn't tell it."""
+    """A group with what its objects keep alive; None where the graph doesn't tell it."""
 
     group: Group
     kept: Optional[Kept]
@@ -66,11 +66,16 @@ class Shown(NamedTuple):
                 % (self.group.sample.owner, "is gone" if self.group.sample.owner_gone else "doesn't lead to it")
             )
         if self.kept is not None:
-            found.append(str(self.kept))
+            are_more = self.group.kind != "instances" and len(self.group.verdicts) > 1
+            found.append("%s %s" % ("they keep" if are_more else "keeps", self.kept))
         if self.group.hanging:
             found.append(
-                "%d more that must be dead hang from it: %s"
-                % (len(self.group.hanging), counted(one.type_name for one in self.group.hanging))
+                "%d more that must be dead hang from %s: %s"
+                % (
+                    len(self.group.hanging),
+                    "it" if len(self.group.verdicts) == 1 else "them",
+                    counted(one.type_name for one in self.group.hanging),
+                )
             )
         return found
 
@@ -112,17 +117,35 @@ def view_of(done: Audit, trace: str, name: str) -> View:
             if collection >= max(wanted):
                 break
     last = done.report.rstrip("\n").split("\n")[-1].split(" ")
-    return View(
-        name, [Shown(group, kept.get(place)) for place, group in enumerate(groups)], int(last[-1]), int(last[2])
-    )
+    shown = [Shown(group, kept.get(place)) for place, group in enumerate(groups)]
+    shown.sort(key=lambda one: (-(one.kept.bytes or 0), -one.kept.objects) if one.kept else (0, 0))
+    return View(name, shown, int(last[-1]), int(last[2]))
 
 
 def _kept_of(group: Group, graph: Graph, alone: KeptOfAll, by_type: Dict[str, Tuple[int, int]]) -> Optional[Kept]:
     has_sizes = graph.sizes is not None
     if group.kind == "instances":
-        objects, size = by_type.get(group.type_name, (0, 0))
+        objects, size = by_type.get(group.sample.type_name, (0, 0))
         return Kept(objects, size if has_sizes else None) if objects else None
-    node = graph.node_of(group.sample.number)
-    if node is None:
+    found = (graph.node_of(verdict.number) for verdict in group.verdicts)
+    nodes = _outermost({node for node in found if node is not None}, alone)
+    if not nodes:
         return None
-    return Kept(alone.objects[node], alone.bytes[node] if has_sizes else None)
+    size = sum(alone.bytes[node] for node in nodes) if has_sizes else None
+    return Kept(sum(alone.objects[node] for node in nodes), size)
+
+
+def _outermost(nodes: Set[int], alone: KeptOfAll) -> List[int]:
+    """Those of the nodes that no other one of them keeps, so that what all keep is counted once."""
+    below: Dict[int, bool] = {}  # of nodes on the way up whether one of the nodes is there or above
+    found = []
+    for node in nodes:
+        way, at = [], alone.dominators[node]
+        while at < len(alone.dominators) and at not in nodes and at not in below:
+            way.append(at)
+            at = alone.dominators[at]
+        is_kept = at in nodes or below.get(at, False)
+        below.update(dict.fromkeys(way, is_kept))
+        if not is_kept:
+            found.append(node)
+    return found
