@@ -4,6 +4,7 @@ Nothing here calls a method that a program may have written: contents are read b
 by the descriptors of a class and by gc.get_referents, which finds what has no name too.
 """
 import gc
+import os
 import sys
 import types
 import weakref
@@ -68,6 +69,7 @@ class Shape(NamedTuple):
     size: Callable[[Any], int]  # the bytes of an object itself
     head: int  # the bytes before it
     of_program: bool  # a class that a program can make: objects hold it
+    namer: Optional[Callable[[Any], str]]  # how an object is named where each has a name of its own
 
 
 _shapes: Dict[int, Tuple[Any, Shape]] = {}
@@ -131,15 +133,72 @@ def _is_own(names: Dict[str, Any]) -> bool:
 
 
 def object_name(obj: Any, shape: Shape) -> str:
-    """The type of an object as the trace has it. Modules, classes and frames are told apart by their names."""
-    if isinstance(obj, type):
-        return legal_name("class " + type_name(obj))
-    if isinstance(obj, types.ModuleType):
-        name = _module_dict(obj).get("__name__")
-        return legal_name("module " + name) if type(name) is str else shape.name
-    if type(obj) is types.FrameType:
-        return legal_name("frame %s" % obj.f_code.co_name)
-    return shape.name
+    """The type of an object as the trace has it. Functions, modules and the like are told apart by their names."""
+    return shape.name if shape.namer is None else shape.namer(obj)
+
+
+def has_own_names(kind: type) -> bool:
+    """Whether objects of the type are told apart by their names, so that none has the type's name."""
+    return _namer(kind) is not None
+
+
+def _namer(kind: type) -> Optional[Callable[[Any], str]]:
+    if issubclass(kind, type):
+        return lambda obj: legal_name("class " + type_name(obj))
+    if issubclass(kind, types.ModuleType):
+        return _module_name
+    return _NAMERS[kind] if id(kind) in _NAMED else None
+
+
+def _module_name(obj: types.ModuleType) -> str:
+    name = _module_dict(obj).get("__name__")
+    return legal_name("module " + name) if type(name) is str else type_name(type(obj))
+
+
+def _function_name(obj: types.FunctionType) -> str:
+    module = obj.__module__
+    return legal_name("function %s%s" % (module + "." if type(module) is str else "", obj.__qualname__))
+
+
+def _method_name(obj: types.MethodType) -> str:
+    function = obj.__func__
+    return legal_name(
+        "method " + (function.__qualname__ if type(function) is types.FunctionType else type_name(type(function)))
+    )
+
+
+def _generator_name(word: str, code: str) -> Callable[[Any], str]:
+    """How generators and the like are named. Their frames would tell their modules, and be made for that; files tell them too."""
+    return lambda obj: legal_name(
+        "%s %s.%s" % (word, _module_of_file(getattr(obj, code).co_filename), obj.__qualname__)
+    )
+
+
+_modules_of_files: Dict[str, str] = {}
+
+
+def _module_of_file(path: str) -> str:
+    """The name of the module that was read from a file; where none was, the file's own name."""
+    found = _modules_of_files.get(path)
+    if found is None:
+        for name, module in list(sys.modules.items()):
+            file = _module_dict(module).get("__file__") if isinstance(module, types.ModuleType) else None
+            if type(file) is str and type(name) is str:
+                _modules_of_files.setdefault(file, name)
+        stem = os.path.splitext(os.path.basename(path))[0] or path
+        found = _modules_of_files.setdefault(path, stem)
+    return found
+
+
+_NAMERS: Dict[type, Callable[[Any], str]] = {
+    types.FrameType: lambda obj: legal_name("frame %s" % obj.f_code.co_name),
+    types.FunctionType: _function_name,
+    types.MethodType: _method_name,
+    types.GeneratorType: _generator_name("generator", "gi_code"),
+    types.CoroutineType: _generator_name("coroutine", "cr_code"),
+    types.AsyncGeneratorType: _generator_name("async_generator", "ag_code"),
+}
+_NAMED = frozenset(map(id, _NAMERS))
 
 
 def _new_shape(kind: type) -> Shape:
@@ -166,6 +225,7 @@ def _new_shape(kind: type) -> Shape:
         size or object.__sizeof__,
         _GC_HEAD if _flags(kind) & _HAS_GC else 0,
         bool(_flags(kind) & _IS_HEAP_TYPE),
+        _namer(kind),
     )
 
 

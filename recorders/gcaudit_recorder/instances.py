@@ -4,14 +4,14 @@ from typing import Any, Dict, Iterable, List, Optional
 
 from gcaudit_trace import legal_name
 
-from .contents import module_of, qualified_name, type_name
+from .contents import has_own_names, module_of, qualified_name, type_name
 from .notices import Place, place_of_program
 
 
 class Limit:
     """At most so many objects of a class. `name` is the type of the trace whose objects gcaudit counts.
 
-    Where subclasses count too, each of their objects has one of a type of its own beside it, and these are counted.
+    Where subclasses count too, each of the objects has one of a type of its own beside it, and these are counted.
     """
 
     __slots__ = (
@@ -33,7 +33,8 @@ class Limit:
         self.subclasses = subclasses
         self.reached_only = reached_only
         self._place: Place = place_of_program()
-        self._marker = _marker_of(cls) if subclasses else None
+        # Objects that have names of their own in the trace are counted by what stands beside them too.
+        self._marker = _marker_of(cls) if subclasses or has_own_names(cls) else None
         self._markers: Dict[int, Any] = {}
         self._was_said = False
 
@@ -55,6 +56,10 @@ class Limit:
             assert self._marker is not None
             marker = self._markers[id(obj)] = self._marker()
         return marker
+
+    def has_markers(self) -> bool:
+        """Whether other objects are counted in place of those of the class."""
+        return self._marker is not None
 
     def is_marker(self, obj: Any) -> bool:
         return type(obj) is self._marker
@@ -107,7 +112,7 @@ class Limits:
 
     def counted(self) -> Dict[int, List[Limit]]:
         """By the address of each type the limits for which each of its objects has another one beside it."""
-        return self._by_kind(limit for limit in self._limits.values() if limit.subclasses)
+        return self._by_kind(limit for limit in self._limits.values() if limit.has_markers())
 
     def sought(self) -> Dict[int, List[Limit]]:
         """By the address of each type the limits for which objects count that no root reaches."""

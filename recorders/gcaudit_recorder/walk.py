@@ -8,7 +8,7 @@ from typing import Any, Callable, Dict, Iterable, Iterator, List, Optional, Set,
 from gcaudit_trace import TraceError
 from gcaudit_trace.graphs.paths import Holder, is_between, named_holder
 from gcaudit_trace.reports.growth import Counts
-from gcaudit_trace.traces.limits import MOST_OBJECTS
+from gcaudit_trace.traces.limits import MOST_OBJECTS, MOST_TYPES
 
 from .instances import Limit
 from .contents import LONG_TEXT, PLAIN, PROXIES, WEAK, Label, Shape, contents, object_name, shape_of, size_of
@@ -17,6 +17,7 @@ _NONE = 0xFFFFFFFF
 WEAK_LABEL = 0  # the number of the label WEAK
 EMPTY = (0, -1 << 31)  # a slot that holds nothing: no id, and no label
 _SHOWN_TYPES = 8
+_MOST_NAMES = MOST_TYPES // 2
 
 
 class Labels:
@@ -277,9 +278,7 @@ class Walk:
         for edge, held in self._weak_edges:
             now.targets[edge] = now.place_of.get(id(held), _NONE)
         now.weak = [weakref.ref(obj) if shape.weakly else None for obj, shape in zip(self.objects, self.shapes)]
-        now.names = [
-            object_name(obj, shape) if shape.inner else shape.name for obj, shape in zip(self.objects, self.shapes)
-        ]
+        now.names = self._names()
         now.numbers = array("I", bytes(4 * len(self.objects)))
         now.rooms = array("I", bytes(4 * len(self.objects)))
         now.held_by = {
@@ -289,6 +288,15 @@ class Walk:
             old = known.place_of.get(id(obj))
             if old is not None and self._is_same(place, old, obj) and not fresh(obj):
                 now.numbers[place], now.rooms[place] = known.numbers[old], known.rooms[old]
+
+    def _names(self) -> List[str]:
+        """The types of the objects as the trace has them; functions share one where there are too many names."""
+        names = [
+            shape.name if shape.namer is None else shape.namer(obj) for obj, shape in zip(self.objects, self.shapes)
+        ]
+        if len(set(names)) <= _MOST_NAMES:
+            return names
+        return [name if shape.inner else shape.name for name, shape in zip(names, self.shapes)]
 
     def _is_same(self, place: int, old: int, obj: Any) -> bool:
         """Whether the object is the one that had the address at the last collection.

@@ -18,11 +18,11 @@ GROWN = [
 ]
 # What is asserted dead, and the last steps of its path.
 DEAD = [
-    ("Session", r"\.listeners -> \d+ list \[0\] -> \d+ method \.__self__ -> \d+ __main__\.Session"),
+    ("Session", r"\.listeners -> \d+ list \[0\] -> \d+ method \S+ \.__self__ -> \d+ __main__\.Session"),
     ("Page", r"\.pages -> \d+ dict \[\d+\] -> \d+ __main__\.Page"),
     (
         "Order",
-        r"\.callbacks -> \d+ list \[0\] -> \d+ function \(variable one\) -> \d+ cell \.cell_contents -> \d+ __main__\.Order",
+        r"\.callbacks -> \d+ list \[0\] -> \d+ function \S+ \(variable one\) -> \d+ cell \.cell_contents -> \d+ __main__\.Order",
     ),
     (
         "Basket",

@@ -1,4 +1,5 @@
 """The Python recorder inside real programs: each leak is found with its path, and the twin without it passes."""
+import asyncio
 import contextlib
 import gc
 import io
@@ -30,6 +31,11 @@ class Node:
 class Entry:
     def __init__(self, value=None):
         self.value = value
+
+
+class Listener:
+    def on_event(self):
+        pass
 
 
 class Cache:
@@ -91,7 +97,7 @@ class Leaks(InFolder):
         self.assertRegex(
             report,
             r"gc 1 dead \d+ tests\.programs\.service\.Session: root service -> \d+ tests\.programs\.service\.Service"
-            r" \.bus -> \d+ tests\.programs\.service\.EventBus \.listeners -> \d+ list \[0\] -> \d+ method \.__self__ -> ",
+            r" \.bus -> \d+ tests\.programs\.service\.EventBus \.listeners -> \d+ list \[0\] -> \d+ method \S+ \.__self__ -> ",
         )
         self.assertIn("violations 1", report)
         self.assertIsNone(report_of(lambda: day(False)))
@@ -274,9 +280,9 @@ class Leaks(InFolder):
                 recorder.assert_dead(item)
                 recorder.assert_dead(other)
         self.assertRegex(
-            caught.exception.named, r"\.callback -> \d+ function \(variable item\) -> \d+ cell \.cell_contents -> "
+            caught.exception.named, r"\.callback -> \d+ function \S+ \(variable item\) -> \d+ cell \.cell_contents -> "
         )
-        self.assertRegex(caught.exception.named, r"\.waiting -> \d+ generator \(local\) -> ")
+        self.assertRegex(caught.exception.named, r"\.waiting -> \d+ generator tests\.\S+ \(local\) -> ")
 
     def test_a_class_and_a_module_as_roots(self):
         class Registry:
@@ -627,6 +633,48 @@ class Traces(InFolder):
         self.assertEqual(said(Recorder.abandon), [])
         self.assertEqual(said(lambda recorder: self.assertRaises(HeapViolation, recorder.check, PROGRAM)), [])
 
+    def test_functions_and_the_like_have_their_names(self):
+        async def poll():
+            await asyncio.sleep(1000)
+
+        def walk():
+            yield
+
+        async def stream():
+            yield
+
+        def listen():
+            pass
+
+        app = App(
+            function=listen,
+            method=Listener().on_event,
+            builtin=[].append,
+            generator=walk(),
+            coroutine=poll(),
+            stream=stream(),
+        )
+        recorder = self.recorder(app=app)
+        recorder.assert_instances(types.FunctionType, 0, reached_only=True)
+        try:
+            report = recorder.check(PROGRAM)
+        except HeapViolation as violation:
+            report = violation.report
+        app.coroutine.close()
+        here = "tests.test_python"
+        place = "Traces.test_functions_and_the_like_have_their_names.<locals>"
+        found = {event["type"] for event in events(self.trace) if event["op"] == "alloc"}
+        for name in (
+            "async_generator %s.%s.stream" % (here, place),
+            "coroutine %s.%s.poll" % (here, place),
+            "function %s.%s.listen" % (here, place),
+            "generator %s.%s.walk" % (here, place),
+            "method Listener.on_event",
+        ):
+            self.assertIn(name, found)
+        self.assertNotIn("function", found)
+        self.assertRegex(report, r"instances function\+ limit 0 found [1-9]\d*: ")
+
     def test_open_file(self):
         text = io.StringIO()
         entry = Entry()
@@ -767,7 +815,7 @@ class Plugin(InFolder):
         self.assertRegex(
             said,
             r"gc 1 dead \d+ test_it\.Session: root bus -> 1 test_it\.EventBus \.listeners -> \d+ list \[0\] -> "
-            r"\d+ method \.__self__ -> \d+ test_it\.Session\n",
+            r"\d+ method Session\.on_event \.__self__ -> \d+ test_it\.Session\n",
         )
         self.assertIn("1 failed in ", said)
 

@@ -183,7 +183,7 @@ class Regions(InFolder):
         )
         self.assertRegex(
             lines[3],
-            r"^    from it hang \d+ more that must be dead: dict 3, list 3, method 1, weakref\.ReferenceType 1$",
+            r"^    from it hang \d+ more that must be dead: dict 3, list 3, method Session\.handle 1, weakref\.ReferenceType 1$",
         )
         self.assertRegex(lines[4], "^end gcs 1 violations ")
         with open(self.path("trace.jsonl")) as file:

@@ -46,7 +46,19 @@ _BETWEEN = frozenset(
         "(object properties)",
     }
 )
-_BETWEEN_BEGINS = ("java.util.", "function ", "system / ", "left out ", "more of ", "more ", "joint ")
+_BETWEEN_BEGINS = (
+    "java.util.",
+    "function ",
+    "method ",
+    "generator ",
+    "coroutine ",
+    "async_generator ",
+    "system / ",
+    "left out ",
+    "more of ",
+    "more ",
+    "joint ",
+)
 # What differs from element to element, or from run to run: indexes and keys, V8's numbers of objects, counts.
 _CHANGING = re.compile(r"(\[)[^\]]*(\])|(@)\d+()|(^)\d+( / )|(\(over )\d+( left out\))")
 _CHANGING_IN_TYPES = re.compile(r"(@)\d+()|( \()\d+(\))|( and )\d+( more$)")

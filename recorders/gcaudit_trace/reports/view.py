@@ -131,8 +131,9 @@ def _kept_of(group: Group, graph: Graph, alone: KeptOfAll, by_type: Dict[str, Tu
     nodes = _outermost({node for node in found if node is not None}, alone)
     if not nodes:
         return None
-    size = sum(alone.bytes[node] for node in nodes) if has_sizes else None
-    return Kept(sum(alone.objects[node] for node in nodes), size)
+    return Kept(
+        sum(alone.objects[node] for node in nodes), sum(alone.bytes[node] for node in nodes) if has_sizes else None
+    )
 
 
 def _outermost(nodes: Set[int], alone: KeptOfAll) -> List[int]:
