@@ -34,6 +34,9 @@ _LEFT_OUT = frozenset(
 )
 _GENERATORS = (types.GeneratorType, types.CoroutineType, types.AsyncGeneratorType)
 _UNCHANGING = frozenset({tuple, frozenset})
+VALUES = frozenset(
+    {int, float, complex, str, bytes}
+)  # plain values that have bytes of their own, each time they are made
 _HAS_GC = 1 << 14  # a type's objects have a head for Python's collector
 _IS_HEAP_TYPE = 1 << 9
 _GC_HEAD = 16
@@ -338,6 +341,14 @@ def _items(obj: dict) -> List[Content]:
         if type(key) not in PLAIN:
             found.append(("(key)", key))
     return found
+
+
+def values_of(obj: Any, found: List[Content]) -> List[Content]:
+    """The plain values that an object holds, by what was found to be held; of a dict its keys and values too."""
+    if isinstance(obj, dict):
+        pairs = list(dict.items(obj))
+        return [("[*]", one) for pair in pairs for one in pair if type(one) in VALUES]
+    return [("[*]" if isinstance(label, int) else label, one) for label, one in found if type(one) in VALUES]
 
 
 def _attributes(names: Dict[str, Any]) -> List[Content]:

@@ -177,9 +177,10 @@ class Recorder:
         found = []
         for _ in range(rounds + 1):
             work()
+            forget_shapes()
             self._regions.collect()
             with NoAutomaticCollection():
-                found.append(self._walk_from_roots().counts())
+                found.append(self._walk_from_roots(with_values=True).counts())
         return Growth(found, "round")
 
     def close(self) -> None:
@@ -280,8 +281,8 @@ class Recorder:
                 found.setdefault(id(hold.get()), set()).add(hold.serial)
         return found
 
-    def _walk_from_roots(self, counted: Optional[Dict[int, List[Limit]]] = None) -> Walk:
-        walk = Walk(self._heap.known, self._heap.labels, self._deep, self._held_addresses(), counted)
+    def _walk_from_roots(self, counted: Optional[Dict[int, List[Limit]]] = None, with_values: bool = False) -> Walk:
+        walk = Walk(self._heap.known, self._heap.labels, self._deep, self._held_addresses(), counted, with_values)
         walk.from_roots(self._live_roots())
         if self._everything:
             everything(walk)

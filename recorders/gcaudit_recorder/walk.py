@@ -11,7 +11,7 @@ from gcaudit_trace.reports.growth import Counts
 from gcaudit_trace.traces.limits import MOST_OBJECTS, MOST_TYPES
 
 from .instances import Limit
-from .contents import LONG_TEXT, PLAIN, PROXIES, WEAK, Label, Shape, contents, object_name, shape_of, size_of
+from .contents import LONG_TEXT, PLAIN, PROXIES, WEAK, Label, Shape, contents, object_name, shape_of, size_of, values_of
 
 _NONE = 0xFFFFFFFF
 WEAK_LABEL = 0  # the number of the label WEAK
@@ -106,6 +106,7 @@ class Walk:
         deep: bool,
         held: Dict[int, Set[int]],
         counted: Optional[Dict[int, List[Limit]]] = None,
+        with_values: bool = False,
     ) -> None:
         self._known = known
         self._labels = labels
@@ -118,6 +119,9 @@ class Walk:
         self._inner_roots: Set[int] = set()  # the addresses of classes and modules that are roots
         self._weak_edges: List[Tuple[int, Any]] = []  # the place among the targets, and what is held weakly there
         self._proxies: Dict[int, int] = {}  # by address, the place
+        # Of plain values, where they are counted: by place, type and label how many an object holds, and their bytes.
+        self._values: Optional[Dict[Tuple[int, str, str], List[int]]] = {} if with_values else None
+        self._seen_values: Set[int] = set()  # by address, so that one that many hold counts once
         self.roots: List[Tuple[str, Any]] = []
         self._root_names: Dict[int, str] = {}  # by address
         self.objects: List[Any] = []  # held while the walk is there, so no address is used twice
@@ -263,12 +267,25 @@ class Walk:
                 is_traced[to] = 1  # an owner that nothing had reached so far
             targets.append(to)
             labels.append(-1 - label if type(label) is int else number_of(label))
+        if self._values is not None:
+            texts = 0
+            self._count_values(place, values_of(obj, found))
         now.starts.append(len(targets))
         self.shapes.append(shape)
         self.sizes.append(size_of(obj, shape) + texts)
         if type(obj) in PROXIES:
             self._proxies[id(obj)] = place
         self._read = place + 1
+
+    def _count_values(self, place: int, values: List[Tuple[Label, Any]]) -> None:
+        """Counts plain values with the object that was met first of those that hold them."""
+        assert self._values is not None
+        for label, held in values:
+            if id(held) not in self._seen_values:
+                self._seen_values.add(id(held))
+                one = self._values.setdefault((place, type(held).__name__, str(label)), [0, 0])
+                one[0] += 1
+                one[1] += held.__sizeof__()
 
     # ---- which objects the trace has already
 
@@ -375,7 +392,7 @@ class Walk:
         return self._root_names.get(id(self.objects[place]), "owner")
 
     def counts(self) -> Counts:
-        """By type and by what holds them by name: how many objects there are, and their bytes."""
+        """By type and by what holds them by name: how many objects there are, and their bytes; plain values too."""
         holders: List[Holder] = []
         found: Counts = {}
         for place, obj in enumerate(self.objects):
@@ -391,6 +408,12 @@ class Walk:
                 one = found.setdefault((object_name(obj, self.shapes[place]), holder), [0, 0])
                 one[0] += 1
                 one[1] += self.sizes[place]
+        for (place, kind, label), (count, size) in (self._values or {}).items():
+            name = object_name(self.objects[place], self.shapes[place])
+            holder = holders[place] if is_between(name) else named_holder(name, label)
+            one = found.setdefault((kind, holder), [0, 0])
+            one[0] += count
+            one[1] += size
         return found
 
 

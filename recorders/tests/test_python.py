@@ -15,6 +15,7 @@ from tests.support import PROGRAM, RECORDERS, InFolder, events, needs_program, p
 from tests.programs import service
 
 from gcaudit_recorder import HeapViolation, Recorder, TraceError, UncheckedWarning, audited
+from gcaudit_recorder.contents import type_name
 from gcaudit_trace import audit
 
 
@@ -632,6 +633,41 @@ class Traces(InFolder):
         self.assertEqual(said(Recorder.close, audit_later=True), [])
         self.assertEqual(said(Recorder.abandon), [])
         self.assertEqual(said(lambda recorder: self.assertRaises(HeapViolation, recorder.check, PROGRAM)), [])
+
+    def test_growth_counts_texts_numbers_and_buffers(self):
+        """By what holds them; a value that several hold counts once. Sizes are those that Python tells."""
+
+        class Cache:
+            def __init__(self):
+                self.entries, self.numbers, self.buffer, self.text = {}, [], bytearray(), ""
+
+        cache, rounds = Cache(), iter(range(100))
+
+        def work():
+            number = next(rounds)
+            for at in range(10):
+                text = "%d-%d-%s" % (number, at, "x" * 1000)
+                cache.entries[text] = text  # one text, though it is a key too
+            cache.numbers += [number + at + 0.5 for at in range(100)]
+            cache.buffer += bytes(5000)
+            cache.text += "y" * 700
+
+        recorder = self.recorder(cache=cache)
+        growth = recorder.growth(2, work)
+        walk = recorder._walk_from_roots(with_values=True)
+        recorder.abandon()
+        size, name = sys.getsizeof("0-0-" + "x" * 1000), type_name(Cache)
+        lines = str(growth).split("\n")
+        self.assertIn("+10 str a round, {:,} bytes, held by {}.entries (10 -> 20 -> 30)".format(10 * size, name), lines)
+        self.assertIn(
+            "+100 float a round, {:,} bytes, held by {}.numbers (100 -> 200 -> 300)".format(
+                100 * sys.getsizeof(0.5), name
+            ),
+            lines,
+        )
+        counts = {(kind, holder.name): (count, size) for (kind, holder), (count, size) in walk.counts().items()}
+        self.assertEqual(counts["str", name + ".text"], (1, sys.getsizeof("y" * 2100)))
+        self.assertGreaterEqual(counts["bytearray", name + ".buffer"][1], 15000)
 
     def test_functions_and_the_like_have_their_names(self):
         async def poll():
