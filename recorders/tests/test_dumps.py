@@ -343,9 +343,9 @@ class Node(DumpTests, InFolder):
 class ManyLeaks(InFolder):
     """Each way to hold an object too long is found, and no object that was let go."""
 
-    def found(self, convert, dump, names):
+    def found(self, convert, dump, names, *more):
         words = [word for name in names for word in ("--dead", name)]
-        status, said = run(convert, dump, self.path("trace.jsonl"), *words)
+        status, said = run(convert, dump, self.path("trace.jsonl"), *words, *more)
         self.assertEqual(status, 0, said)
         self.done = audit(self.path("trace.jsonl"), PROGRAM)
         return sorted(verdict.type_name for verdict in self.done.verdicts)
@@ -371,6 +371,44 @@ class ManyLeaks(InFolder):
         ):
             self.assertRegex(self.done.named, r"dead \d+ Leaks\$%s: root .*%s\d+ Leaks\$%s\n" % (name, path, name))
         self.assertRegex(self.done.named, r"dead \d+ Leaks\$OnStack: root frame Leaks\.\S+ \(thread Thread-\d+\) -> ")
+
+    @needs_program
+    @needs_commands("java", "javac", "jcmd")
+    def test_through_classes_on_a_jvm(self):
+        """What a class holds that only an object of it, an array, its loader or the JVM itself keeps alive."""
+        with open(os.path.join(PROGRAMS, "PluginLeaks.java")) as file:
+            names = ["PluginLeaks$" + name for name in re.findall(r"static class (\w+) extends Held ", file.read())]
+        leaked = [name for name in names if "Released" not in name]
+        self.assertEqual((len(leaked), len(names)), (8, 16))
+        subprocess.run(
+            ["javac", "-Xlint:none", "-d", self.folder, os.path.join(PROGRAMS, "PluginLeaks.java")],
+            check=True,
+            timeout=300,
+        )
+        dump = dump_java(self.folder, "many", main="PluginLeaks")
+        self.assertEqual(self.found(hprof_to_trace, dump, names), sorted(leaked))
+        kept = r"root class PluginLeaks -> \d+ class PluginLeaks \.KEPT -> \d+ java\.util\.ArrayList \.elementData -> \d+ java\.lang\.Object\[\] "
+        plugin = r"class PluginLeaks\$Plugin \.sessions -> "
+        for name, path in (
+            ("OfInstance", r"\[0\] -> \d+ PluginLeaks\$Plugin <class> -> \d+ " + plugin),
+            (
+                "OfArray",
+                r"\[1\] -> \d+ PluginLeaks\$Plugin\[\] <class> -> \d+ class PluginLeaks\$Plugin\[\] \(element class\) -> \d+ "
+                + plugin,
+            ),
+            (
+                "OfSubclass",
+                r"\[2\] -> \d+ PluginLeaks\$SubPlugin <class> -> \d+ class PluginLeaks\$SubPlugin \(superclass\) -> \d+ "
+                + plugin,
+            ),
+            ("OfLoader", r"\[3\] -> \d+ PluginLeaks\$Loader \(defined class\) -> \d+ " + plugin),
+        ):
+            self.assertRegex(self.done.named, r"dead \d+ PluginLeaks\$%s: %s%s" % (name, kept, path))
+        for words in (
+            ["--only", "PluginLeaks$Of", "--only", "PluginLeaks$ReleasedOf"],
+            ["--owned-by", "PluginLeaks$OfLoader=PluginLeaks$OfArray"],
+        ):
+            self.assertEqual(sorted(set(self.found(hprof_to_trace, dump, names, *words))), sorted(leaked), words)
 
     @needs_program
     @needs_commands("node")
