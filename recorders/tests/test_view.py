@@ -49,6 +49,7 @@ LEAK = [
 ]
 DEAD = [{"op": "assert-dead", "id": number} for number in (3, 4, 5, 7)]
 UNSHARED = [{"op": "assert-unshared", "id": 5}, store(4, 0, 5, ".buffer")]
+ONE_BUS = {"op": "assert-instances", "type": "Bus", "limit": 1}  # which holds
 COLLECT = {"op": "collect"}
 
 
@@ -247,7 +248,7 @@ class View(Commands):
         )
 
     def test_no_violation(self):
-        trace = self.write(*LEAK, COLLECT)
+        trace = self.write(*LEAK, ONE_BUS, COLLECT)
         said = self.view(
             trace,
             "--html",
@@ -322,7 +323,7 @@ for path in sys.argv[2:]:
     checker.validate(json.load(open(path)))
 """
         found = [self.written("sarif", *LEAK, *DEAD, *UNSHARED, COLLECT), self.path("none.sarif")]
-        self.view(self.write(*LEAK, COLLECT), "--sarif", found[1], status=0)
+        self.view(self.write(*LEAK, ONE_BUS, COLLECT), "--sarif", found[1], status=0)
         subprocess.run(
             [python_with("jsonschema"), "-c", program, os.path.join(SCHEMAS, "sarif-2.1.0-rtm.4.json"), *found],
             check=True,

@@ -4,7 +4,7 @@ import difflib
 from typing import Dict, List, Set, Tuple
 
 from ..errors import TraceError
-from ..traces.limits import MOST_OBJECTS
+from ..traces.limits import MOST_INSTANCES, MOST_OBJECTS
 
 SHOWN_CLASSES = 8
 
@@ -45,7 +45,7 @@ def parser_for(program: str, about: str) -> argparse.ArgumentParser:
     said.add_argument(
         "--may-be-missing",
         action="store_true",
-        help="it is no mistake where the dump knows nothing of a class that was named",
+        help="it is no mistake where the dump knows nothing of a class or prefix that was named",
     )
     kept = parser.add_argument_group("what is kept (each may be given more than once)")
     kept.add_argument(
@@ -91,7 +91,7 @@ class Wishes:
     @staticmethod
     def _limit(text: str) -> Tuple[str, int]:
         name, equals, number = text.rpartition("=")
-        if not (name and equals and number.isascii() and number.isdigit() and int(number) <= 4294967295):
+        if not (name and equals and number.isascii() and number.isdigit() and int(number) <= MOST_INSTANCES):
             raise TraceError("--limit wants CLASS=N, not %s" % text)
         return name, int(number)
 
@@ -110,12 +110,17 @@ class Wishes:
             )
 
     def need_known(self, known: Set[str]) -> None:
-        """Refuses a class that the dump knows nothing of: what is asserted of it would hold whatever the program does."""
-        missing = sorted(self.named - known)
-        if missing and not self._may_be_missing:
-            raise TraceError(
-                "; ".join("the dump has no class %s%s" % (name, _nearest(name, known)) for name in missing)
-            )
+        """Refuses a class or a prefix that the dump knows nothing of: what is asserted would hold whatever the program does."""
+        if self._may_be_missing:
+            return
+        missing = ["%s%s" % (name, _nearest(name, known)) for name in sorted(self.named - known)]
+        missing += [
+            "that begins with %s%s" % (prefix, _nearest_beginning(prefix, known))
+            for prefix in self._only
+            if not any(name.startswith(prefix) for name in known)
+        ]
+        if missing:
+            raise TraceError("; ".join("the dump has no class " + one for one in missing))
 
 
 def _nearest(name: str, known: Set[str]) -> str:
@@ -124,6 +129,11 @@ def _nearest(name: str, known: Set[str]) -> str:
     found = sorted((one for one in known if _last_word(one) == last), key=len)[:3]
     found = found or difflib.get_close_matches(name, known, 3)
     return ", but %s" % " and ".join(found) if found else " and none with a name like it"
+
+
+def _nearest_beginning(prefix: str, known: Set[str]) -> str:
+    """The beginnings of names that were meant, as far as can be guessed."""
+    return _nearest(prefix, {name[: len(prefix)] for name in known})
 
 
 def _last_word(name: str) -> str:

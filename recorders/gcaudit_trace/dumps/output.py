@@ -7,7 +7,7 @@ from typing import Dict, Iterable, Iterator, List, Tuple, Union
 from ..errors import TraceError
 from ..graphs.left_out import Staying
 from ..progress import Progress
-from ..traces.limits import Counted
+from ..traces.limits import MOST_INSTANCES, Counted
 from ..traces.names import UniqueNames, legal_name
 from ..traces.snapshot_writer import SnapshotWriter
 from ..traces.trace_writer import TraceWriter
@@ -143,9 +143,16 @@ class DumpTrace(DumpFile):
 
     def _assert(self, progress: Progress) -> None:
         wishes = self._wishes
+        if not wishes.named:
+            progress.say(
+                "nothing is asserted in it, so gcaudit has nothing to check: see --dead, --limit and the others"
+            )
         for name in sorted(wishes.named):
             if not self._of_class[name]:
                 progress.say("no object of the class %s is in the dump" % name)
+                if name not in wishes.limits:
+                    # What was asserted holds, since there is nothing of which it could not. It is to be seen that it was.
+                    self.trace.assert_instances(legal_name(name), MOST_INSTANCES)
         for name in sorted(wishes.dead):
             for number in self._of_class[name]:
                 self.trace.assert_dead(number)
