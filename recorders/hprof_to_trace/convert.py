@@ -76,6 +76,7 @@ class Heap:
         self.classes_as_roots = 0  # how many classes are roots in place of references from their objects
         self._with_objects: Set[int] = set()  # the classes that have objects
         self._in_queue = 0  # what a reference has for a queue while it waits in one
+        self._labels_of: Tuple[int, Dict[int, str]] = (-1, {})  # of the left-out object that was asked last, by codes
         self._layouts: Dict[int, Layout] = {}
         self._keeps: Dict[int, bool] = {}
         self._may_hold_of: Dict[int, bool] = {}
@@ -224,11 +225,13 @@ class Heap:
 
     def _label_of(self, place: int, edge: int, code: int) -> str:
         """The label under which a left-out object holds another."""
-        code_of = self.codes.get
-        return next(
-            (label for label, to, weak in self.holdings(self.left_places[place]) if not weak and code_of(to) == code),
-            "",
-        )
+        if self._labels_of[0] != place:
+            labels: Dict[int, str] = {}
+            for label, to, weak in self.holdings(self.left_places[place]):
+                if not weak:
+                    labels.setdefault(self.codes.get(to), label)
+            self._labels_of = place, labels
+        return self._labels_of[1].get(code, "")
 
     # ---- what an object holds
 

@@ -22,6 +22,7 @@ from gcaudit_trace import audit
 from gcaudit_trace.progress import Progress
 from heapsnapshot_to_trace.__main__ import main as heapsnapshot_to_trace
 from hprof_to_trace.__main__ import main as hprof_to_trace
+from hprof_to_trace.convert import Heap
 
 
 def run(command, *words):
@@ -533,6 +534,26 @@ class WrittenDumps(InFolder):
         stores = [(e["at"], e["to"], e["label"]) for e in events(trace) if e["op"] == "store"]
         first, last = (next(e["id"] for e in events(trace) if e.get("type") == name) for name in ("kept.A", "kept.D"))
         self.assertEqual(stores, [(first, last, ".next\n (over 2 left out)"), (last, last, ".next\n")])
+
+    def test_the_elements_of_a_left_out_array(self):
+        """Each element has its label, and the array is read a few times, and not once for each of them."""
+        whole = written_hprof("I", ["kept/A", "[Lout/B;"])
+        size = 300
+        heap = (
+            b"\x22" + struct.pack(">IIII", 6000, 0, size, 1001) + struct.pack(">%dI" % size, *range(7000, 7000 + size))
+        )
+        for at in range(size):
+            heap += b"\x21" + struct.pack(">IIIII", 7000 + at, 0, 1000, 4, 0)
+        heap += b"\xff" + struct.pack(">I", 6000)
+        with open(self.path("dump"), "wb") as file:
+            file.write(whole[:-9] + struct.pack(">BII", 0x1C, 0, len(heap)) + heap + whole[-9:])
+        with mock.patch.object(Heap, "holdings", autospec=True, side_effect=Heap.holdings) as holdings:
+            status, said = run(hprof_to_trace, self.path("dump"), self.path("trace.jsonl"), "--only", "kept.")
+        self.assertEqual(status, 0, said)
+        joint = next(e["id"] for e in events(self.path("trace.jsonl")) if e.get("type") == "left out out.B[]")
+        labels = [e["label"] for e in events(self.path("trace.jsonl")) if e["op"] == "store" and e["at"] == joint]
+        self.assertEqual(labels, ["[%d]" % at for at in range(size)])
+        self.assertLess(holdings.call_count, size + 50)
 
     def test_a_record_that_is_not_known(self):
         whole = written_hprof("I", ["A"]).replace(b"\xff" + struct.pack(">I", 2000), b"\x99" + struct.pack(">I", 2000))
