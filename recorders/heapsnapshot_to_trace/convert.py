@@ -23,6 +23,7 @@ _MOST_FUNCTION_NAMES = 30000
 # Through its class an object leads to nearly all of the program: everything would be its owner's, and everything that
 # is left out would lead to what is kept. So these edges are left out of both.
 _TO_CLASS = frozenset({("internal", "map"), ("property", "__proto__")})
+_OF_FUNCTIONS = "__proto__", "prototype"  # the properties of a class that lead to its superclass and to its prototype
 _NUMBERED = frozenset({"element", "hidden"})  # edges that have a number for a name
 _MOST_KINDS = 256  # a type is kept in one byte
 
@@ -56,6 +57,7 @@ class Snapshot:
         self.to_classes = 0  # references from objects to their classes that are left out
         self._root_edges: List[Tuple[int, int, int]] = []  # the type, the name or index, and the node of each
         self._class_edges: Set[Tuple[int, int]] = set()  # the type and name of those to classes
+        self._prototypes: Dict[int, str] = {}  # by the node what is said for its class
         self._class_names: Dict[Tuple[int, int], str] = {}  # by type and name
         self._labels: Dict[Tuple[int, int], str] = {}  # by type and name
         self._wanted: Set[int] = set()
@@ -190,6 +192,12 @@ class Snapshot:
         counts: Dict[str, int] = {}
         for key, count in of_each.items():
             self._class_names[key] = name = self._class_name(*key)
+            self.wishes.counts[name] = self.wishes.counts.get(name, 0) + count
+        self.wishes.counts[""] = 0
+        if self.wishes.named:
+            self._read_classes()
+        for key, count in of_each.items():
+            name = self._class_names[key]
             keeps[key] = self.wishes.keeps(name)
             if keeps[key]:
                 counts[name] = counts.get(name, 0) + count
@@ -204,12 +212,38 @@ class Snapshot:
             if keeps[key]:
                 self.kept_nodes.append(node)
                 codes[node] = len(self.kept_nodes)
-                if self._class_names[key] in self.wishes.unshared:
+                if self.wishes.is_unshared(self.class_of(node)):
                     self._unshared.add(codes[node])
             else:
                 self.left_nodes.append(node)
                 codes[node] = -len(self.left_nodes)
         self.left.add(len(self.left_nodes))
+
+    def _read_classes(self) -> None:
+        """Finds the superclasses of each class, and the objects that are prototypes: V8 gives them the name of the superclass.
+
+        A function that is a class holds its prototype, and has that of its superclass for its own prototype.
+        """
+        closure = self.kind_words.index("closure") if "closure" in self.kind_words else -1
+        property = self.edge_words.index("property") if "property" in self.edge_words else -1
+        to_super, to_prototype = ({name for name, text in self.texts.items() if text == one} for one in _OF_FUNCTIONS)
+        kinds, names, text_of = self.kinds, self.names, self.texts.get
+        directly: Dict[str, Set[str]] = {}
+        holders: Iterator[int] = chain.from_iterable(map(repeat, range(len(kinds)), self.edge_counts))
+        reader = Reader(self.file, self.name, self.progress, "reading the classes", self.size, self._edges_start)
+        kind_at, name_at, to_at = self._edge_at
+        for rows in self._rows(reader, self._edge_width):
+            width = self._edge_width
+            for kind, name, to, holder in zip(rows[kind_at::width], rows[name_at::width], rows[to_at::width], holders):
+                if kind == property and kinds[holder] == closure:
+                    held = to // self._node_width
+                    if name in to_prototype:
+                        self._prototypes[held] = "prototype of " + text_of(names[holder], "")
+                    elif name in to_super and kinds[held] == closure and names[held] != names[holder]:
+                        directly.setdefault(text_of(names[holder], ""), set()).add(text_of(names[held], ""))
+        self.wishes.superclasses = {name: _all_above(name, directly) for name in directly}
+        for node in self._prototypes:
+            self.wishes.counts[self._class_names.get((kinds[node], names[node]), "")] -= 1
 
     def _count_left_out(self, name: str, count: int) -> None:
         if count:
@@ -226,6 +260,8 @@ class Snapshot:
         return word
 
     def class_of(self, node: int) -> str:
+        if node in self._prototypes:
+            return self._prototypes[node]
         return self._class_names[self.kinds[node], self.names[node]]
 
     # ---- the edges
@@ -323,6 +359,17 @@ class Snapshot:
             code = self.codes[node]
             for number in self.left.numbers_of(code) if code and kind != self._weak else ():
                 yield self.texts.get(self.names[node], "") or self._label(kind, name), number
+
+
+def _all_above(name: str, directly: Dict[str, Set[str]]) -> Set[str]:
+    """The superclasses of a class, from those of which each class is a direct subclass."""
+    found: Set[str] = set()
+    work = [name]
+    while work:
+        new = directly.get(work.pop(), set()) - found
+        found |= new
+        work += new
+    return found - {name}
 
 
 def convert(file: BinaryIO, asked: argparse.Namespace, progress: Progress, limited: bool = True) -> None:

@@ -35,6 +35,7 @@ _REFERENCE = "java.lang.ref.Reference"
 _QUEUE = "java.lang.ref.ReferenceQueue"
 _CLASS_VALUES = "java.lang.ClassValue$ClassValueMap"  # held by a class, in a field of which a dump doesn't tell
 _THREAD_ROOT = next(tag for tag, (kind, _, _) in ROOTS.items() if kind == "thread")
+_OF_CLASSES = -1  # in place of the identifier of the class of classes
 _TO_CLASS, _TO_LOADER = "<class>", "(class loader)"
 _HOLD_PRIMITIVES_ALONE = frozenset({"java.lang.String"})
 
@@ -62,6 +63,7 @@ class Heap:
         self.left = LeftOut(self._label_of, self._unshared)
         self.left_places = array("Q")
         self.left_out: Dict[str, int] = {}  # how many objects of each class are left out
+        self._named_counts: Dict[str, int] = {}  # how many are kept
         self.roots: List[Root] = []
         self.weak_lost = 0
         self.relations = Relations(set(), {}, {}, [], set(), set())
@@ -112,8 +114,10 @@ class Heap:
             if not number:
                 raise TraceError("%s is damaged: an object has the identifier 0" % self.dump.name)
             # What has a code already is the same record again.
-            is_kept = keeps[class_id] if class_id in keeps else keeps_class(class_id)
-            if tag != CLASS:
+            if tag == CLASS:
+                is_kept, class_id = self.wishes.keeps(self.dump.class_name(number)), _OF_CLASSES
+            else:
+                is_kept = keeps[class_id] if class_id in keeps else keeps_class(class_id)
                 with_objects(class_id)
                 if class_id in of_jvm:
                     self._of_jvm.append(place)
@@ -130,17 +134,26 @@ class Heap:
             else:
                 left_classes[class_id] = left_classes.get(class_id, 0) + 1
         self.left.add(len(left_places))
-        for class_id, count in left_classes.items():
-            name = self.dump.class_name(class_id)
-            self.left_out[name] = self.left_out.get(name, 0) + count
+        self.left_out = self._by_name(left_classes)
         for code, count in primitive.items():
             self.left_out[PRIMITIVES[code] + "[]"] = count
-        self._named_counts = {self.dump.class_name(class_id): count for class_id, count in counts.items()}
+        self._named_counts = self._by_name(counts)
+        for found in (self._named_counts, self.left_out):
+            for name, count in found.items():
+                self.wishes.counts[name] = self.wishes.counts.get(name, 0) + count
         self.wishes.need_known(
             {self.dump.class_name(class_id) for class_id in chain(self.dump.class_names, self.classes)}
         )
         self.wishes.need_room(len(places), self._named_counts)
         self._relate_classes()
+
+    def _by_name(self, counts: Dict[int, int]) -> Dict[str, int]:
+        """Counts by the names of classes, from those by identifiers."""
+        found: Dict[str, int] = {}
+        for class_id, count in counts.items():
+            name = "java.lang.Class" if class_id == _OF_CLASSES else self.dump.class_name(class_id)
+            found[name] = found.get(name, 0) + count
+        return found
 
     def _relate_classes(self) -> None:
         """Finds which objects lead to classes, and the roots that classes have."""
@@ -214,9 +227,20 @@ class Heap:
         self._may_hold_of[class_id] = found
         return found
 
+    def _superclasses(self, class_id: int) -> Iterator[str]:
+        """The names of a class's superclasses, as far as they are known by now."""
+        seen = {class_id}
+        while class_id in self.classes:
+            class_id = self.classes[class_id].superclass
+            if not class_id or class_id in seen:
+                return
+            seen.add(class_id)
+            yield self.dump.class_name(class_id)
+
     def _keeps_class(self, class_id: int) -> bool:
         name = self.dump.class_name(class_id)
-        if name in self.wishes.unshared:
+        self.wishes.superclasses.setdefault(name, set()).update(self._superclasses(class_id))
+        if self.wishes.is_unshared(name):
             self._unshared_classes.add(class_id)
         if name == _CLASS_VALUES or is_thread(class_id, self.classes, self.dump.class_name):
             self._classes_of_jvm.add(class_id)
