@@ -5,12 +5,14 @@ from array import array
 from collections import Counter
 from itertools import chain, compress, repeat
 from operator import floordiv, mod
-from typing import BinaryIO, Callable, Dict, Iterator, List, Set, Tuple
+from typing import BinaryIO, Callable, Dict, Iterator, List, Set, Tuple, Union
 
 from gcaudit_trace import TraceError
 from gcaudit_trace.dumps.command import say_left_out
-from gcaudit_trace.dumps.options import Wishes
+from gcaudit_trace.dumps.graph_output import DumpGraph
+from gcaudit_trace.dumps.options import Wishes, parser_for
 from gcaudit_trace.dumps.output import DumpFile, output_of
+from gcaudit_trace.graphs.graph import Graph
 from gcaudit_trace.graphs.left_out import LeftOut
 from gcaudit_trace.progress import Progress
 
@@ -18,7 +20,7 @@ from .reader import Reader, read_members
 
 # Plain values: they hold nothing but parts of themselves.
 PLAIN = frozenset({"string", "concatenated string", "sliced string", "number", "symbol", "bigint"})
-_BY_NAME = frozenset({"object", "synthetic", "native"})  # nodes whose class is their name
+_BY_NAME = frozenset({"object", "synthetic", "native", "hidden"})  # nodes whose class is their name
 _MOST_FUNCTION_NAMES = 30000
 # Through its class an object leads to nearly all of the program: everything would be its owner's, and everything that
 # is left out would lead to what is kept. So these edges are left out of both.
@@ -129,8 +131,8 @@ class Snapshot:
         self._wanted.update(compress(self.names, self._is_object()))
 
     def _is_object(self) -> bytes:
-        """For each node 1 where it is no plain value, else 0."""
-        return self.kinds.translate(bytes(1 - plain for plain in self._is_plain))
+        """For each node 1 where it is no plain value, else 0; in a graph of all, 1 for each."""
+        return self.kinds.translate(bytes(1 - (plain and self.wishes.limited) for plain in self._is_plain))
 
     def _take_edge_names(self, reader: Reader) -> None:
         if not self.kinds:
@@ -184,7 +186,7 @@ class Snapshot:
         is_object = bytearray(self._is_object())
         is_object[0] = 0
         for kind, word in enumerate(self.kind_words):
-            if word in PLAIN:
+            if word in PLAIN and self.wishes.limited:
                 self._count_left_out(word, self.kinds.count(kind) - (kind == self.kinds[0]))
         of_each = Counter(compress(zip(self.kinds, self.names), is_object))
         self._names_functions = sum(self.kind_words[kind] == "closure" for kind, _ in of_each) <= _MOST_FUNCTION_NAMES
@@ -255,6 +257,8 @@ class Snapshot:
         text = self.texts.get(name, "")
         if word in _BY_NAME:
             return text or word
+        if word.endswith("string"):
+            return "string"
         if word == "closure":
             return "function " + text if text and self._names_functions else "function"
         return word
@@ -308,7 +312,7 @@ class Snapshot:
         """The label of a reference of a left-out node."""
         return self._label(self._left_kinds[edge], self._left_names[edge])
 
-    def write(self, out: DumpFile) -> None:
+    def write(self, out: Union[DumpFile, DumpGraph]) -> None:
         """Writes the kept nodes, and behind them the joints."""
         for held, node in zip(self._holdings(), self.kept_nodes):
             out.object(self.class_of(node), self.sizes[node], held)
@@ -372,9 +376,19 @@ def _all_above(name: str, directly: Dict[str, Set[str]]) -> Set[str]:
     return found - {name}
 
 
-def convert(file: BinaryIO, asked: argparse.Namespace, progress: Progress, limited: bool = True) -> None:
+def graph_of(file: BinaryIO, name: str, progress: Progress) -> Graph:
+    """The whole heap of a snapshot as a graph, texts and numbers too."""
+    wishes = Wishes(parser_for("", "").parse_args(["--", name, ""]), limited=False)
+    snapshot = Snapshot(file, name, wishes, progress)
+    snapshot.read()
+    out = DumpGraph()
+    snapshot.write(out)
+    return out.finish(snapshot.roots())
+
+
+def convert(file: BinaryIO, asked: argparse.Namespace, progress: Progress) -> None:
     """Writes the trace of a snapshot of V8, or the snapshot for gcsnap, by the words of the command line."""
-    wishes = Wishes(asked, limited)
+    wishes = Wishes(asked)
     snapshot = Snapshot(file, asked.dump, wishes, progress)
     snapshot.read()
     stay = snapshot.pass_over()

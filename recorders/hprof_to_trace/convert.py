@@ -3,12 +3,14 @@ import argparse
 import struct
 from array import array
 from itertools import chain
-from typing import BinaryIO, Dict, Iterable, Iterator, List, NamedTuple, Sequence, Set, Tuple
+from typing import BinaryIO, Dict, Iterable, Iterator, List, NamedTuple, Sequence, Set, Tuple, Union
 
 from gcaudit_trace import TraceError
 from gcaudit_trace.dumps.command import say_left_out
-from gcaudit_trace.dumps.options import Wishes
+from gcaudit_trace.dumps.graph_output import DumpGraph
+from gcaudit_trace.dumps.options import Wishes, parser_for
 from gcaudit_trace.dumps.output import DumpFile, output_of
+from gcaudit_trace.graphs.graph import Graph
 from gcaudit_trace.graphs.left_out import LeftOut
 from gcaudit_trace.progress import Progress
 
@@ -392,7 +394,7 @@ class Heap:
 
     # ---- the trace
 
-    def write(self, out: DumpFile) -> None:
+    def write(self, out: Union[DumpFile, DumpGraph]) -> None:
         """Writes the kept objects, and behind them the joints."""
         for place in self._in_steps("writing the objects", self.kept_places):
             out.object(self._class_at(place), self._size_at(place), self._resolved(self.holdings(place)))
@@ -473,9 +475,19 @@ class Heap:
         return kind
 
 
-def convert(file: BinaryIO, asked: argparse.Namespace, progress: Progress, limited: bool = True) -> None:
+def graph_of(file: BinaryIO, name: str, progress: Progress) -> Graph:
+    """The whole heap of a dump as a graph, arrays of primitives too."""
+    wishes = Wishes(parser_for("", "").parse_args(["--", name, ""]), limited=False)
+    heap = Heap(Dump(file, name, progress), wishes, progress)
+    heap.find_objects()
+    out = DumpGraph()
+    heap.write(out)
+    return out.finish(heap.named_roots())
+
+
+def convert(file: BinaryIO, asked: argparse.Namespace, progress: Progress) -> None:
     """Writes the trace of a dump, or the snapshot, by the words of the command line."""
-    wishes = Wishes(asked, limited)
+    wishes = Wishes(asked)
     heap = Heap(Dump(file, asked.dump, progress), wishes, progress)
     heap.find_objects()
     stay = heap.pass_over()

@@ -427,6 +427,9 @@ class ManyLeaks(InFolder):
         )
         names = leaked + ["Released" + name for name in leaked]
         self.assertEqual(self.found(heapsnapshot_to_trace, self.path("many.heapsnapshot"), names), sorted(leaked))
+        for name, inside in (("OfPromise", "PromiseReaction"), ("OfProxy", "JSProxy"), ("OfClosure", "Context")):
+            self.assertRegex(self.done.named, r"dead \d+ %s: root .* system / %s [^>]*-> .*%s\n" % (name, inside, name))
+        self.assertNotIn("hidden", {e["type"] for e in events(self.path("trace.jsonl")) if e["op"] == "alloc"})
 
     @needs_program
     @needs_commands("java", "javac", "jcmd")
