@@ -5,12 +5,14 @@ from array import array
 from collections import Counter
 from itertools import chain, compress, repeat
 from operator import floordiv, mod
-from typing import BinaryIO, Callable, Dict, Iterator, List, Set, Tuple
+from typing import BinaryIO, Callable, Dict, Iterator, List, Set, Tuple, Union
 
 from gcaudit_trace import TraceError
 from gcaudit_trace.dumps.command import say_left_out
-from gcaudit_trace.dumps.options import Wishes
+from gcaudit_trace.dumps.graph_output import DumpGraph
+from gcaudit_trace.dumps.options import Wishes, parser_for
 from gcaudit_trace.dumps.output import DumpFile, output_of
+from gcaudit_trace.graphs.graph import Graph
 from gcaudit_trace.graphs.left_out import LeftOut
 from gcaudit_trace.progress import Progress
 
@@ -18,11 +20,12 @@ from .reader import Reader, read_members
 
 # Plain values: they hold nothing but parts of themselves.
 PLAIN = frozenset({"string", "concatenated string", "sliced string", "number", "symbol", "bigint"})
-_BY_NAME = frozenset({"object", "synthetic", "native"})  # nodes whose class is their name
+_BY_NAME = frozenset({"object", "synthetic", "native", "hidden"})  # nodes whose class is their name
 _MOST_FUNCTION_NAMES = 30000
 # Through its class an object leads to nearly all of the program: everything would be its owner's, and everything that
 # is left out would lead to what is kept. So these edges are left out of both.
 _TO_CLASS = frozenset({("internal", "map"), ("property", "__proto__")})
+_OF_FUNCTIONS = "__proto__", "prototype"  # the properties of a class that lead to its superclass and to its prototype
 _NUMBERED = frozenset({"element", "hidden"})  # edges that have a number for a name
 _MOST_KINDS = 256  # a type is kept in one byte
 
@@ -56,6 +59,7 @@ class Snapshot:
         self.to_classes = 0  # references from objects to their classes that are left out
         self._root_edges: List[Tuple[int, int, int]] = []  # the type, the name or index, and the node of each
         self._class_edges: Set[Tuple[int, int]] = set()  # the type and name of those to classes
+        self._prototypes: Dict[int, str] = {}  # by the node what is said for its class
         self._class_names: Dict[Tuple[int, int], str] = {}  # by type and name
         self._labels: Dict[Tuple[int, int], str] = {}  # by type and name
         self._wanted: Set[int] = set()
@@ -127,8 +131,8 @@ class Snapshot:
         self._wanted.update(compress(self.names, self._is_object()))
 
     def _is_object(self) -> bytes:
-        """For each node 1 where it is no plain value, else 0."""
-        return self.kinds.translate(bytes(1 - plain for plain in self._is_plain))
+        """For each node 1 where it is no plain value, else 0; in a graph of all, 1 for each."""
+        return self.kinds.translate(bytes(1 - (plain and self.wishes.limited) for plain in self._is_plain))
 
     def _take_edge_names(self, reader: Reader) -> None:
         if not self.kinds:
@@ -182,7 +186,7 @@ class Snapshot:
         is_object = bytearray(self._is_object())
         is_object[0] = 0
         for kind, word in enumerate(self.kind_words):
-            if word in PLAIN:
+            if word in PLAIN and self.wishes.limited:
                 self._count_left_out(word, self.kinds.count(kind) - (kind == self.kinds[0]))
         of_each = Counter(compress(zip(self.kinds, self.names), is_object))
         self._names_functions = sum(self.kind_words[kind] == "closure" for kind, _ in of_each) <= _MOST_FUNCTION_NAMES
@@ -190,6 +194,12 @@ class Snapshot:
         counts: Dict[str, int] = {}
         for key, count in of_each.items():
             self._class_names[key] = name = self._class_name(*key)
+            self.wishes.counts[name] = self.wishes.counts.get(name, 0) + count
+        self.wishes.counts[""] = 0
+        if self.wishes.named:
+            self._read_classes()
+        for key, count in of_each.items():
+            name = self._class_names[key]
             keeps[key] = self.wishes.keeps(name)
             if keeps[key]:
                 counts[name] = counts.get(name, 0) + count
@@ -204,12 +214,38 @@ class Snapshot:
             if keeps[key]:
                 self.kept_nodes.append(node)
                 codes[node] = len(self.kept_nodes)
-                if self._class_names[key] in self.wishes.unshared:
+                if self.wishes.is_unshared(self.class_of(node)):
                     self._unshared.add(codes[node])
             else:
                 self.left_nodes.append(node)
                 codes[node] = -len(self.left_nodes)
         self.left.add(len(self.left_nodes))
+
+    def _read_classes(self) -> None:
+        """Finds the superclasses of each class, and the objects that are prototypes: V8 gives them the name of the superclass.
+
+        A function that is a class holds its prototype, and has that of its superclass for its own prototype.
+        """
+        closure = self.kind_words.index("closure") if "closure" in self.kind_words else -1
+        property = self.edge_words.index("property") if "property" in self.edge_words else -1
+        to_super, to_prototype = ({name for name, text in self.texts.items() if text == one} for one in _OF_FUNCTIONS)
+        kinds, names, text_of = self.kinds, self.names, self.texts.get
+        directly: Dict[str, Set[str]] = {}
+        holders: Iterator[int] = chain.from_iterable(map(repeat, range(len(kinds)), self.edge_counts))
+        reader = Reader(self.file, self.name, self.progress, "reading the classes", self.size, self._edges_start)
+        kind_at, name_at, to_at = self._edge_at
+        for rows in self._rows(reader, self._edge_width):
+            width = self._edge_width
+            for kind, name, to, holder in zip(rows[kind_at::width], rows[name_at::width], rows[to_at::width], holders):
+                if kind == property and kinds[holder] == closure:
+                    held = to // self._node_width
+                    if name in to_prototype:
+                        self._prototypes[held] = "prototype of " + text_of(names[holder], "")
+                    elif name in to_super and kinds[held] == closure and names[held] != names[holder]:
+                        directly.setdefault(text_of(names[holder], ""), set()).add(text_of(names[held], ""))
+        self.wishes.superclasses = {name: _all_above(name, directly) for name in directly}
+        for node in self._prototypes:
+            self.wishes.counts[self._class_names.get((kinds[node], names[node]), "")] -= 1
 
     def _count_left_out(self, name: str, count: int) -> None:
         if count:
@@ -221,11 +257,15 @@ class Snapshot:
         text = self.texts.get(name, "")
         if word in _BY_NAME:
             return text or word
+        if word.endswith("string"):
+            return "string"
         if word == "closure":
             return "function " + text if text and self._names_functions else "function"
         return word
 
     def class_of(self, node: int) -> str:
+        if node in self._prototypes:
+            return self._prototypes[node]
         return self._class_names[self.kinds[node], self.names[node]]
 
     # ---- the edges
@@ -272,7 +312,7 @@ class Snapshot:
         """The label of a reference of a left-out node."""
         return self._label(self._left_kinds[edge], self._left_names[edge])
 
-    def write(self, out: DumpFile) -> None:
+    def write(self, out: Union[DumpFile, DumpGraph]) -> None:
         """Writes the kept nodes, and behind them the joints."""
         for held, node in zip(self._holdings(), self.kept_nodes):
             out.object(self.class_of(node), self.sizes[node], held)
@@ -325,9 +365,30 @@ class Snapshot:
                 yield self.texts.get(self.names[node], "") or self._label(kind, name), number
 
 
-def convert(file: BinaryIO, asked: argparse.Namespace, progress: Progress, limited: bool = True) -> None:
+def _all_above(name: str, directly: Dict[str, Set[str]]) -> Set[str]:
+    """The superclasses of a class, from those of which each class is a direct subclass."""
+    found: Set[str] = set()
+    work = [name]
+    while work:
+        new = directly.get(work.pop(), set()) - found
+        found |= new
+        work += new
+    return found - {name}
+
+
+def graph_of(file: BinaryIO, name: str, progress: Progress) -> Graph:
+    """The whole heap of a snapshot as a graph, texts and numbers too."""
+    wishes = Wishes(parser_for("", "").parse_args(["--", name, ""]), limited=False)
+    snapshot = Snapshot(file, name, wishes, progress)
+    snapshot.read()
+    out = DumpGraph()
+    snapshot.write(out)
+    return out.finish(snapshot.roots())
+
+
+def convert(file: BinaryIO, asked: argparse.Namespace, progress: Progress) -> None:
     """Writes the trace of a snapshot of V8, or the snapshot for gcsnap, by the words of the command line."""
-    wishes = Wishes(asked, limited)
+    wishes = Wishes(asked)
     snapshot = Snapshot(file, asked.dump, wishes, progress)
     snapshot.read()
     stay = snapshot.pass_over()

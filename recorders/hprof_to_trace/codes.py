@@ -47,3 +47,10 @@ class Codes:
             return False
         page[at] = code
         return True
+
+    def remove(self, number: int) -> None:
+        """Takes an object's code away."""
+        if number & 7:
+            self._others.pop(number, None)
+        elif number >> _PAGE_BITS in self._pages:
+            self._pages[number >> _PAGE_BITS][number >> _STEP_BITS & _STEPS - 1] = 0

@@ -3,24 +3,29 @@ import argparse
 import struct
 from array import array
 from itertools import chain
-from typing import BinaryIO, Dict, Iterable, Iterator, List, NamedTuple, Sequence, Set, Tuple
+from typing import BinaryIO, Dict, Iterable, Iterator, List, NamedTuple, Sequence, Set, Tuple, Union
 
 from gcaudit_trace import TraceError
 from gcaudit_trace.dumps.command import say_left_out
-from gcaudit_trace.dumps.options import Wishes
+from gcaudit_trace.dumps.graph_output import DumpGraph
+from gcaudit_trace.dumps.options import Wishes, parser_for
 from gcaudit_trace.dumps.output import DumpFile, output_of
+from gcaudit_trace.graphs.graph import Graph
 from gcaudit_trace.graphs.left_out import LeftOut
 from gcaudit_trace.progress import Progress
 
+from .classes import CLASS_ROOT, Relations, is_thread, relations_of
 from .codes import Codes
 from .reader import (
     CLASS,
+    HELD_BY_JVM,
     INSTANCE,
     OBJECT,
     OBJECT_ARRAY,
     PRIMITIVE_ARRAY,
     PRIMITIVES,
     ROOTS,
+    ROOTS_AND_MORE,
     SIZES,
     ClassDump,
     Dump,
@@ -29,6 +34,11 @@ from .reader import (
 from .threads import thread_names
 
 _REFERENCE = "java.lang.ref.Reference"
+_QUEUE = "java.lang.ref.ReferenceQueue"
+_CLASS_VALUES = "java.lang.ClassValue$ClassValueMap"  # held by a class, in a field of which a dump doesn't tell
+_THREAD_ROOT = next(tag for tag, (kind, _, _) in ROOTS.items() if kind == "thread")
+_OF_CLASSES = -1  # in place of the identifier of the class of classes
+_TO_CLASS, _TO_LOADER = "<class>", "(class loader)"
 _HOLD_PRIMITIVES_ALONE = frozenset({"java.lang.String"})
 
 
@@ -55,8 +65,22 @@ class Heap:
         self.left = LeftOut(self._label_of, self._unshared)
         self.left_places = array("Q")
         self.left_out: Dict[str, int] = {}  # how many objects of each class are left out
+        self._named_counts: Dict[str, int] = {}  # how many are kept
         self.roots: List[Root] = []
         self.weak_lost = 0
+        self.relations = Relations(set(), {}, {}, [], set(), set())
+        self._special: Set[
+            int
+        ] = set()  # the classes of which objects lead to their class or to the classes that they defined
+        self._classes_of_jvm: Set[
+            int
+        ] = set()  # of threads, and of what classes hold in fields of which a dump doesn't tell
+        self._of_jvm = array("Q")  # where the records of their objects stand
+        self._rooted_codes: Dict[int, int] = {}  # of left-out classes that a root names
+        self.classes_as_roots = 0  # how many classes are roots in place of references from their objects
+        self._with_objects: Set[int] = set()  # the classes that have objects
+        self._in_queue = 0  # what a reference has for a queue while it waits in one
+        self._labels_of: Tuple[int, Dict[int, str]] = (-1, {})  # of the left-out object that was asked last, by codes
         self._layouts: Dict[int, Layout] = {}
         self._keeps: Dict[int, bool] = {}
         self._may_hold_of: Dict[int, bool] = {}
@@ -75,6 +99,7 @@ class Heap:
         counts: Dict[int, int] = {}
         primitive: Dict[int, int] = {}
         left_classes: Dict[int, int] = {}
+        with_objects, of_jvm = self._with_objects.add, self._classes_of_jvm
         for tag, place, number, class_id in self.dump.records("reading the objects"):
             if tag != INSTANCE:
                 if tag == PRIMITIVE_ARRAY:
@@ -91,7 +116,14 @@ class Heap:
             if not number:
                 raise TraceError("%s is damaged: an object has the identifier 0" % self.dump.name)
             # What has a code already is the same record again.
-            if keeps[class_id] if class_id in keeps else keeps_class(class_id):
+            if tag == CLASS:
+                is_kept, class_id = self.wishes.keeps(self.dump.class_name(number)), _OF_CLASSES
+            else:
+                is_kept = keeps[class_id] if class_id in keeps else keeps_class(class_id)
+                with_objects(class_id)
+                if class_id in of_jvm:
+                    self._of_jvm.append(place)
+            if is_kept:
                 if add(number, len(places) + 1):
                     places.append(place)
                     counts[class_id] = counts.get(class_id, 0) + 1
@@ -104,41 +136,128 @@ class Heap:
             else:
                 left_classes[class_id] = left_classes.get(class_id, 0) + 1
         self.left.add(len(left_places))
-        for class_id, count in left_classes.items():
-            name = self.dump.class_name(class_id)
-            self.left_out[name] = self.left_out.get(name, 0) + count
+        self.left_out = self._by_name(left_classes)
         for code, count in primitive.items():
             self.left_out[PRIMITIVES[code] + "[]"] = count
-        self._named_counts = {self.dump.class_name(class_id): count for class_id, count in counts.items()}
+        self._named_counts = self._by_name(counts)
+        for found in (self._named_counts, self.left_out):
+            for name, count in found.items():
+                self.wishes.counts[name] = self.wishes.counts.get(name, 0) + count
         self.wishes.need_known(
             {self.dump.class_name(class_id) for class_id in chain(self.dump.class_names, self.classes)}
         )
         self.wishes.need_room(len(places), self._named_counts)
+        self._relate_classes()
+
+    def _by_name(self, counts: Dict[int, int]) -> Dict[str, int]:
+        """Counts by the names of classes, from those by identifiers."""
+        found: Dict[str, int] = {}
+        for class_id, count in counts.items():
+            name = "java.lang.Class" if class_id == _OF_CLASSES else self.dump.class_name(class_id)
+            found[name] = found.get(name, 0) + count
+        return found
+
+    def _relate_classes(self) -> None:
+        """Finds which objects lead to classes, and the roots that classes have."""
+        self._add_roots_of_jvm()
+        self.relations = relations_of(self.classes, self.dump.class_name, self._class_of, self.roots)
+        self.roots += self.relations.roots
+        self._special = {self._class_id_of(loader) for loader in self.relations.defined}
+        if self.wishes.owners:
+            # Through its class an owner would find its ownees, and so would what it holds.
+            roots = [Root(CLASS_ROOT, number, 0, 0) for number in sorted(self.relations.led_to & self._with_objects)]
+            self.roots += roots
+            self.classes_as_roots = len(roots)
+        else:
+            self._special |= self.relations.led_to
+        for number in self.relations.is_rooted:
+            code = self.codes.get(number)
+            if code < 0:
+                # Only its root leads to it: a reference from elsewhere would say nothing, and be a way from each object to all statics.
+                self._rooted_codes[number] = code
+                self.codes.remove(number)
+        queue = next((found for number, found in self.classes.items() if self.dump.class_name(number) == _QUEUE), None)
+        self._in_queue = next((to for label, to in queue.held if label == ".ENQUEUED"), 0) if queue is not None else 0
+
+    def _add_roots_of_jvm(self) -> None:
+        """Roots for the threads that run and that the dump doesn't name, as those of the JVM's compiler, and for what classes hold unseen."""
+        named = {root.target for root in self.roots if root.kind == _THREAD_ROOT}
+        for place in self._of_jvm:
+            number, _, class_id, _ = self._instance.unpack_from(self.dump.data, place)
+            if self.dump.class_name(class_id) == _CLASS_VALUES:
+                self.roots.append(Root(HELD_BY_JVM, number, 0, 0))
+            elif number not in named and self._runs(place, class_id):
+                self.roots.append(Root(_THREAD_ROOT, number, -number, 0))  # of a serial number that no other thread has
+
+    def _runs(self, place: int, class_id: int) -> bool:
+        """Whether a thread, the record of which stands there, has a thread of the system: its field `eetop` isn't 0."""
+        at = place + self._instance.size
+        while class_id in self.classes:
+            for name, kind in self.classes[class_id].fields:
+                if self.dump.class_name(class_id) == "java.lang.Thread" and self.dump.text(name) == "eetop":
+                    return any(self.dump.data[at : at + SIZES.get(kind, 0)])
+                at += self.dump.id_size if kind == OBJECT else SIZES[kind]
+            class_id = self.classes[class_id].superclass
+        return False
+
+    def _place_of(self, number: int) -> int:
+        """Where the record of an object stands that is kept, or may hold something; 0 where there is none."""
+        code = self.codes.get(number)
+        return self.kept_places[code - 1] if code > 0 else self.left_places[-1 - code] if code else 0
+
+    def _class_of(self, number: int) -> str:
+        """The class of an object that is kept, or may hold something; empty where it isn't in the dump."""
+        place = self._place_of(number)
+        return self._class_at(place) if place else ""
+
+    def _class_id_of(self, number: int) -> int:
+        """The identifier of an instance's class; 0 where it isn't in the dump."""
+        place = self._place_of(number)
+        return (
+            self._instance.unpack_from(self.dump.data, place)[2]
+            if place and self.dump.data[place - 1] == INSTANCE
+            else 0
+        )
 
     def _may_hold(self, class_id: int) -> bool:
-        """Whether instances of the class have references to objects other than arrays of primitives, as far as is known by now."""
+        """Whether instances of the class may lead to something other than arrays of primitives, as far as is known by now."""
         found = self.dump.class_name(class_id) not in _HOLD_PRIMITIVES_ALONE
         try:
-            found = found and bool(self._layout(class_id).labels)
+            found = found and bool(self._layout(class_id).labels or self.classes[class_id].loader)
         except TraceError:
             return True  # a class of it comes later in the dump
         self._may_hold_of[class_id] = found
         return found
 
+    def _superclasses(self, class_id: int) -> Iterator[str]:
+        """The names of a class's superclasses, as far as they are known by now."""
+        seen = {class_id}
+        while class_id in self.classes:
+            class_id = self.classes[class_id].superclass
+            if not class_id or class_id in seen:
+                return
+            seen.add(class_id)
+            yield self.dump.class_name(class_id)
+
     def _keeps_class(self, class_id: int) -> bool:
         name = self.dump.class_name(class_id)
-        if name in self.wishes.unshared:
+        self.wishes.superclasses.setdefault(name, set()).update(self._superclasses(class_id))
+        if self.wishes.is_unshared(name):
             self._unshared_classes.add(class_id)
+        if name == _CLASS_VALUES or is_thread(class_id, self.classes, self.dump.class_name):
+            self._classes_of_jvm.add(class_id)
         found = self._keeps[class_id] = self.wishes.keeps(name)
         return found
 
     def _label_of(self, place: int, edge: int, code: int) -> str:
         """The label under which a left-out object holds another."""
-        code_of = self.codes.get
-        return next(
-            (label for label, to, weak in self.holdings(self.left_places[place]) if not weak and code_of(to) == code),
-            "",
-        )
+        if self._labels_of[0] != place:
+            labels: Dict[int, str] = {}
+            for label, to, weak in self.holdings(self.left_places[place]):
+                if not weak:
+                    labels.setdefault(self.codes.get(to), label)
+            self._labels_of = place, labels
+        return self._labels_of[1].get(code, "")
 
     # ---- what an object holds
 
@@ -146,17 +265,38 @@ class Heap:
         """What the object whose record stands there holds: label, identifier, whether weakly. Empty places are left out."""
         data, tag = self.dump.data, self.dump.data[place - 1]
         if tag == INSTANCE:
+            number, _, class_id, _ = self._instance.unpack_from(data, place)
             layout, found = self._fields(place)
-            return [one for one in zip(layout.labels, found, layout.weak) if one[1]]
+            held = [one for one in zip(layout.labels, found, self._weak_in(layout, found)) if one[1]]
+            return (
+                held + [(label, to, False) for label, to in self._classes_of(number, class_id)]
+                if class_id in self._special
+                else held
+            )
         if tag == OBJECT_ARRAY:
-            return [("[%d]" % at, to, False) for at, to in enumerate(self._elements(place)) if to]
+            class_id, elements = self._elements(place)
+            held = [("[%d]" % at, to, False) for at, to in enumerate(elements) if to]
+            return held + [(_TO_CLASS, class_id, False)] if class_id in self._special else held
         if tag == PRIMITIVE_ARRAY:
             return []
-        return [(label, to, False) for label, to in self.classes[self._id.unpack_from(data, place)[0]].held]
+        number = self._id.unpack_from(data, place)[0]
+        return [
+            (label, to, False)
+            for label, to in chain(self.classes[number].held, self.relations.more_held.get(number, ()))
+        ]
+
+    def _classes_of(self, number: int, class_id: int) -> List[Tuple[str, int]]:
+        """The classes to which an instance leads: its own, and those that it defined."""
+        own = [(_TO_CLASS, class_id)] if class_id in self.relations.led_to and not self.wishes.owners else []
+        return own + self.relations.defined.get(number, [])
+
+    def _weak_in(self, layout: Layout, found: Sequence[int]) -> Sequence[bool]:
+        """Which of the references of an instance are weak. A reference that waits in its queue with what it refers to, until that is finalized, holds it."""
+        return (False,) * len(found) if layout.has_weak and self._in_queue and self._in_queue in found else layout.weak
 
     def _held_by(self, step: str, places: array) -> Iterator[List[int]]:
         """For each of the objects whose records stand there the codes of what it holds strongly."""
-        data, layouts, many = self.dump.data, self._layouts, self.codes.many
+        data, layouts, many, special = self.dump.data, self._layouts, self.codes.many, self._special
         of_class, size = struct.Struct(">%sI" % self.dump.id_code).unpack_from, self._instance.size
         to_class = self.dump.id_size + 4
         for place in self._in_steps(step, places):
@@ -167,12 +307,24 @@ class Heap:
                     layout = self._fields(place)[0]  # refuses one that is too short
                 found: Sequence[int] = layout.unpack.unpack_from(data, place + size)
                 if layout.has_weak:
-                    found = [to for to, weak in zip(found, layout.weak) if not weak]
+                    found = [to for to, weak in zip(found, self._weak_in(layout, found)) if not weak]
+                if class_id in special:
+                    found = [
+                        *found,
+                        *(to for _, to in self._classes_of(self._id.unpack_from(data, place)[0], class_id)),
+                    ]
                 yield many(found)
             elif data[place - 1] == OBJECT_ARRAY:
-                yield many(self._elements(place))
+                class_id, found = self._elements(place)
+                yield many((*found, class_id) if class_id in special else found)
             else:
-                yield many([to for _, to in self.classes[self._id.unpack_from(data, place)[0]].held])
+                yield many(self._held_by_class(self._id.unpack_from(data, place)[0]))
+
+    def _held_by_class(self, number: int) -> Iterator[int]:
+        """What a class holds, where that goes on through it: not the loader that lasts anyway, through which each class would lead to all others."""
+        for label, to in chain(self.classes[number].held, self.relations.more_held.get(number, ())):
+            if label != _TO_LOADER or to not in self.relations.lasting_loaders:
+                yield to
 
     def _fields(self, place: int) -> Tuple[Layout, Tuple[int, ...]]:
         _, _, class_id, size = self._instance.unpack_from(self.dump.data, place)
@@ -183,9 +335,12 @@ class Heap:
             )
         return layout, layout.unpack.unpack_from(self.dump.data, place + self._instance.size)
 
-    def _elements(self, place: int) -> Tuple[int, ...]:
-        length = self._array.unpack_from(self.dump.data, place)[2]
-        return struct.unpack_from(">%d%s" % (length, self.dump.id_code), self.dump.data, place + self._array.size)
+    def _elements(self, place: int) -> Tuple[int, Tuple[int, ...]]:
+        """The class of an array of objects, and its elements."""
+        _, _, length, class_id = self._array.unpack_from(self.dump.data, place)
+        return class_id, struct.unpack_from(
+            ">%d%s" % (length, self.dump.id_code), self.dump.data, place + self._array.size
+        )
 
     def _layout(self, class_id: int) -> Layout:
         """The places of the references in an instance: the fields of the class, then those of its superclass, and so on."""
@@ -225,7 +380,7 @@ class Heap:
         for codes in self._held_by("reading what is kept", self.kept_places):
             left.take((1, code) for code in codes)
         for root in self.roots:
-            left.take_root(self.codes.get(root.target))
+            left.take_root(self._code_of_root(root))
         stay = left.settle(kept, self.progress.following)
         self.wishes.need_room(kept + stay, self._named_counts)
         return stay
@@ -239,7 +394,7 @@ class Heap:
 
     # ---- the trace
 
-    def write(self, out: DumpFile) -> None:
+    def write(self, out: Union[DumpFile, DumpGraph]) -> None:
         """Writes the kept objects, and behind them the joints."""
         for place in self._in_steps("writing the objects", self.kept_places):
             out.object(self._class_at(place), self._size_at(place), self._resolved(self.holdings(place)))
@@ -284,23 +439,27 @@ class Heap:
 
     def named_roots(self) -> Iterator[Tuple[str, int]]:
         """The roots by kind and name, as far as they lead to what is in the trace."""
-        stack_of = {root.thread: root.frame for root in self.roots if ROOTS[root.kind][0] == "thread"}
+        stack_of = {root.thread: root.frame for root in self.roots if root.kind == _THREAD_ROOT}
         names = thread_names(self.dump, self.classes, dict(self._thread_texts()))
         for root in self.roots:
-            code = self.codes.get(root.target)
+            code = self._code_of_root(root)
             for number in self.left.numbers_of(code) if code else ():
                 yield self._root_name(root, stack_of, names), number
+
+    def _code_of_root(self, root: Root) -> int:
+        """The code of what a root names; 0 where it is neither kept nor may hold something."""
+        return self.codes.get(root.target) or self._rooted_codes.get(root.target, 0)
 
     def _thread_texts(self) -> Iterator[Tuple[int, int]]:
         """The serial number of each thread, and the identifier of the text that is its name."""
         for root in self.roots:
             code = self.codes.get(root.target)
-            if code and ROOTS[root.kind][0] == "thread":
+            if code and root.kind == _THREAD_ROOT:
                 place = self.kept_places[code - 1] if code > 0 else self.left_places[-1 - code]
                 yield from ((root.thread, to) for label, to, _ in self.holdings(place) if label == ".name")
 
     def _root_name(self, root: Root, stack_of: Dict[int, int], names: Dict[int, str]) -> str:
-        kind, _, numbers = ROOTS[root.kind]
+        kind, _, numbers = ROOTS_AND_MORE[root.kind]
         if kind == "class":
             return "class " + self.dump.class_name(root.target)
         thread = names.get(root.thread, str(root.thread))
@@ -316,9 +475,19 @@ class Heap:
         return kind
 
 
-def convert(file: BinaryIO, asked: argparse.Namespace, progress: Progress, limited: bool = True) -> None:
+def graph_of(file: BinaryIO, name: str, progress: Progress) -> Graph:
+    """The whole heap of a dump as a graph, arrays of primitives too."""
+    wishes = Wishes(parser_for("", "").parse_args(["--", name, ""]), limited=False)
+    heap = Heap(Dump(file, name, progress), wishes, progress)
+    heap.find_objects()
+    out = DumpGraph()
+    heap.write(out)
+    return out.finish(heap.named_roots())
+
+
+def convert(file: BinaryIO, asked: argparse.Namespace, progress: Progress) -> None:
     """Writes the trace of a dump, or the snapshot, by the words of the command line."""
-    wishes = Wishes(asked, limited)
+    wishes = Wishes(asked)
     heap = Heap(Dump(file, asked.dump, progress), wishes, progress)
     heap.find_objects()
     stay = heap.pass_over()
@@ -327,4 +496,9 @@ def convert(file: BinaryIO, asked: argparse.Namespace, progress: Progress, limit
         heap.write(out)
         if heap.weak_lost:
             progress.say("%d weak references to objects that are left out have no slot" % heap.weak_lost)
+        if heap.classes_as_roots:
+            progress.say(
+                "%d classes are roots, beside --owned-by, in place of the references from their objects (<class>)"
+                % heap.classes_as_roots
+            )
         out.finish(heap.named_roots(), progress)

@@ -24,12 +24,15 @@ ROOTS = {
     0x07: ("monitor", 0, 0),
     0x08: ("thread", 0, 2),
 }
+HELD_BY_JVM = 0x100  # as no record has it: an object that the JVM holds in a place of which a dump doesn't tell
+ROOTS_AND_MORE = {**ROOTS, HELD_BY_JVM: ("held by the JVM", 0, 0)}
 
 
 class ClassDump(NamedTuple):
-    """A class: its superclass, what it refers to itself (label and object), and its fields (name and type)."""
+    """A class: its superclass, its loader (0 for that of the JVM itself), what it refers to itself (label and object), and its fields (name and type)."""
 
     superclass: int
+    loader: int
     held: List[Tuple[str, int]]
     fields: List[Tuple[int, int]]
 
@@ -220,7 +223,7 @@ class Dump:
             ("(signers)", signers),
             ("(protection domain)", domain),
         ]
-        return ClassDump(superclass, [(label, to) for label, to in held + own if to], fields)
+        return ClassDump(superclass, loader, [(label, to) for label, to in held + own if to], fields)
 
     def _walk_class(self, place: int, held, fields) -> int:
         """Steps over a class, and notes the objects in its static fields, and its instance fields."""

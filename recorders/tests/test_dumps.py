@@ -22,6 +22,7 @@ from gcaudit_trace import audit
 from gcaudit_trace.progress import Progress
 from heapsnapshot_to_trace.__main__ import main as heapsnapshot_to_trace
 from hprof_to_trace.__main__ import main as hprof_to_trace
+from hprof_to_trace.convert import Heap
 
 
 def run(command, *words):
@@ -343,9 +344,9 @@ class Node(DumpTests, InFolder):
 class ManyLeaks(InFolder):
     """Each way to hold an object too long is found, and no object that was let go."""
 
-    def found(self, convert, dump, names):
+    def found(self, convert, dump, names, *more):
         words = [word for name in names for word in ("--dead", name)]
-        status, said = run(convert, dump, self.path("trace.jsonl"), *words)
+        status, said = run(convert, dump, self.path("trace.jsonl"), *words, *more)
         self.assertEqual(status, 0, said)
         self.done = audit(self.path("trace.jsonl"), PROGRAM)
         return sorted(verdict.type_name for verdict in self.done.verdicts)
@@ -373,6 +374,44 @@ class ManyLeaks(InFolder):
         self.assertRegex(self.done.named, r"dead \d+ Leaks\$OnStack: root frame Leaks\.\S+ \(thread Thread-\d+\) -> ")
 
     @needs_program
+    @needs_commands("java", "javac", "jcmd")
+    def test_through_classes_on_a_jvm(self):
+        """What a class holds that only an object of it, an array, its loader or the JVM itself keeps alive."""
+        with open(os.path.join(PROGRAMS, "PluginLeaks.java")) as file:
+            names = ["PluginLeaks$" + name for name in re.findall(r"static class (\w+) extends Held ", file.read())]
+        leaked = [name for name in names if "Released" not in name]
+        self.assertEqual((len(leaked), len(names)), (8, 16))
+        subprocess.run(
+            ["javac", "-Xlint:none", "-d", self.folder, os.path.join(PROGRAMS, "PluginLeaks.java")],
+            check=True,
+            timeout=300,
+        )
+        dump = dump_java(self.folder, "many", main="PluginLeaks")
+        self.assertEqual(self.found(hprof_to_trace, dump, names), sorted(leaked))
+        kept = r"root class PluginLeaks -> \d+ class PluginLeaks \.KEPT -> \d+ java\.util\.ArrayList \.elementData -> \d+ java\.lang\.Object\[\] "
+        plugin = r"class PluginLeaks\$Plugin \.sessions -> "
+        for name, path in (
+            ("OfInstance", r"\[0\] -> \d+ PluginLeaks\$Plugin <class> -> \d+ " + plugin),
+            (
+                "OfArray",
+                r"\[1\] -> \d+ PluginLeaks\$Plugin\[\] <class> -> \d+ class PluginLeaks\$Plugin\[\] \(element class\) -> \d+ "
+                + plugin,
+            ),
+            (
+                "OfSubclass",
+                r"\[2\] -> \d+ PluginLeaks\$SubPlugin <class> -> \d+ class PluginLeaks\$SubPlugin \(superclass\) -> \d+ "
+                + plugin,
+            ),
+            ("OfLoader", r"\[3\] -> \d+ PluginLeaks\$Loader \(defined class\) -> \d+ " + plugin),
+        ):
+            self.assertRegex(self.done.named, r"dead \d+ PluginLeaks\$%s: %s%s" % (name, kept, path))
+        for words in (
+            ["--only", "PluginLeaks$Of", "--only", "PluginLeaks$ReleasedOf"],
+            ["--owned-by", "PluginLeaks$OfLoader=PluginLeaks$OfArray"],
+        ):
+            self.assertEqual(sorted(set(self.found(hprof_to_trace, dump, names, *words))), sorted(leaked), words)
+
+    @needs_program
     @needs_commands("node")
     def test_fourteen_on_node(self):
         with open(os.path.join(PROGRAMS, "leaks.js")) as file:
@@ -388,6 +427,9 @@ class ManyLeaks(InFolder):
         )
         names = leaked + ["Released" + name for name in leaked]
         self.assertEqual(self.found(heapsnapshot_to_trace, self.path("many.heapsnapshot"), names), sorted(leaked))
+        for name, inside in (("OfPromise", "PromiseReaction"), ("OfProxy", "JSProxy"), ("OfClosure", "Context")):
+            self.assertRegex(self.done.named, r"dead \d+ %s: root .* system / %s [^>]*-> .*%s\n" % (name, inside, name))
+        self.assertNotIn("hidden", {e["type"] for e in events(self.path("trace.jsonl")) if e["op"] == "alloc"})
 
     @needs_program
     @needs_commands("java", "javac", "jcmd")
@@ -495,6 +537,26 @@ class WrittenDumps(InFolder):
         stores = [(e["at"], e["to"], e["label"]) for e in events(trace) if e["op"] == "store"]
         first, last = (next(e["id"] for e in events(trace) if e.get("type") == name) for name in ("kept.A", "kept.D"))
         self.assertEqual(stores, [(first, last, ".next\n (over 2 left out)"), (last, last, ".next\n")])
+
+    def test_the_elements_of_a_left_out_array(self):
+        """Each element has its label, and the array is read a few times, and not once for each of them."""
+        whole = written_hprof("I", ["kept/A", "[Lout/B;"])
+        size = 300
+        heap = (
+            b"\x22" + struct.pack(">IIII", 6000, 0, size, 1001) + struct.pack(">%dI" % size, *range(7000, 7000 + size))
+        )
+        for at in range(size):
+            heap += b"\x21" + struct.pack(">IIIII", 7000 + at, 0, 1000, 4, 0)
+        heap += b"\xff" + struct.pack(">I", 6000)
+        with open(self.path("dump"), "wb") as file:
+            file.write(whole[:-9] + struct.pack(">BII", 0x1C, 0, len(heap)) + heap + whole[-9:])
+        with mock.patch.object(Heap, "holdings", autospec=True, side_effect=Heap.holdings) as holdings:
+            status, said = run(hprof_to_trace, self.path("dump"), self.path("trace.jsonl"), "--only", "kept.")
+        self.assertEqual(status, 0, said)
+        joint = next(e["id"] for e in events(self.path("trace.jsonl")) if e.get("type") == "left out out.B[]")
+        labels = [e["label"] for e in events(self.path("trace.jsonl")) if e["op"] == "store" and e["at"] == joint]
+        self.assertEqual(labels, ["[%d]" % at for at in range(size)])
+        self.assertLess(holdings.call_count, size + 50)
 
     def test_a_record_that_is_not_known(self):
         whole = written_hprof("I", ["A"]).replace(b"\xff" + struct.pack(">I", 2000), b"\x99" + struct.pack(">I", 2000))

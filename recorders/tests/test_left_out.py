@@ -51,6 +51,26 @@ class Passing(unittest.TestCase):
         left = self.settled(1, 3, [(-1, 1), (-1, 2)], [(3, -1)])
         self.assertEqual((self.stay, list(left.through(-1, ".x"))), (0, [(".x .0", 1, False), (".x .1", 2, False)]))
 
+    def test_the_time_for_labels_goes_with_the_references(self):
+        """A left-out array of many elements, each with a label of its own: each reference is looked at a few times, and not once for each label."""
+
+        class Counting(list):
+            looks = 0
+
+            def __getitem__(self, place):
+                Counting.looks += 1
+                return super().__getitem__(place)
+
+        for size in (500, 2000):
+            for roots in ([], [-1]):  # the array is passed over, or stays
+                left = self.settled(1, size + 1, [(-1, 1 + at) for at in range(size)], [(size + 1, -1)], roots=roots)
+                left._held, Counting.looks = Counting(left._held), 0
+                found = [one for joint in left.staying() for one in joint.contents] or list(left.through(-1, ".x"))
+                self.assertEqual(
+                    [label for label, _, _ in found], ["%s.%d" % ("" if roots else ".x ", at) for at in range(size)]
+                )
+                self.assertLessEqual(Counting.looks, 5 * size)
+
     def test_a_root_keeps_a_joint(self):
         for of_left, stay, numbers in (([(-1, 1), (-1, 2)], 1, [3]), ([(-1, 1)], 0, [1]), ([], 0, [])):
             left = self.settled(1, 2, of_left, [], roots=[-1, 1])

@@ -18,10 +18,10 @@ from hprof_to_trace.__main__ import main as hprof_to_trace
 
 LONG = "long" * 75
 CHAIN = ["kept/A", "out/B", "out/C", "kept/D"]
-# The classes are objects too. What is left out between the third and the fourth is passed over; the fourth holds itself.
+# The classes are objects too, and roots, since their loader is that of the JVM. What is left out between the third and the fourth is passed over; the fourth holds itself.
 OF_CHAIN = (
     "heapsnap 1\nobject 1 0 class kept.A\nobject 2 0 class kept.D\nobject 3 1 kept.A\nslot 0 4\nobject 4 1 kept.D\nslot 0 4\n"
-    "root 3 unknown root\nend\n"
+    "root 1 class kept.A\nroot 2 class kept.D\nroot 3 unknown root\nend\n"
 )
 # The second slot of the first object is weak, so it is empty.
 OF_SNAPSHOT = (
@@ -167,7 +167,7 @@ class Audited(Snapshots):
             (done.returncode, done.stdout.decode()),
             (
                 1,
-                "gc 1 live 4 traced 2 freed 2\ngc 1 dead 4 kept.D: root unknown root -> 3 kept.A [slot 0] -> 4 kept.D\n"
+                "gc 1 live 4 traced 4 freed 0\ngc 1 dead 4 kept.D: root unknown root -> 3 kept.A [slot 0] -> 4 kept.D\n"
                 "end gcs 1 violations 1\n",
             ),
         )

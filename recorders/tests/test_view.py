@@ -10,6 +10,7 @@ import unittest
 from xml.etree import ElementTree
 
 from tests.browser import CHROMIUM, Browser
+from tests.test_dumps import written_hprof
 from tests.support import PROGRAM, RECORDERS, InFolder, needs_program, python_with
 
 from gcaudit_recorder import Recorder
@@ -49,6 +50,7 @@ LEAK = [
 ]
 DEAD = [{"op": "assert-dead", "id": number} for number in (3, 4, 5, 7)]
 UNSHARED = [{"op": "assert-unshared", "id": 5}, store(4, 0, 5, ".buffer")]
+ONE_BUS = {"op": "assert-instances", "type": "Bus", "limit": 1}  # which holds
 COLLECT = {"op": "collect"}
 
 
@@ -105,6 +107,14 @@ class Summary(Commands):
         self.assertIn("2 objects, 20 bytes", self.said("summary", trace, "--top", "1"))
         self.assertIn("and 1 types more", self.said("summary", trace, "--top", "1"))
 
+    def test_what_no_root_reaches_is_counted(self):
+        """All objects of a dump count: here two classes, an object of each, and an array of three chars that nothing holds."""
+        with open(self.path("dump"), "wb") as file:
+            file.write(written_hprof("I", ["A", "B"]))
+        found = self.said("summary", self.path("dump")).split("\n")
+        self.assertEqual(found[0], "5 objects, 54 bytes; no root reaches 1 of them, 14 bytes")
+        self.assertIn("      1     14           0                 0  char[]", found)
+
     def test_without_bytes(self):
         lines = [{name: value for name, value in line.items() if name != "bytes"} for line in LEAK]
         said = self.said("summary", self.write(*lines, COLLECT))
@@ -160,6 +170,65 @@ class Growth(Commands):
                 "    its objects keep 2 objects more alone a collection, 110 bytes",
                 "  +1 Buffer a collection, 100 bytes, held by Session.buffer (1 -> 2 -> 3)",
                 "  +0.5 Session a collection, 5 bytes, held by Session.next (0 -> 0 -> 1)",
+                "",
+            ],
+        )
+
+    def test_bytes_alone(self):
+        """A buffer that grows, and texts of a cache: no object more of the first, and few of the second."""
+
+        def heap(name, size, texts):
+            lines = [alloc(1, "Cache", 3), alloc(2, "bytearray", 0, size), alloc(3, "dict", 9, 100 + texts)]
+            lines += [store(1, 0, 2, ".buffer"), store(1, 1, 3, ".entries")]
+            for at in range(texts):
+                lines += [alloc(4 + at, "str", 0, 5000), store(3, at, 4 + at, "['k%d']" % at)]
+            lines += [alloc(20 + at, "Small") for at in range(2 * texts)] + [
+                alloc(50, "list", 9),
+                store(1, 2, 50, ".small"),
+            ]
+            lines += [store(50, at, 20 + at, "[%d]" % at) for at in range(2 * texts)]
+            return self.write(*lines, {"op": "root", "name": "cache", "to": 1}, COLLECT, name=name)
+
+        heaps = [heap("%d.jsonl" % at, 1000 + 20000 * at, at) for at in range(3)]
+        of_buffer = (
+            "+20,000 bytes of bytearray a dump, held by Cache.buffer (1 object, 1,000 -> 21,000 -> 41,000 bytes)"
+        )
+        of_texts = [
+            "+1 str a dump, 5,000 bytes, held by Cache.entries (0 -> 1 -> 2)",
+            "    its objects keep 1 objects more alone a dump, 5,000 bytes",
+        ]
+        of_small = [
+            "+2 Small a dump, 20 bytes, held by Cache.small (0 -> 2 -> 4)",
+            "    its objects keep 2 objects more alone a dump, 20 bytes",
+        ]
+        of_dict = "+1 bytes of dict a dump, held by Cache.entries (1 object, 100 -> 101 -> 102 bytes)"
+        self.assertEqual(self.said("growth", *heaps).split("\n"), [of_buffer, *of_texts, *of_small, of_dict, ""])
+        by_objects = [*of_small, *of_texts, of_buffer, of_dict, ""]
+        self.assertEqual(self.said("growth", "--by", "objects", *heaps).split("\n"), by_objects)
+        self.assertEqual(self.said("growth", "--top", "1", *heaps), of_buffer + "\nand 3 more lines\n")
+
+    def test_what_is_kept_alone_is_that_of_the_holder(self):
+        """Sessions of two holders grow: each line tells what its own keep."""
+
+        def heap(name, first, second):
+            lines = [alloc(1, "Bus", 9), alloc(2, "Log", 9)]
+            for at in range(first):
+                lines += [alloc(10 + at, "Session", 1, 7), store(1, at, 10 + at, ".a[%d]" % at)]
+            for at in range(second):
+                lines += [alloc(20 + 2 * at, "Session", 1, 7), store(2, at, 20 + 2 * at, ".b[%d]" % at)]
+                lines += [alloc(21 + 2 * at, "Buffer", 0, 900), store(20 + 2 * at, 0, 21 + 2 * at, ".buffer")]
+            roots = [{"op": "root", "name": name, "to": to} for name, to in (("bus", 1), ("log", 2))]
+            return self.write(*lines, *roots, COLLECT, name=name)
+
+        found = self.said("growth", heap("a", 1, 1), heap("b", 4, 3)).split("\n")
+        self.assertEqual(
+            found,
+            [
+                "+3 Session a dump, 21 bytes, held by Bus.a[*] (1 -> 4)",
+                "    its objects keep 3 objects more alone a dump, 21 bytes",
+                "+2 Session a dump, 14 bytes, held by Log.b[*] (1 -> 3)",
+                "    its objects keep 4 objects more alone a dump, 1,814 bytes",
+                "  +2 Buffer a dump, 1,800 bytes, held by Session.buffer (1 -> 3)",
                 "",
             ],
         )
@@ -301,7 +370,7 @@ class View(Commands):
         )
 
     def test_no_violation(self):
-        trace = self.write(*LEAK, COLLECT)
+        trace = self.write(*LEAK, ONE_BUS, COLLECT)
         said = self.view(
             trace,
             "--html",
@@ -376,7 +445,7 @@ for path in sys.argv[2:]:
     checker.validate(json.load(open(path)))
 """
         found = [self.written("sarif", *LEAK, *DEAD, *UNSHARED, COLLECT), self.path("none.sarif")]
-        self.view(self.write(*LEAK, COLLECT), "--sarif", found[1], status=0)
+        self.view(self.write(*LEAK, ONE_BUS, COLLECT), "--sarif", found[1], status=0)
         subprocess.run(
             [python_with("jsonschema"), "-c", program, os.path.join(SCHEMAS, "sarif-2.1.0-rtm.4.json"), *found],
             check=True,

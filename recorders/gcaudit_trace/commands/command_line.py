@@ -7,6 +7,8 @@ import sys
 from typing import Any, Callable, Iterable, Iterator, List, Optional
 
 from ..errors import TraceError
+from ..progress import Progress
+from ..reports.audit import Audit, audit, need_assertions
 from ..traces.names import printable
 from ..traces.whole_file import WholeFile
 
@@ -142,6 +144,24 @@ def add_gcaudit(parser: argparse.ArgumentParser, paths: int = 100) -> None:
         choices=("report", "halt", "force"),
         help="report, halt or force: what is done about violations",
     )
+    parser.add_argument(
+        "--may-be-empty",
+        action="store_true",
+        help="it is no mistake where the trace asserts nothing, or has no root or no collection",
+    )
+
+
+def audited(trace: str, asked: argparse.Namespace, progress: Progress) -> Audit:
+    """What gcaudit says of a trace by these words. A trace of which it can say nothing but that all is well is refused."""
+    done = audit(trace, asked.gcaudit, gcaudit_options(asked), progress)
+    if not done.verdicts and not asked.may_be_empty:
+        need_assertions(trace, shown_name(asked.trace))
+    return done
+
+
+def shown_name(trace: str) -> str:
+    """What a trace of the command line is called in a sentence."""
+    return "standard input" if trace == "-" else trace
 
 
 def gcaudit_options(asked: argparse.Namespace) -> List[str]:

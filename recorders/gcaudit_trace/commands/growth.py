@@ -4,7 +4,7 @@ import sys
 
 from ..graphs.loading import every_graph, last_graph
 from ..progress import Progress
-from ..reports.growth import growth_of
+from ..reports.growth import BYTES, OBJECTS, SHOWN, growth_of
 from . import command_line
 
 _PROGRAM = "gcaudit-growth"
@@ -23,6 +23,15 @@ def parser() -> argparse.ArgumentParser:
         help="two or more heap dumps or traces, of each of which the last collection counts; or one "
         "trace, whose collections are compared",
     )
+    made.add_argument(
+        "--by",
+        choices=(BYTES, OBJECTS),
+        default=BYTES,
+        help="what comes first: most bytes more, or most objects; else bytes",
+    )
+    made.add_argument(
+        "--top", metavar="N", type=command_line.count, default=SHOWN, help="so many lines are shown; else %d" % SHOWN
+    )
     made.add_argument("--output", metavar="FILE", help="where it is written, else standard output")
     return made
 
@@ -34,10 +43,10 @@ def main(words=None) -> int:
         command_line.keep_apart(asked.heaps, [asked.output])
         progress = Progress(_PROGRAM, 2.0)
         if len(asked.heaps) == 1:
-            graphs, step = every_graph(asked.heaps[0], progress), "collection"
+            graphs, step = iter(every_graph(asked.heaps[0], progress)), "collection"
         else:
-            graphs, step = [last_graph(path, progress) for path in asked.heaps], "dump"
-        text = str(growth_of(graphs, step))
+            graphs, step = (last_graph(path, progress) for path in asked.heaps), "dump"
+        text = str(growth_of(graphs, step, asked.by, asked.top))
         with command_line.output_to(asked.output) as out:
             out.write(text + "\n")
         return 0

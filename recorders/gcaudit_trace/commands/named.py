@@ -3,7 +3,6 @@ import argparse
 import sys
 
 from ..progress import Progress
-from ..reports.audit import audit
 from ..reports.instance_paths import with_instances
 from ..traces.opening import trace_file
 from . import command_line
@@ -35,7 +34,7 @@ def main(words=None) -> int:
         command_line.keep_apart([asked.trace], [asked.output])
         progress = Progress(_PROGRAM, 2.0)
         with trace_file(asked.trace) as trace:
-            done = audit(trace, asked.gcaudit, command_line.gcaudit_options(asked), progress)
+            done = command_line.audited(trace, asked, progress)
             text = with_instances(done, trace) if asked.all_instances else done.named
         with command_line.output_to(asked.output) as out:
             out.write(text)

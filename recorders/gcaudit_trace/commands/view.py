@@ -3,7 +3,6 @@ import argparse
 import sys
 
 from ..progress import Progress
-from ..reports.audit import audit
 from ..reports.html_page import page
 from ..reports.junit import junit
 from ..reports.sarif import sarif
@@ -36,8 +35,8 @@ def main(words=None) -> int:
     def work() -> int:
         command_line.keep_apart([asked.trace], [asked.html, asked.junit, asked.sarif])
         with trace_file(asked.trace) as trace:
-            done = audit(trace, asked.gcaudit, command_line.gcaudit_options(asked), Progress(_PROGRAM, 2.0))
-            view = view_of(done, trace, "standard input" if asked.trace == "-" else asked.trace)
+            done = command_line.audited(trace, asked, Progress(_PROGRAM, 2.0))
+            view = view_of(done, trace, command_line.shown_name(asked.trace))
         for path, form in ((asked.html, page), (asked.junit, junit), (asked.sarif, sarif)):
             if path is not None:
                 with command_line.output_to(path) as out:

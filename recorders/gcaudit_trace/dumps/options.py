@@ -4,9 +4,10 @@ import difflib
 from typing import Dict, List, Set, Tuple
 
 from ..errors import TraceError
-from ..traces.limits import MOST_OBJECTS
+from ..traces.limits import MOST_INSTANCES, MOST_OBJECTS
 
 SHOWN_CLASSES = 8
+PLUS = "+"  # behind the name of a class: its subclasses are meant too
 
 
 def parser_for(program: str, about: str) -> argparse.ArgumentParser:
@@ -22,7 +23,9 @@ def parser_for(program: str, about: str) -> argparse.ArgumentParser:
         help="write a heap snapshot in place of a trace: gcsnap to-trace makes a trace of it, "
         "behind which assertions can be put at any time. It has no assertions itself",
     )
-    said = parser.add_argument_group("what is asserted (each may be given more than once)")
+    said = parser.add_argument_group(
+        "what is asserted (each may be given more than once; CLASS+ means the objects of its subclasses too)"
+    )
     said.add_argument("--dead", metavar="CLASS", action="append", default=[], help="no object of the class is reached")
     said.add_argument(
         "--limit", metavar="CLASS=N", action="append", default=[], help="at most N objects of the class are reached"
@@ -45,7 +48,7 @@ def parser_for(program: str, about: str) -> argparse.ArgumentParser:
     said.add_argument(
         "--may-be-missing",
         action="store_true",
-        help="it is no mistake where the dump knows nothing of a class that was named",
+        help="it is no mistake where the dump knows nothing of a class or prefix that was named",
     )
     kept = parser.add_argument_group("what is kept (each may be given more than once)")
     kept.add_argument(
@@ -81,25 +84,53 @@ class Wishes:
                 raise TraceError("--owned-by wants OWNER=CLASS, not %s" % text)
             self.owners.setdefault(owner, []).append(ownee)
         self.owned = {ownee for ownees in self.owners.values() for ownee in ownees}
+        # The classes of which something is asserted, as they were named: with a + where that means their subclasses too.
         self.named = self.dead | self.unshared | self.owned | set(self.owners) | set(self.limits)
+        self.superclasses: Dict[str, Set[str]] = {}  # the names of each class's superclasses, as far as they are known
+        self.counts: Dict[str, int] = {}  # how many objects of each class the dump has
         if asked.snapshot and self.named:
             raise TraceError("a snapshot has no assertions; put them into the trace that gcsnap to-trace makes of it")
         for name in sorted(self.named):
-            if not self.keeps(name):
+            if not self._is_wanted(without_plus(name)):
                 raise TraceError("something is asserted of %s, and it is left out by --only or --without" % name)
 
     @staticmethod
     def _limit(text: str) -> Tuple[str, int]:
         name, equals, number = text.rpartition("=")
-        if not (name and equals and number.isascii() and number.isdigit() and int(number) <= 4294967295):
+        if not (name and equals and number.isascii() and number.isdigit() and int(number) <= MOST_INSTANCES):
             raise TraceError("--limit wants CLASS=N, not %s" % text)
         return name, int(number)
 
     def keeps(self, name: str) -> bool:
-        """Whether objects of the class are kept."""
+        """Whether objects of the class are kept. Those of which something is asserted are, whatever was said of subclasses."""
+        return self._is_wanted(name) or any(key.endswith(PLUS) for key in self.asserted_of(name))
+
+    def _is_wanted(self, name: str) -> bool:
         return (not self._only or name.startswith(self._only)) and not (
             self._without and name.startswith(self._without)
         )
+
+    def asserted_of(self, name: str) -> List[str]:
+        """The names under which something is asserted of the objects of a class."""
+        if not self.named:
+            return []
+        above = self.superclasses.get(name, set()) | {name}
+        return sorted(self.named & ({name} | {one + PLUS for one in above}))
+
+    def is_unshared(self, name: str) -> bool:
+        """Whether the objects of a class are asserted unshared."""
+        return not self.unshared.isdisjoint(self.asserted_of(name))
+
+    def limited_as(self, name: str) -> str:
+        """The name under which a class stands in the file: that of the limit that it shares with others, or its own."""
+        found = [key for key in self.asserted_of(name) if key in self.limits]
+        if len(found) > 1:
+            raise TraceError("the limits of %s mean the same objects; ask for them in two runs" % " and ".join(found))
+        return found[0] if found else name
+
+    def objects_of_subclasses(self, name: str) -> Dict[str, int]:
+        """How many objects of each subclass of a class the dump has."""
+        return {one: count for one, count in self.counts.items() if count and name in self.superclasses.get(one, ())}
 
     def need_room(self, kept: int, counts: Dict[str, int]) -> None:
         """Refuses more objects than gcaudit takes, and says which classes have most of them."""
@@ -110,12 +141,23 @@ class Wishes:
             )
 
     def need_known(self, known: Set[str]) -> None:
-        """Refuses a class that the dump knows nothing of: what is asserted of it would hold whatever the program does."""
-        missing = sorted(self.named - known)
-        if missing and not self._may_be_missing:
-            raise TraceError(
-                "; ".join("the dump has no class %s%s" % (name, _nearest(name, known)) for name in missing)
-            )
+        """Refuses a class or a prefix that the dump knows nothing of: what is asserted would hold whatever the program does."""
+        if self._may_be_missing:
+            return
+        named = {without_plus(name) for name in self.named}
+        missing = ["%s%s" % (name, _nearest(name, known)) for name in sorted(named - known)]
+        missing += [
+            "that begins with %s%s" % (prefix, _nearest_beginning(prefix, known))
+            for prefix in self._only
+            if not any(name.startswith(prefix) for name in known)
+        ]
+        if missing:
+            raise TraceError("; ".join("the dump has no class " + one for one in missing))
+
+
+def without_plus(name: str) -> str:
+    """The class that was named, whether with its subclasses or without."""
+    return name[: -len(PLUS)] if name.endswith(PLUS) else name
 
 
 def _nearest(name: str, known: Set[str]) -> str:
@@ -124,6 +166,11 @@ def _nearest(name: str, known: Set[str]) -> str:
     found = sorted((one for one in known if _last_word(one) == last), key=len)[:3]
     found = found or difflib.get_close_matches(name, known, 3)
     return ", but %s" % " and ".join(found) if found else " and none with a name like it"
+
+
+def _nearest_beginning(prefix: str, known: Set[str]) -> str:
+    """The beginnings of names that were meant, as far as can be guessed."""
+    return _nearest(prefix, {name[: len(prefix)] for name in known})
 
 
 def _last_word(name: str) -> str:

@@ -7,12 +7,12 @@ from typing import Dict, Iterable, Iterator, List, Tuple, Union
 from ..errors import TraceError
 from ..graphs.left_out import Staying
 from ..progress import Progress
-from ..traces.limits import Counted
+from ..traces.limits import MOST_INSTANCES, Counted
 from ..traces.names import UniqueNames, legal_name
 from ..traces.snapshot_writer import SnapshotWriter
 from ..traces.trace_writer import TraceWriter
 from ..traces.whole_file import Batch, WholeFile
-from .options import Wishes
+from .options import PLUS, Wishes, most_of, without_plus
 
 
 class DumpFile:
@@ -102,9 +102,22 @@ class DumpTrace(DumpFile):
         self._contents = TraceWriter(self._stores.add)
         self._wishes = wishes
         self._of_class: Dict[str, List[int]] = {name: [] for name in wishes.named}
+        self._asserted: Dict[str, List[str]] = {}  # under which names something is asserted of each class
 
     def __enter__(self) -> "DumpTrace":
         return self
+
+    def _type_of(self, class_name: str) -> str:
+        if class_name not in self._legal:
+            self._legal[class_name] = legal_name(self._wishes.limited_as(class_name))
+        return self._legal[class_name]
+
+    def _named_by(self, class_name: str) -> List[str]:
+        """Under which names something is asserted of a class."""
+        found = self._asserted.get(class_name)
+        if found is None:
+            found = self._asserted[class_name] = self._wishes.asserted_of(class_name)
+        return found
 
     def __exit__(self, kind, error, trace) -> None:
         super().__exit__(kind, error, trace)
@@ -113,8 +126,8 @@ class DumpTrace(DumpFile):
 
     def object(self, class_name: str, size: int, contents: List[Tuple[str, int, bool]]) -> None:
         number = self.trace.alloc(self._type_of(class_name), len(contents), 0, size)
-        if class_name in self._of_class:
-            self._of_class[class_name].append(number)
+        for name in self._named_by(class_name):
+            self._of_class[name].append(number)
         try:
             self._contents.fill(number, contents)
         except OSError as error:
@@ -143,9 +156,16 @@ class DumpTrace(DumpFile):
 
     def _assert(self, progress: Progress) -> None:
         wishes = self._wishes
+        if not wishes.named:
+            progress.say(
+                "nothing is asserted in it, so gcaudit has nothing to check: see --dead, --limit and the others"
+            )
         for name in sorted(wishes.named):
             if not self._of_class[name]:
-                progress.say("no object of the class %s is in the dump" % name)
+                self._say_missing(name, progress)
+                if name not in wishes.limits:
+                    # What was asserted holds, since there is nothing of which it could not. It is to be seen that it was.
+                    self.trace.assert_instances(legal_name(name), MOST_INSTANCES)
         for name in sorted(wishes.dead):
             for number in self._of_class[name]:
                 self.trace.assert_dead(number)
@@ -164,6 +184,20 @@ class DumpTrace(DumpFile):
                 for number in self._of_class[ownee]:
                     if number != numbers[0]:
                         self.trace.assert_owned_by(numbers[0], number)
+
+    def _say_missing(self, name: str, progress: Progress) -> None:
+        """Says that there is no object of a class, and how many its subclasses have."""
+        if name.endswith(PLUS):
+            progress.say("no object of the class %s or of a subclass is in the dump" % without_plus(name))
+            return
+        found = self._wishes.objects_of_subclasses(name)
+        more = "; its subclasses have %d (%s), and %s%s means these too" % (
+            sum(found.values()),
+            most_of(found),
+            name,
+            PLUS,
+        )
+        progress.say("no object of the class %s is in the dump%s" % (name, more if found else ""))
 
 
 def output_of(asked: argparse.Namespace, wishes: Wishes) -> Union[DumpTrace, DumpSnapshot]:

@@ -17,6 +17,7 @@ class Kept(NamedTuple):
     objects: Sequence[int]
     bytes: Sequence[int]
     dominators: Sequence[int]
+    order: Sequence[int]  # the nodes that roots reach, each after its dominator
 
 
 def kept_alone(graph: Graph) -> Kept:
@@ -35,7 +36,7 @@ def kept_alone(graph: Graph) -> Kept:
             total[holder] += total[node]
         else:
             dominators[node] = size
-    return Kept(objects, total, dominators)
+    return Kept(objects, total, dominators, order[1:])
 
 
 def _in_depth(graph: Graph):
@@ -139,45 +140,40 @@ def _least(place: int, linked: array, best: array, semi: array) -> int:
 
 
 def kept_by_type(graph: Graph, kept: Kept) -> Dict[str, Tuple[int, int]]:
-    """By type how many objects its objects keep alive alone, they themselves counted, and their bytes.
+    """By type how many objects its objects keep alive alone, they themselves counted, and their bytes."""
+    return dict(zip(graph.type_names, kept_by_group(kept, graph.kinds, len(graph.type_names))))
 
-    An object that another one of its type keeps counts with that one.
+
+def kept_by_group(kept: Kept, groups: Sequence[int], count: int) -> List[Tuple[int, int]]:
+    """Of each of so many groups of nodes how many objects its nodes keep alive alone, they themselves counted, and their bytes.
+
+    A node that another one of its group keeps counts with that one.
     """
-    size = len(graph)
-    begins, below = _kept_directly(kept.dominators, size)
-    found: Dict[int, List[int]] = {}
-    open_of = [0] * len(graph.type_names)  # how many objects of each type are open on the way down
-    stack = [(size, begins[size])]
-    while stack:
-        node, at = stack.pop()
-        if at < begins[node + 1]:
-            stack.append((node, at + 1))
-            node = below[at]
-            kind = graph.kinds[node]
-            if not open_of[kind]:
-                one = found.setdefault(kind, [0, 0])
-                one[0] += kept.objects[node]
-                one[1] += kept.bytes[node]
-            open_of[kind] += 1
-            stack.append((node, begins[node]))
-        elif node < size:
-            open_of[graph.kinds[node]] -= 1
-    return {graph.type_names[kind]: (objects, total) for kind, (objects, total) in found.items()}
+    objects, total = kept.objects, kept.bytes
+    in_turn = _in_turn(kept)
+    ends = array("q", [-1]) * count  # the last place that belongs to the node of each group that was met last
+    found_objects, found_bytes = [0] * count, [0] * count
+    for place, node in enumerate(in_turn):
+        group = groups[node]
+        if place > ends[group]:
+            ends[group] = place + objects[node] - 1
+            found_objects[group] += objects[node]
+            found_bytes[group] += total[node]
+    return list(zip(found_objects, found_bytes))
 
 
-def _kept_directly(dominators: Sequence[int], size: int):
-    """Of each node, and at last of the start, what it dominates directly: as one array, and where each part of it begins."""
-    begins = array("Q", bytes(8 * (size + 2)))
-    for holder in dominators:
-        if holder != _NONE:
-            begins[holder] += 1
-    total = 0
-    for place in range(size + 2):
-        total += begins[place]
-        begins[place] = total
-    below = array("I", bytes(4 * total))
-    for node, holder in enumerate(dominators):
-        if holder != _NONE:
-            begins[holder] -= 1
-            below[begins[holder]] = node
-    return begins, below
+def _in_turn(kept: Kept) -> Sequence[int]:
+    """The nodes that roots reach, each with all that it keeps alone right after it."""
+    size = len(kept.objects)
+    following = array(
+        "I", bytes(4 * (size + 1))
+    )  # the next place that is free below each node, and at last below the start
+    in_turn = array("I", bytes(4 * len(kept.order)))
+    dominators, objects = kept.dominators, kept.objects
+    for node in kept.order:
+        above = dominators[node]
+        place = following[above]
+        following[above] = place + objects[node]
+        following[node] = place + 1
+        in_turn[place] = node
+    return in_turn

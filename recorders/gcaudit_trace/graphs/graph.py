@@ -5,7 +5,7 @@ from typing import Dict, List, Optional, Sequence, Tuple
 
 
 class Graph:
-    """Objects that roots reach, as nodes counted from 0 in the order of their ids, and their strong references.
+    """Objects as nodes counted from 0 in the order of their ids, and their strong references.
 
     What node `n` holds are `targets[starts[n]:starts[n + 1]]`, under the labels of the same places.
     """

@@ -13,6 +13,7 @@ from itertools import accumulate
 from typing import AbstractSet, Callable, Dict, Iterable, Iterator, List, NamedTuple, Sequence, Tuple
 
 _NOTHING = 0  # as a code: nothing that is kept is reached
+_MOST_EDGES_KNOWN = 1 << 18  # so many references are kept in mind for the labels of what holds them
 _CLOSED = 0xFFFFFFFF  # in place of the number in which an object was met
 
 
@@ -50,6 +51,9 @@ class LeftOut:
         self._held = array("i")  # the codes of what all of them hold
         self._joints: List[Joint] = []
         self._joint_counts: List[int] = []  # how many objects each stands for
+        self._edges: Dict[int, Dict[int, int]] = {}  # by the place of an object, what `_edges_of` answered of it
+        self._inner_labels: Dict[Tuple[int, int], str] = {}  # what `_inner_label` answered
+        self._edges_known = 0  # how many references are in there
         self._numbers: Dict[int, int] = {}  # the number in the trace of each joint that stays, by its code
 
     def __len__(self) -> int:
@@ -155,11 +159,31 @@ class LeftOut:
 
     def _inner_label(self, place: int, to: int) -> str:
         """The label under which a left-out object holds this itself; empty where it doesn't."""
-        for edge in range(self._starts[place], self._starts[place + 1]):
-            held = self._held[edge]
-            if held == to or (held < 0 and to < 0 and self._resolved[-1 - held] == to and not self._passed[-1 - held]):
-                return self._label_of(place, edge, held)
-        return ""
+        known = self._inner_labels.get((place, to))
+        if known is None:
+            if len(self._inner_labels) > _MOST_EDGES_KNOWN:
+                self._inner_labels.clear()
+            edge = self._edges_of(place).get(to)
+            known = "" if edge is None else self._label_of(place, edge, self._held[edge])
+            self._inner_labels[place, to] = known
+        return known
+
+    def _edges_of(self, place: int) -> Dict[int, int]:
+        """By what a left-out object holds itself, kept objects and joints, its first reference to that."""
+        found = self._edges.get(place)
+        if found is None:
+            if self._edges_known > _MOST_EDGES_KNOWN:
+                self._edges.clear()
+                self._edges_known = 0
+            found = self._edges[place] = {}
+            for edge in range(self._starts[place], self._starts[place + 1]):
+                held = self._held[edge]
+                if held > 0:
+                    found.setdefault(held, edge)
+                elif self._resolved[-1 - held] < 0 and not self._passed[-1 - held]:
+                    found.setdefault(self._resolved[-1 - held], edge)
+            self._edges_known += len(found) + 1
+        return found
 
     def _contents(self, joint: Joint, is_one: bool) -> Iterator[Tuple[str, int, bool]]:
         for out in joint.outs:

@@ -1,12 +1,9 @@
 """The graphs of files: traces and heap dumps, told apart by how they begin."""
-import argparse
 import contextlib
 import importlib
 import os
-import tempfile
-from typing import Iterator, List, Optional
+from typing import BinaryIO, Iterator, List, Optional, Tuple
 
-from ..dumps.options import parser_for
 from ..errors import TraceError
 from ..progress import Progress
 from ..traces.opening import opened, trace_file
@@ -27,51 +24,31 @@ def _converter_of(beginning: bytes) -> Optional[str]:
 
 
 @contextlib.contextmanager
-def as_trace(path: str, progress: Progress) -> Iterator[str]:
-    """The file as a trace. A dump is read whole, whatever gcaudit takes, into a temporary trace."""
+def _opened(path: str) -> Iterator[Tuple[Optional[BinaryIO], Optional[str]]]:
+    """The file of a dump and the package that reads it; neither where it is a trace."""
     if path == "-":
-        with trace_file(path) as trace:
-            yield trace
+        yield None, None
         return
     with opened(path) as file:
         beginning = file.read(_BEGINNING)
         file.seek(0)
         converter = _converter_of(beginning)
-        if converter is not None:
-            with tempfile.TemporaryDirectory(prefix="gcaudit-") as folder:
-                trace = os.path.join(folder, "trace.jsonl")
-                convert = importlib.import_module(converter + ".convert").convert
-                asked: argparse.Namespace = parser_for(converter, "").parse_args(["--", path, trace])
-                convert(file, asked, _Quiet(progress), limited=False)
-                yield trace
-            return
-        if beginning.startswith(b"heapsnap "):
+        if converter is None and beginning.startswith(b"heapsnap "):
             raise TraceError(
                 "%s is a snapshot for gcsnap: gcsnap to-trace makes a trace of it, and a collection belongs behind that"
                 % path
             )
-        if not beginning.lstrip().startswith(b"{") and beginning.strip():
+        if converter is None and not beginning.lstrip().startswith(b"{") and beginning.strip():
             raise TraceError("%s is neither a trace nor a heap dump: HPROF, or a snapshot of V8" % path)
-    with trace_file(path) as trace:
-        yield trace
-
-
-class _Quiet(Progress):
-    """Progress without the words on what was left out, which is nothing here."""
-
-    def __init__(self, progress: Progress) -> None:
-        self._shown = progress
-
-    def at(self, step: str, done: int = 0, whole: int = 0) -> None:
-        self._shown.at(step, done, whole)
-
-    def say(self, text: str) -> None:
-        pass
+        yield (file if converter else None), converter
 
 
 def last_graph(path: str, progress: Progress) -> Graph:
-    """The heap at the last collection of a trace, or that of a dump."""
-    with as_trace(path, progress) as trace:
+    """What the last collection of a trace traces, or the heap of a dump: all of its objects, reached or not."""
+    with _opened(path) as (file, converter):
+        if file is not None and converter is not None:
+            return importlib.import_module(converter + ".convert").graph_of(file, path, progress)
+    with trace_file(path) as trace:
         size = os.path.getsize(trace)
         last = 0
         with open(trace, "rb") as lines:
@@ -84,7 +61,10 @@ def last_graph(path: str, progress: Progress) -> Graph:
 
 def every_graph(path: str, progress: Progress) -> List[Graph]:
     """The heaps at all collections of a trace."""
-    with as_trace(path, progress) as trace:
+    with _opened(path) as (file, _):
+        if file is not None:
+            raise TraceError("%s is one heap; two heaps at least are compared" % path)
+    with trace_file(path) as trace:
         size = os.path.getsize(trace)
         found = [heap.graph() for heap in heaps(trace, lambda done: progress.at("reading the trace", done, size))]
     if len(found) < 2:

@@ -44,10 +44,21 @@ _BETWEEN = frozenset(
         "system / PropertyCell",
         "(object elements)",
         "(object properties)",
+        "java.io.ByteArrayOutputStream",
+        "ArrayBuffer",
+        "SharedArrayBuffer",
+        "Buffer",
+        "FastBuffer",
+        "Uint8Array",
+        "Float64Array",
+        "DataView",
+        "string",
     }
 )
 _BETWEEN_BEGINS = (
     "java.util.",
+    "java.lang.String",
+    "java.nio.",
     "function ",
     "method ",
     "generator ",
@@ -172,26 +183,28 @@ class Tree:
                 steps.append(Step(label or "[slot]", graph.numbers[at], graph.type_of(at), left_out))
         return Path(self.root(way[0]), graph.numbers[way[0]], graph.type_of(way[0]), tuple(steps))
 
-    def holders_by_name(self) -> Iterator[Tuple[int, Holder]]:
-        """Each node with what holds it by name: the nearest holder that isn't only in between, or the root."""
+    def holders_by_name(self) -> Tuple[Sequence[int], List[Holder]]:
+        """For each node a place in the list: what holds it by name, the nearest holder that isn't only in between, or the root."""
         graph = self.graph
         between = [is_between(name) for name in graph.type_names]
-        known: Dict[Tuple[int, int], Holder] = {}
-        roots = [Holder("", "root " + name) for name, _ in graph.roots]
-        found = [Holder("", "")] * len(graph)
+        names = [Holder("", "root " + name) for name, _ in graph.roots]
+        known: Dict[Tuple[int, int], int] = {}
+        found = array("I", bytes(4 * len(graph)))
+        holders, edges, kinds, labels = self.holders, self.edges, graph.kinds, graph.labels
         for node in self.order:
-            above, edge = self.holders[node], self.edges[node]
+            above, edge = holders[node], edges[node]
             if above == _FROM_ROOT:
-                holder = roots[edge]
-            elif between[graph.kinds[above]]:
-                holder = found[above]
+                found[node] = edge
+            elif between[kinds[above]]:
+                found[node] = found[above]
             else:
-                key = graph.kinds[above], graph.labels[edge]
-                if key not in known:
-                    known[key] = named_holder(graph.type_names[key[0]], graph.label_texts[key[1]])
-                holder = known[key]
-            found[node] = holder
-            yield node, holder
+                key = kinds[above], labels[edge]
+                place = known.get(key)
+                if place is None:
+                    place = known[key] = len(names)
+                    names.append(named_holder(graph.type_names[key[0]], graph.label_texts[key[1]]))
+                found[node] = place
+        return found, names
 
 
 def named_holder(type_name: str, label: str) -> Holder:

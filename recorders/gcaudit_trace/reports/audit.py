@@ -1,5 +1,6 @@
 """Finding and running the program gcaudit."""
 import os
+import re
 import shutil
 import subprocess
 from typing import Iterable, List, NamedTuple, Optional
@@ -10,6 +11,16 @@ from .report import Verdict, read_report
 
 _PASSED = {0: "no assertion was violated", 1: "some assertion was violated"}
 _LAST_LINES = ("end gcs ", "halt gc ")
+_READ_AT_A_TIME = 1 << 20
+_LONGEST_OP = (
+    64  # bytes of an operation's name with its key, which may stand at the end of one piece and the start of the next
+)
+# What a trace must have somewhere, and what it means that it hasn't.
+_NEEDED = (
+    (re.compile(rb'"op"\s*:\s*"collect"'), "has no collection in it"),
+    (re.compile(rb'"op"\s*:\s*"assert-'), "asserts nothing"),
+    (re.compile(rb'"op"\s*:\s*"root"'), "has no root in it, so no object is reached"),
+)
 
 
 class Audit(NamedTuple):
@@ -71,6 +82,21 @@ def audit(
         raise TraceError("gcaudit did not read %s to its end (status %d): %s" % (trace, process.returncode, why))
     named = read_report(report, trace, lambda done: said.at("naming the slots", done, size))
     return Audit(report, named.named, named.verdicts, process.returncode, errors)
+
+
+def need_assertions(trace: str, name: str) -> None:
+    """Refuses a trace that can't have a violation whatever the program did: one without a collection, an assertion or a root."""
+    missing = dict(_NEEDED)
+    before = b""
+    with open(trace, "rb") as file:
+        while missing:
+            some = file.read(_READ_AT_A_TIME)
+            if not some:
+                why = " and ".join(missing.values())
+                raise TraceError("%s %s, so nothing was checked; --may-be-empty allows it" % (name, why))
+            text = before + some
+            missing = {needed: why for needed, why in missing.items() if not needed.search(text)}
+            before = text[-_LONGEST_OP:]
 
 
 def _outputs(process: subprocess.Popen, trace: int, size: int, progress: Progress):

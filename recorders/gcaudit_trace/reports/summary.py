@@ -9,11 +9,17 @@ _MOST_STEPS = 20000000  # so many objects are gone through at most to say what r
 
 
 def summary(graph: Graph, top: int) -> str:
-    """The tables of types and of roots."""
+    """How many objects there are, and how many of them no root reaches, and the tables of types and of roots."""
     kept = kept_alone(graph)
     whole = "%s objects" % format(len(graph), ",")
     if graph.sizes is not None:
         whole += ", %s bytes" % format(sum(graph.sizes), ",")
+    unreached = len(graph) - len(kept.order)
+    if unreached:
+        whole += "; no root reaches %s of them" % format(unreached, ",")
+    if unreached and graph.sizes is not None:
+        sizes = graph.sizes
+        whole += ", %s bytes" % format(sum(sizes) - sum(sizes[node] for node in kept.order), ",")
     return "%s\n\n%s\n\n%s\n" % (whole, _types(graph, kept, top), _roots(graph, kept, top))
 
 

@@ -8,6 +8,7 @@ MOST_SLOTS = 16777216
 MOST_ROOTS = 65536
 MOST_TYPES = 65536
 MOST_ID = 4294967295
+MOST_INSTANCES = 4294967295  # the highest limit that can be asserted of a type
 LONGEST_SNAPSHOT = 268435456  # bytes
 
 
