@@ -11,6 +11,7 @@ from ..progress import Progress
 from ..reports.audit import Audit, audit, need_assertions
 from ..traces.names import printable
 from ..traces.whole_file import WholeFile
+from ..version import VERSION
 
 REFUSED = 2
 _STOPPED = 128  # and the number of the signal
@@ -122,6 +123,11 @@ def output_to(path: Optional[str]) -> Iterator[Any]:
         whole.give_up()
         raise
     whole.finish()
+
+
+def add_version(parser: argparse.ArgumentParser) -> None:
+    """The word that asks for the version, which every command takes."""
+    parser.add_argument("--version", action="version", version="%(prog)s " + VERSION, help="print the version")
 
 
 def add_gcaudit(parser: argparse.ArgumentParser, paths: int = 100) -> None:

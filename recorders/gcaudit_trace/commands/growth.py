@@ -33,6 +33,7 @@ def parser() -> argparse.ArgumentParser:
         "--top", metavar="N", type=command_line.count, default=SHOWN, help="so many lines are shown; else %d" % SHOWN
     )
     made.add_argument("--output", metavar="FILE", help="where it is written, else standard output")
+    command_line.add_version(made)
     return made
 
 

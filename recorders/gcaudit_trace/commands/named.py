@@ -24,6 +24,7 @@ def parser() -> argparse.ArgumentParser:
     made.add_argument(
         "--all-instances", action="store_true", help="a path to each object of a type that has more than its limit"
     )
+    command_line.add_version(made)
     return made
 
 

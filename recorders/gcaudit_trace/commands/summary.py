@@ -23,6 +23,7 @@ def parser() -> argparse.ArgumentParser:
         "--top", metavar="N", type=command_line.count, default=20, help="so many types and roots are shown; else 20"
     )
     made.add_argument("--output", metavar="FILE", help="where it is written, else standard output")
+    command_line.add_version(made)
     return made
 
 

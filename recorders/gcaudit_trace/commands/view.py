@@ -26,6 +26,7 @@ def parser() -> argparse.ArgumentParser:
     made.add_argument("--junit", metavar="FILE", help="writes JUnit XML, with a failed test for each group")
     made.add_argument("--sarif", metavar="FILE", help="writes SARIF 2.1.0, with a result for each group")
     command_line.add_gcaudit(made, paths=10000)
+    command_line.add_version(made)
     return made
 
 

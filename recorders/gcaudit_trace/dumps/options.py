@@ -3,6 +3,7 @@ import argparse
 import difflib
 from typing import Dict, List, Set, Tuple
 
+from ..commands import command_line
 from ..errors import TraceError
 from ..traces.limits import MOST_INSTANCES, MOST_OBJECTS
 
@@ -57,6 +58,7 @@ def parser_for(program: str, about: str) -> argparse.ArgumentParser:
     kept.add_argument(
         "--without", metavar="PREFIX", action="append", default=[], help="leave out classes whose names begin so"
     )
+    command_line.add_version(parser)
     return parser
 
 

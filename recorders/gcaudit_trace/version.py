@@ -1,0 +1,3 @@
+"""The version, that of the programs and of the recorders."""
+
+VERSION = "0.1.0"
