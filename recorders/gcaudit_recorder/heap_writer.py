@@ -91,6 +91,15 @@ class HeapWriter:
         was, slots = known.slots(old), now.slots(place)
         if was != slots:
             self._write_slots(now, place, was, slots)
+        if now.sizes[place] != known.sizes[old]:
+            self._write_size(now, place, slots)
+
+    def _write_size(self, now: Traced, place: int, slots: List[Tuple[int, int]]) -> None:
+        """Says the size that an object has by now, beside some slot of it that isn't weak."""
+        for slot in range(now.rooms[place] - 1, -1, -1):
+            if slot >= len(slots) or slots[slot][1] != WEAK_LABEL:
+                self._trace.resize(now.numbers[place], slot, now.sizes[place])
+                return
 
     def _write_slots(
         self, traced: Traced, place: int, was: List[Tuple[int, int]], slots: List[Tuple[int, int]]

@@ -57,6 +57,7 @@ class Traced:
         self.numbers = array("I")  # the id in the trace; 0 where it has none yet
         self.rooms = array("I")  # how many slots the object itself has there
         self.names: List[str] = []  # its type there
+        self.sizes = array("Q")  # its bytes
         self.weak: List[Optional[weakref.ref]] = []
         self.starts = array("Q", [0])  # where what it holds begins in the arrays that follow
         self.targets = array("I")  # the place of what is held; _NONE where the trace doesn't have it
@@ -296,6 +297,7 @@ class Walk:
             now.targets[edge] = now.place_of.get(id(held), _NONE)
         now.weak = [weakref.ref(obj) if shape.weakly else None for obj, shape in zip(self.objects, self.shapes)]
         now.names = self._names()
+        now.sizes = self.sizes
         now.numbers = array("I", bytes(4 * len(self.objects)))
         now.rooms = array("I", bytes(4 * len(self.objects)))
         now.held_by = {

@@ -17,6 +17,7 @@ from tests.programs import service
 from gcaudit_recorder import HeapViolation, Recorder, TraceError, UncheckedWarning, audited
 from gcaudit_recorder.contents import type_name
 from gcaudit_trace import audit
+from gcaudit_trace.graphs.trace_heap import heaps
 
 
 class App:
@@ -668,6 +669,27 @@ class Traces(InFolder):
         counts = {(kind, holder.name): (count, size) for (kind, holder), (count, size) in walk.counts().items()}
         self.assertEqual(counts["str", name + ".text"], (1, sys.getsizeof("y" * 2100)))
         self.assertGreaterEqual(counts["bytearray", name + ".buffer"][1], 15000)
+
+    def test_sizes_that_change_stand_in_the_trace(self):
+        """So growth from collection to collection is seen in a trace too; what doesn't change is written once."""
+        app = App(buffer=bytearray(1000), texts={}, same=[1])
+        recorder = self.recorder(app=app)
+        sizes = []
+        for number in range(3):
+            recorder.collect()
+            sizes.append((sys.getsizeof(app.buffer), sys.getsizeof(app.texts)))
+            app.buffer += bytes(5000)
+            app.texts[number] = "%d" % number * 1000
+        recorder.close()
+        graphs = [heap.graph() for heap in heaps(self.trace)]
+        found = [{graph.type_of(node): size for node, size in enumerate(graph.sizes)} for graph in graphs]
+        self.assertEqual([one["bytearray"] for one in found], [size for size, _ in sizes])
+        texts = [sum(sys.getsizeof("%d" % one * 1000) for one in range(number)) for number in range(3)]
+        self.assertEqual([one["dict"] for one in found], [size + more for (_, size), more in zip(sizes, texts)])
+        told = [event["at"] for event in events(self.trace) if "bytes" in event and event["op"] != "alloc"]
+        self.assertEqual(len(told), 4)
+        if PROGRAM:
+            self.assertEqual(audit(self.trace, PROGRAM).status, 0)
 
     def test_functions_and_the_like_have_their_names(self):
         async def poll():

@@ -62,6 +62,9 @@ class TraceHeap:
             self._is_live.append(1)
         elif op == "set-weak":
             self._is_weak[self._slot(event)] = event["weak"]
+            size = event.get("bytes")
+            if isinstance(size, int) and size >= 0:
+                self._sizes[self._cell(event["at"])] = size
         elif op == "root":
             if event["to"] is None:
                 self._roots.pop(event["name"], None)

@@ -70,6 +70,10 @@ class TraceWriter(Counted):
     def set_weak(self, at: int, slot: int, weak: bool) -> None:
         self._write('{"op":"set-weak","at":%d,"slot":%d,"weak":%s}\n' % (at, slot, "true" if weak else "false"))
 
+    def resize(self, at: int, slot: int, size: int) -> None:
+        """An object has so many bytes from now on. For gcaudit the line says of a slot that isn't weak that it isn't."""
+        self._write('{"op":"set-weak","at":%d,"slot":%d,"weak":false,"bytes":%d}\n' % (at, slot, size))
+
     def root(self, name: str, to: Optional[int]) -> None:
         if to is None:
             self._roots.discard(name)
