@@ -36,7 +36,15 @@ from .threads import thread_names
 
 _REFERENCE = "java.lang.ref.Reference"
 _QUEUE = "java.lang.ref.ReferenceQueue"
-_CLASS_VALUES = "java.lang.ClassValue$ClassValueMap"  # held by a class, in a field of which a dump doesn't tell
+# What a class holds in fields of which a dump doesn't tell, and nothing else holds: values of a ClassValue, annotations, generic types.
+_HELD_BY_CLASSES = frozenset(
+    {
+        "java.lang.ClassValue$ClassValueMap",
+        "java.lang.Class$AnnotationData",
+        "sun.reflect.annotation.AnnotationType",
+        "sun.reflect.generics.repository.ClassRepository",
+    }
+)
 _THREAD_ROOT = next(tag for tag, (kind, _, _) in ROOTS.items() if kind == "thread")
 _OF_CLASSES = -1  # in place of the identifier of the class of classes
 TO_CLASS, _TO_LOADER = "<class>", "(class loader)"
@@ -186,7 +194,7 @@ class Heap:
         named = {root.target for root in self.roots if root.kind == _THREAD_ROOT}
         for place in self._of_jvm:
             number, _, class_id, _ = self._instance.unpack_from(self.dump.data, place)
-            if self.dump.class_name(class_id) == _CLASS_VALUES:
+            if self.dump.class_name(class_id) in _HELD_BY_CLASSES:
                 self.roots.append(Root(HELD_BY_JVM, number, 0, 0))
             elif number not in named and self._runs(place, class_id):
                 self.roots.append(Root(_THREAD_ROOT, number, -number, 0))  # of a serial number that no other thread has
@@ -244,7 +252,7 @@ class Heap:
     def _note_class(self, class_id: int) -> None:
         """Notes a class of which objects may be held by the JVM itself."""
         name = self.dump.class_name(class_id)
-        if name == _CLASS_VALUES or is_thread(class_id, self.classes, self.dump.class_name):
+        if name in _HELD_BY_CLASSES or is_thread(class_id, self.classes, self.dump.class_name):
             self._classes_of_jvm.add(class_id)
 
     def _keeps_class(self, class_id: int) -> bool:

@@ -254,4 +254,6 @@ def graph_of(file: BinaryIO, name: str, progress: Progress) -> Graph:
     wishes = Wishes(parser_for("", "").parse_args(["--", name, ""]), limited=False)
     heap = WholeHeap(Dump(file, name, progress), wishes, progress)
     heap.find_objects()
-    return heap.graph()
+    found = heap.graph()
+    del heap.left  # which leads back to the heap, so that it would stay in memory for a while
+    return found

@@ -13,7 +13,7 @@ _NODES_AT_A_TIME = 1 << 18
 def holders(graph: Graph, place_of: array, count: int) -> Tuple[array, array, array]:
     """Of each of so many places the least place of its holders, where those behind it begin in the last array, and that."""
     least = np.full(count, _NONE, dtype=np.uint32)
-    starts = np.frombuffer(graph.starts, dtype=np.uint64).astype(np.int64)  # type: ignore[call-overload]
+    starts = np.frombuffer(graph.starts, dtype=np.uint64).view(np.int64)  # type: ignore[call-overload]
     targets = np.frombuffer(graph.targets, dtype=np.uint32)  # type: ignore[call-overload]
     places = np.frombuffer(place_of, dtype=np.uint32)
     behind, behind_of = [np.zeros(0, dtype=np.uint32)], [np.zeros(0, dtype=np.uint32)]
@@ -28,6 +28,7 @@ def holders(graph: Graph, place_of: array, count: int) -> Tuple[array, array, ar
         behind.append(holder[later])
         behind_of.append(held[later])
     of = np.concatenate(behind_of)
+    behind_of.clear()
     order = np.argsort(of, kind="stable")
     begins = np.zeros(count + 1, dtype=np.uint64)
     np.cumsum(np.bincount(of, minlength=count), out=begins[1:])
