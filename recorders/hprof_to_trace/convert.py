@@ -12,6 +12,7 @@ from gcaudit_trace.dumps.options import Wishes, parser_for
 from gcaudit_trace.dumps.output import DumpFile, output_of
 from gcaudit_trace.graphs.graph import Graph
 from gcaudit_trace.graphs.left_out import LeftOut
+from gcaudit_trace.graphs.with_numpy import numpy_is_there
 from gcaudit_trace.progress import Progress
 
 from .classes import CLASS_ROOT, Relations, is_thread, relations_of
@@ -35,10 +36,18 @@ from .threads import thread_names
 
 _REFERENCE = "java.lang.ref.Reference"
 _QUEUE = "java.lang.ref.ReferenceQueue"
-_CLASS_VALUES = "java.lang.ClassValue$ClassValueMap"  # held by a class, in a field of which a dump doesn't tell
+# What a class holds in fields of which a dump doesn't tell, and nothing else holds: values of a ClassValue, annotations, generic types.
+_HELD_BY_CLASSES = frozenset(
+    {
+        "java.lang.ClassValue$ClassValueMap",
+        "java.lang.Class$AnnotationData",
+        "sun.reflect.annotation.AnnotationType",
+        "sun.reflect.generics.repository.ClassRepository",
+    }
+)
 _THREAD_ROOT = next(tag for tag, (kind, _, _) in ROOTS.items() if kind == "thread")
 _OF_CLASSES = -1  # in place of the identifier of the class of classes
-_TO_CLASS, _TO_LOADER = "<class>", "(class loader)"
+TO_CLASS, _TO_LOADER = "<class>", "(class loader)"
 _HOLD_PRIMITIVES_ALONE = frozenset({"java.lang.String"})
 
 
@@ -49,6 +58,7 @@ class Layout(NamedTuple):
     labels: Tuple[str, ...]
     weak: Tuple[bool, ...]
     has_weak: bool
+    offsets: Tuple[int, ...]  # of the references among the bytes of an instance's fields
 
 
 class Heap:
@@ -184,7 +194,7 @@ class Heap:
         named = {root.target for root in self.roots if root.kind == _THREAD_ROOT}
         for place in self._of_jvm:
             number, _, class_id, _ = self._instance.unpack_from(self.dump.data, place)
-            if self.dump.class_name(class_id) == _CLASS_VALUES:
+            if self.dump.class_name(class_id) in _HELD_BY_CLASSES:
                 self.roots.append(Root(HELD_BY_JVM, number, 0, 0))
             elif number not in named and self._runs(place, class_id):
                 self.roots.append(Root(_THREAD_ROOT, number, -number, 0))  # of a serial number that no other thread has
@@ -239,13 +249,18 @@ class Heap:
             seen.add(class_id)
             yield self.dump.class_name(class_id)
 
+    def _note_class(self, class_id: int) -> None:
+        """Notes a class of which objects may be held by the JVM itself."""
+        name = self.dump.class_name(class_id)
+        if name in _HELD_BY_CLASSES or is_thread(class_id, self.classes, self.dump.class_name):
+            self._classes_of_jvm.add(class_id)
+
     def _keeps_class(self, class_id: int) -> bool:
         name = self.dump.class_name(class_id)
         self.wishes.superclasses.setdefault(name, set()).update(self._superclasses(class_id))
         if self.wishes.is_unshared(name):
             self._unshared_classes.add(class_id)
-        if name == _CLASS_VALUES or is_thread(class_id, self.classes, self.dump.class_name):
-            self._classes_of_jvm.add(class_id)
+        self._note_class(class_id)
         found = self._keeps[class_id] = self.wishes.keeps(name)
         return found
 
@@ -276,7 +291,7 @@ class Heap:
         if tag == OBJECT_ARRAY:
             class_id, elements = self._elements(place)
             held = [("[%d]" % at, to, False) for at, to in enumerate(elements) if to]
-            return held + [(_TO_CLASS, class_id, False)] if class_id in self._special else held
+            return held + [(TO_CLASS, class_id, False)] if class_id in self._special else held
         if tag == PRIMITIVE_ARRAY:
             return []
         number = self._id.unpack_from(data, place)[0]
@@ -287,7 +302,7 @@ class Heap:
 
     def _classes_of(self, number: int, class_id: int) -> List[Tuple[str, int]]:
         """The classes to which an instance leads: its own, and those that it defined."""
-        own = [(_TO_CLASS, class_id)] if class_id in self.relations.led_to and not self.wishes.owners else []
+        own = [(TO_CLASS, class_id)] if class_id in self.relations.led_to and not self.wishes.owners else []
         return own + self.relations.defined.get(number, [])
 
     def _weak_in(self, layout: Layout, found: Sequence[int]) -> Sequence[bool]:
@@ -348,6 +363,7 @@ class Heap:
         if known is not None:
             return known
         form, labels, weak, at = [">"], [], [], class_id
+        offsets, offset = [], 0
         id_size, seen = self.dump.id_size, set()
         while at:
             found = self.classes.get(at)
@@ -358,7 +374,10 @@ class Heap:
             for name, kind in found.fields:
                 if kind != OBJECT:
                     form.append("%dx" % SIZES[kind])
+                    offset += SIZES[kind]
                     continue
+                offsets.append(offset)
+                offset += id_size
                 text = self.dump.text(name)
                 form.append(self.dump.id_code)
                 labels.append("." + text)
@@ -366,7 +385,8 @@ class Heap:
             at = found.superclass
         while len(form) > 1 and form[-1].endswith("x"):
             form.pop()
-        layout = self._layouts[class_id] = Layout(struct.Struct("".join(form)), tuple(labels), tuple(weak), any(weak))
+        layout = Layout(struct.Struct("".join(form)), tuple(labels), tuple(weak), any(weak), tuple(offsets))
+        self._layouts[class_id] = layout
         return layout
 
     # ---- where something is left out: how references go on through it
@@ -476,7 +496,11 @@ class Heap:
 
 
 def graph_of(file: BinaryIO, name: str, progress: Progress) -> Graph:
-    """The whole heap of a dump as a graph, arrays of primitives too."""
+    """The whole heap of a dump as a graph, arrays of primitives too; by numpy where it is there."""
+    if numpy_is_there():
+        from .whole_graph import graph_of as by_numpy
+
+        return by_numpy(file, name, progress)
     wishes = Wishes(parser_for("", "").parse_args(["--", name, ""]), limited=False)
     heap = Heap(Dump(file, name, progress), wishes, progress)
     heap.find_objects()

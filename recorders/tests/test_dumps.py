@@ -388,6 +388,7 @@ class ManyLeaks(InFolder):
         )
         dump = dump_java(self.folder, "many", main="PluginLeaks")
         self.assertEqual(self.found(hprof_to_trace, dump, names), sorted(leaked))
+        self.all_is_reached()
         kept = r"root class PluginLeaks -> \d+ class PluginLeaks \.KEPT -> \d+ java\.util\.ArrayList \.elementData -> \d+ java\.lang\.Object\[\] "
         plugin = r"class PluginLeaks\$Plugin \.sessions -> "
         for name, path in (
@@ -410,6 +411,45 @@ class ManyLeaks(InFolder):
             ["--owned-by", "PluginLeaks$OfLoader=PluginLeaks$OfArray"],
         ):
             self.assertEqual(sorted(set(self.found(hprof_to_trace, dump, names, *words))), sorted(leaked), words)
+
+    @needs_program
+    @needs_commands("java", "javac", "jcmd")
+    def test_twenty_one_more_on_a_jvm(self):
+        with open(os.path.join(PROGRAMS, "MoreLeaks.java")) as file:
+            found = re.findall(r"static class (\w+) extends (?:Held|Of\w+) ", file.read())
+        names = ["MoreLeaks$" + name for name in found]
+        leaked = [name for name in names if "Released" not in name]
+        self.assertEqual((len(leaked), len(names)), (21, 42))
+        words = ["javac", "-Xlint:none", "-nowarn", "-d", self.folder, os.path.join(PROGRAMS, "MoreLeaks.java")]
+        if subprocess.run(words, stderr=subprocess.DEVNULL, timeout=300).returncode:
+            self.skipTest("the compiler knows no records")
+        dump = dump_java(self.folder, "many", main="MoreLeaks")
+        self.assertEqual(self.found(hprof_to_trace, dump, names), sorted(leaked))
+        due = r"dead \d+ MoreLeaks\$OfDueFinalizer: root .* java\.lang\.ref\.Finalizer \.referent -> "
+        self.assertRegex(self.done.named, due)
+        self.all_is_reached()
+
+    def all_is_reached(self):
+        """All objects of the trace of a live dump are reached, but for what is held weakly, or by a class in fields of which a dump doesn't tell."""
+        types, held, is_held, reached, work = {}, {}, set(), set(), []
+        for event in events(self.path("trace.jsonl")):
+            if event["op"] == "alloc":
+                types[event["id"]] = event["type"]
+            elif event["op"] == "store":
+                held.setdefault(event["at"], []).append(event["to"])
+                is_held.add(event["to"])
+            elif event["op"] == "root":
+                work.append(event["to"])
+        unseen = re.compile(
+            r"java\.lang\.String|java\.lang\.ref\.SoftReference|java\.util\.ImmutableCollections\$List.*"
+        )
+        work += [number for number, name in types.items() if number not in is_held and unseen.fullmatch(name)]
+        while work:
+            one = work.pop()
+            if one not in reached:
+                reached.add(one)
+                work += held.get(one, ())
+        self.assertEqual([types[number] for number in types if number not in reached], [])
 
     @needs_program
     @needs_commands("node")

@@ -3,6 +3,7 @@ from array import array
 from typing import Dict, Iterator, List, NamedTuple, Sequence, Tuple
 
 from .graph import Graph
+from .with_numpy import numpy_is_there
 
 _NONE = 0xFFFFFFFF
 
@@ -39,50 +40,70 @@ def kept_alone(graph: Graph) -> Kept:
     return Kept(objects, total, dominators, order[1:])
 
 
-def _in_depth(graph: Graph):
+def _in_depth(graph: Graph) -> Tuple[array, array, array]:
     """Nodes in the order of a walk in depth, behind a start that holds all roots; of each node its place there; of each place the one before it."""
     size, starts, targets = len(graph), graph.starts, graph.targets
     order, parents = array("I", [size]), array("I", [0])
     place_of = array("I", [_NONE]) * size
+    following = array("Q", starts)  # of each node the reference that is looked at next
     for _, root in graph.roots:
         if place_of[root] != _NONE:
             continue
-        place_of[root] = len(order)
+        node, place = root, len(order)
+        place_of[node] = place
         parents.append(0)
-        order.append(root)
-        stack: List[List[int]] = [[root, starts[root]]]
-        while stack:
-            top = stack[-1]
-            node, edge = top
-            end = starts[node + 1]
-            while edge < end and place_of[targets[edge]] != _NONE:
+        order.append(node)
+        while place:
+            edge, end = following[node], starts[node + 1]
+            while edge < end:
+                held = targets[edge]
                 edge += 1
-            if edge == end:
-                stack.pop()
-                continue
-            top[1] = edge + 1
-            held = targets[edge]
-            place_of[held] = len(order)
-            parents.append(place_of[node])
-            order.append(held)
-            stack.append([held, starts[held]])
+                if place_of[held] == _NONE:
+                    following[node] = edge
+                    parents.append(place)
+                    node, place = held, len(order)
+                    place_of[node] = place
+                    order.append(node)
+                    break
+            else:
+                place = parents[place]
+                node = order[place]
     return order, place_of, parents
 
 
-def _holders(graph: Graph, place_of: Sequence[int], count: int):
-    """Of each place the places of its holders, as one array and where each part of it begins. All but what only owners lead to."""
+class _Holders(NamedTuple):
+    """Of each place the least place of its holders, and those that stand behind it: `behind[begins[place]:begins[place + 1]]`.
+
+    What only owners lead to has no place, and is no holder.
+    """
+
+    least: Sequence[int]
+    begins: Sequence[int]
+    behind: Sequence[int]
+
+
+def _holders(graph: Graph, place_of: array, count: int) -> _Holders:
+    if numpy_is_there():
+        from .holders_numpy import holders
+
+        return _Holders(*holders(graph, place_of, count))
+    least = array("I", [_NONE]) * count
     begins = array("Q", bytes(8 * (count + 1)))
     for holder, place in _edges(graph, place_of):
-        begins[place] += 1
+        if holder < least[place]:
+            least[place] = holder
+        if holder > place:
+            begins[place] += 1
     total = 0
     for place in range(count + 1):
         total += begins[place]
         begins[place] = total
-    holders = array("I", bytes(4 * total))
+    behind = array("I", bytes(4 * total))
     for holder, place in _edges(graph, place_of):
-        begins[place] -= 1
-        holders[begins[place]] = holder
-    return begins, holders
+        if holder > place:
+            begins[place] -= 1
+            behind[begins[place]] = holder
+    return _Holders(least, begins, behind)
 
 
 def _edges(graph: Graph, place_of: Sequence[int]) -> Iterator[Tuple[int, int]]:
@@ -95,30 +116,33 @@ def _edges(graph: Graph, place_of: Sequence[int]) -> Iterator[Tuple[int, int]]:
                 yield holder, place_of[targets[edge]]
 
 
-def _dominators(graph: Graph, order: Sequence[int], place_of: Sequence[int], parents: Sequence[int]) -> Sequence[int]:
+def _dominators(graph: Graph, order: Sequence[int], place_of: array, parents: Sequence[int]) -> Sequence[int]:
     """The place of the dominator of each place."""
     count = len(order)
-    begins, holders = _holders(graph, place_of, count)
-    is_root = bytearray(count)
+    semi, begins, behind = _holders(graph, place_of, count)
+    assert isinstance(semi, array)
     for _, root in graph.roots:
-        is_root[place_of[root]] = 1
-    semi = array("I", range(count))
+        semi[place_of[root]] = 0
     best = array("I", range(count))  # the place with the least semidominator on the way up that was walked
     linked = array("I", [_NONE]) * count  # the next place up that was linked
     for place in range(count - 1, 0, -1):
-        least = 0 if is_root[place] else parents[place]
-        for at in range(begins[place], begins[place + 1]):
-            holder = holders[at]
-            if holder > place:
-                holder = semi[_least(holder, linked, best, semi)]
-            if holder < least:
-                least = holder
-        semi[place] = least
+        least = semi[place]
+        if least:
+            for at in range(begins[place], begins[place + 1]):
+                holder = behind[at]
+                up = linked[holder]
+                if linked[up] == _NONE:  # nothing to shorten
+                    holder = semi[best[holder]]
+                else:
+                    holder = semi[_least(holder, linked, best, semi)]
+                if holder < least:
+                    least = holder
+            semi[place] = least
         linked[place] = parents[place]
     above = array("I", parents)
     for place in range(1, count):
-        at = above[place]
-        while at > semi[place]:
+        at, least = above[place], semi[place]
+        while at > least:
             at = above[at]
         above[place] = at
     return above

@@ -5,7 +5,7 @@ from ..graphs.dominators import Kept, kept_alone, kept_by_type
 from ..graphs.graph import Graph
 from .tables import table
 
-_MOST_STEPS = 20000000  # so many objects are gone through at most to say what roots reach
+_MOST_STEPS = 6000000  # so many objects are gone through at most to say what roots reach
 
 
 def summary(graph: Graph, top: int) -> str:
