@@ -491,7 +491,8 @@ def function_of_pickling(place, obj, undo):
 @holder
 def hook_of_warnings(place, obj, undo):
     undo.callback(setattr, warnings, "showwarning", warnings.showwarning)
-    warnings.showwarning = functools.partial(warnings.showwarning, line=obj)
+    shown = functools.partial(lambda held, show, *words, **named: show(*words, **named), obj, warnings.showwarning)
+    warnings.showwarning = shown
 
 
 @holder

@@ -320,6 +320,29 @@ class View(Commands):
             name = "dead Session root map -> Map .table -> array (*) * / part of key (Object @*) -> Session"
             self.assertEqual(case.get("name"), name)
 
+    def test_a_cause_whose_path_was_left_out(self):
+        """The report has the path of the first violation alone, which is a buffer's and leads through the session."""
+        lines = [
+            alloc(1, "Buffer"),
+            alloc(2, "Session", 1),
+            store(2, 0, 1, ".buffer"),
+            {"op": "root", "name": "a", "to": 2},
+            {"op": "assert-dead", "id": 1},
+            {"op": "assert-dead", "id": 2},
+            COLLECT,
+        ]
+        for paths, path in (("1", "path left out"), ("2", "root a -> 2 Session")):
+            self.assertEqual(
+                self.view(self.write(*lines), "--paths", paths).split("\n"),
+                [
+                    "Session must be dead and is reached (collection 1; keeps 2 objects, 20 bytes alive alone; "
+                    "1 more that must be dead hang from it: Buffer 1)",
+                    "    " + path,
+                    "2 violations in 1 groups; 1 collections",
+                    "",
+                ],
+            )
+
     def test_what_a_group_keeps_is_counted_once(self):
         """The third node is kept by the second, and both are one group. What is largest comes first."""
         lines = [

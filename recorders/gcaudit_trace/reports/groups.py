@@ -46,9 +46,10 @@ def grouped(verdicts: Iterable[Verdict]) -> List[Group]:
         group = _group_of(verdict, path_shape(verdict.paths[0]), found)
         group.verdicts.append(verdict)
         causes[verdict.collection, verdict.number] = group
+    for verdict, group in _join(without, found, hanging, causes):
+        causes.setdefault((verdict.collection, verdict.number), group)
     for cause, verdict in hanging:
         causes[verdict.collection, cause].hanging.append(verdict)
-    _join(without, found)
     return sorted(found.values(), key=lambda group: (group.sample.collection, -_size(group)))
 
 
@@ -63,17 +64,30 @@ def _size(group: Group) -> int:
     return len(group.verdicts) + len(group.hanging)
 
 
-def _join(without: List[Verdict], found: Dict[Tuple, Group]) -> None:
-    """Puts violations whose paths were left out where others of their collection, kind and type are."""
-    places: Dict[Tuple, List[Verdict]] = {}
+def _join(
+    without: List[Verdict],
+    found: Dict[Tuple, Group],
+    hanging: List[Tuple[int, Verdict]],
+    causes: Dict[Tuple[int, int], Group],
+) -> List[Tuple[Verdict, Group]]:
+    """Puts violations whose paths were left out where others of their collection, kind and type are, and says where."""
+    places: Dict[Tuple, Tuple[Group, List[Verdict]]] = {}
+    for cause, verdict in hanging:
+        group = causes.get((verdict.collection, cause))
+        if group is not None:
+            places[verdict.collection, "dead", type_shape(verdict.type_name)] = group, group.hanging
     for group in sorted(found.values(), key=_size):
-        for verdict in group.hanging:
-            places[verdict.collection, "dead", type_shape(verdict.type_name)] = group.hanging
-    for group in sorted(found.values(), key=_size):
-        places[group.sample.collection, group.kind, group.type_name] = group.verdicts
+        places[group.sample.collection, group.kind, group.type_name] = group, group.verdicts
+    joined = []
     for verdict in without:
-        place = places.get((verdict.collection, verdict.kind, type_shape(verdict.type_name)))
-        (_group_of(verdict, None, found).verdicts if place is None else place).append(verdict)
+        key = verdict.collection, verdict.kind, type_shape(verdict.type_name)
+        if key not in places:
+            group = _group_of(verdict, None, found)
+            places[key] = group, group.verdicts
+        group, place = places[key]
+        place.append(verdict)
+        joined.append((verdict, group))
+    return joined
 
 
 def _cause(verdict: Verdict, dead: Set[Tuple[int, int]]) -> Optional[int]:
