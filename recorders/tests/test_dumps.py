@@ -472,6 +472,17 @@ class ManyLeaks(InFolder):
         self.assertNotIn("hidden", {e["type"] for e in events(self.path("trace.jsonl")) if e["op"] == "alloc"})
 
     @needs_program
+    @needs_commands("node")
+    def test_twenty_three_more_on_node(self):
+        program, dump = os.path.join(PROGRAMS, "more_leaks.js"), self.path("many.heapsnapshot")
+        with open(program) as file:
+            leaked = re.findall(r"'(Of\w+)'", re.search(r"const NAMES = \[(.*?)\]", file.read(), re.DOTALL).group(1))
+        self.assertEqual(len(leaked), 23)
+        subprocess.run(["node", program, dump], check=True, timeout=300, stdout=subprocess.PIPE)
+        names = leaked + ["Released" + name for name in leaked]
+        self.assertEqual(sorted(set(self.found(heapsnapshot_to_trace, dump, names))), sorted(leaked))
+
+    @needs_program
     @needs_commands("java", "javac", "jcmd")
     def test_the_heap_of_a_compiler(self):
         """Left out are hundreds of thousands of objects that hold one another in circles: few joints stay."""
