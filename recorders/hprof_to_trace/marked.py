@@ -10,10 +10,10 @@ from array import array
 from typing import BinaryIO, Dict, Iterable, Iterator, List, Set, Tuple
 
 from gcaudit_trace import TraceError
-from gcaudit_trace import marks
-from gcaudit_trace.command import Progress
-from gcaudit_trace.dumps import say_left_out
-from gcaudit_trace.marks import Assertion, Marked, MarkedTrace, MarkedWishes, TooManyObjects, more_to_leave_out
+from gcaudit_trace.commands import marked
+from gcaudit_trace.dumps.command import say_left_out
+from gcaudit_trace.dumps.marks import Assertion, Marked, MarkedTrace, MarkedWishes, TooManyObjects, more_to_leave_out
+from gcaudit_trace.progress import Progress
 
 from .convert import Heap
 from .reader import INSTANCE, OBJECT, PRIMITIVE_ARRAY, SIZES, Dump
@@ -31,11 +31,14 @@ def _is_own(name: str) -> bool:
 class MarkedHeap(Heap):
     """The heap of a dump with marks. After `find_objects`, `targets` has the identifier of each mark's object, 0 where it is gone."""
 
-    def __init__(self, dump: Dump, wishes: MarkedWishes, progress: Progress, marked: Set[int], with_classes: bool) -> None:
+    def __init__(
+        self, dump: Dump, wishes: MarkedWishes, progress: Progress, marked: Set[int], with_classes: bool
+    ) -> None:
         super().__init__(dump, wishes, progress)
+        self._is_own = wishes.is_own
         self._marked = marked
         self._with_classes = with_classes
-        self._arrays_start = 0      # among `kept_places`: behind them are arrays of primitives, which hold nothing
+        self._arrays_start = 0  # among `kept_places`: behind them are arrays of primitives, which hold nothing
         self.targets: Dict[int, int] = {}
 
     def find_objects(self) -> None:
@@ -43,8 +46,10 @@ class MarkedHeap(Heap):
         self.targets = self._find_marks()
         missing = self._marked - set(self.targets)
         if missing:
-            raise TraceError("%s lacks %d of the %d objects of which something is asserted: it is a dump of another moment, or of another program"
-                             % (self.dump.name, len(missing), len(self._marked)))
+            raise TraceError(
+                "%s lacks %d of the %d objects of which something is asserted: it is a dump of another moment, or of another program"
+                % (self.dump.name, len(missing), len(self._marked))
+            )
         self._arrays_start = len(self.kept_places)
         self._keep_arrays({target for target in self.targets.values() if target and not self.codes.get(target)})
         for target in self.targets.values():
@@ -53,7 +58,7 @@ class MarkedHeap(Heap):
 
     def _may_hold(self, class_id: int) -> bool:
         name = self.dump.class_name(class_id)
-        if self.wishes.is_own(name):
+        if self._is_own(name):
             self._may_hold_of[class_id] = False
             return False
         return name == "java.lang.String" or super()._may_hold(class_id)
@@ -65,7 +70,7 @@ class MarkedHeap(Heap):
         return found
 
     def _held_by(self, step: str, places: array) -> Iterator[List[int]]:
-        return super()._held_by(step, places[:self._arrays_start] if places is self.kept_places else places)
+        return super()._held_by(step, places[: self._arrays_start] if places is self.kept_places else places)
 
     def _find_marks(self) -> Dict[int, int]:
         """The identifier of the object of each mark that is asked for."""
@@ -80,7 +85,9 @@ class MarkedHeap(Heap):
                 for place in _instances(self.dump, class_id):
                     number = struct.unpack_from(">q", self.dump.data, place + number_at)[0]
                     if number in self._marked:
-                        found[number] = struct.unpack_from(">" + self.dump.id_code, self.dump.data, place + referent_at)[0]
+                        found[number] = struct.unpack_from(
+                            ">" + self.dump.id_code, self.dump.data, place + referent_at
+                        )[0]
         return found
 
     def _keep_arrays(self, targets: Set[int]) -> None:
@@ -121,8 +128,13 @@ def _fields_of(dump: Dump, classes, class_id: int) -> Dict[str, int]:
 
 def _instances(dump: Dump, class_id: int) -> Iterable[int]:
     """Where the values of the fields of each object of a class may stand: bytes that look like the head of its record come first."""
-    head = re.compile(re.escape(bytes([INSTANCE])) + b".{%d}" % (dump.id_size + 4) + re.escape(struct.pack(">" + dump.id_code, class_id)) + b".{4}",
-                      re.DOTALL)
+    head = re.compile(
+        re.escape(bytes([INSTANCE]))
+        + b".{%d}" % (dump.id_size + 4)
+        + re.escape(struct.pack(">" + dump.id_code, class_id))
+        + b".{4}",
+        re.DOTALL,
+    )
     longest = 9 + 2 * dump.id_size
     for start in range(0, dump.size, _PIECE):
         for found in _overlapping(head, dump.data, start, min(start + _PIECE + longest - 1, dump.size)):
@@ -164,18 +176,24 @@ class _Trace(MarkedTrace):
         super().object(class_name, size, contents)
 
 
-def convert(file: BinaryIO, name: str, trace: str, assertions: List[Assertion], progress: Progress, with_classes: bool) -> Marked:
+def convert(
+    file: BinaryIO, name: str, trace: str, assertions: List[Assertion], progress: Progress, with_classes: bool
+) -> Marked:
     """Writes the trace of a dump with the assertions about its marks, and with the references from objects to their classes if asked.
 
     Where it has too many objects, some classes are left out.
     """
     dump = Dump(file, name, progress)
-    marked = {one.mark for one in assertions} | {one.owner for one in assertions if one.owner}
-    wanted = {name[len(_CLASS):] if name.startswith(_CLASS) else name for one in assertions for name in (one.type_name, one.owner_type)}
+    numbers = {one.mark for one in assertions} | {one.owner for one in assertions if one.owner}
+    wanted = {
+        name[len(_CLASS) :] if name.startswith(_CLASS) else name
+        for one in assertions
+        for name in (one.type_name, one.owner_type)
+    }
     left_out: Set[str] = set()
     while True:
         wishes = MarkedWishes(assertions, _is_own, left_out)
-        heap = MarkedHeap(dump, wishes, progress, marked, with_classes)
+        heap = MarkedHeap(dump, wishes, progress, numbers, with_classes)
         try:
             heap.find_objects()
             stay = heap.pass_over()
@@ -183,14 +201,20 @@ def convert(file: BinaryIO, name: str, trace: str, assertions: List[Assertion], 
         except TooManyObjects as many:
             left_out = more_to_leave_out(many.counts, wanted, left_out)
     say_left_out(heap.left_out, stay, heap.left, wishes, progress)
-    with _Trace(trace, wishes, assertions, heap) as out:
+    out = _Trace(trace, wishes, assertions, heap)
+    with out:
         heap.write(out)
         out.finish(heap.named_roots(), progress)
     return Marked(out.numbers, out.waiting, out.soft)
 
 
 def main(words=None) -> int:
-    return marks.main("hprof_to_trace.marked", "Audits an HPROF dump in which gcaudit's library for Java has marked objects.", convert, words)
+    return marked.main(
+        "hprof_to_trace.marked",
+        "Audits an HPROF dump in which gcaudit's library for Java has marked objects.",
+        convert,
+        words,
+    )
 
 
 if __name__ == "__main__":
