@@ -12,7 +12,15 @@ from typing import BinaryIO, Dict, Iterable, Iterator, List, Set, Tuple
 from gcaudit_trace import TraceError
 from gcaudit_trace.commands import marked
 from gcaudit_trace.dumps.command import say_left_out
-from gcaudit_trace.dumps.marks import Assertion, Marked, MarkedTrace, MarkedWishes, TooManyObjects, more_to_leave_out
+from gcaudit_trace.dumps.marks import (
+    Assertion,
+    Mark,
+    Marked,
+    MarkedTrace,
+    MarkedWishes,
+    TooManyObjects,
+    more_to_leave_out,
+)
 from gcaudit_trace.progress import Progress
 
 from .convert import Heap
@@ -32,14 +40,14 @@ class MarkedHeap(Heap):
     """The heap of a dump with marks. After `find_objects`, `targets` has the identifier of each mark's object, 0 where it is gone."""
 
     def __init__(
-        self, dump: Dump, wishes: MarkedWishes, progress: Progress, marked: Set[int], with_classes: bool
+        self, dump: Dump, wishes: MarkedWishes, progress: Progress, marked: Set[Mark], with_classes: bool
     ) -> None:
         super().__init__(dump, wishes, progress)
         self._is_own = wishes.is_own
         self._marked = marked
         self._with_classes = with_classes
         self._arrays_start = 0  # among `kept_places`: behind them are arrays of primitives, which hold nothing
-        self.targets: Dict[int, int] = {}
+        self.targets: Dict[Mark, int] = {}
 
     def find_objects(self) -> None:
         super().find_objects()
@@ -72,10 +80,10 @@ class MarkedHeap(Heap):
     def _held_by(self, step: str, places: array) -> Iterator[List[int]]:
         return super()._held_by(step, places[: self._arrays_start] if places is self.kept_places else places)
 
-    def _find_marks(self) -> Dict[int, int]:
+    def _find_marks(self) -> Dict[Mark, int]:
         """The identifier of the object of each mark that is asked for."""
-        found: Dict[int, int] = {}
-        for class_id, dumped in self.classes.items():
+        found: Dict[Mark, int] = {}
+        for class_id in self.classes:
             if self.dump.class_name(class_id) == _MARK:
                 places = _fields_of(self.dump, self.classes, class_id)
                 try:
@@ -156,17 +164,18 @@ class _Trace(MarkedTrace):
     """Notes what finalizers and soft references lead to."""
 
     def __init__(self, path: str, wishes: MarkedWishes, assertions: List[Assertion], heap: MarkedHeap) -> None:
-        self.numbers = {mark: heap.codes.get(target) if target else 0 for mark, target in heap.targets.items()}
-        self._targets = heap.targets
-        self._dump = heap.dump
-        super().__init__(path, wishes, assertions, self.numbers, self._class_of)
+        super().__init__(path, wishes, assertions)
+        self._heap = heap
         self._final = heap.derived_from("java.lang.ref.FinalReference")
         self._soft = heap.derived_from("java.lang.ref.SoftReference")
         self.waiting: List[int] = []
         self.soft: List[int] = []
 
-    def _class_of(self, assertion: Assertion) -> str:
-        return self._dump.class_name(self._targets[assertion.mark])
+    def number_of(self, mark: Mark) -> int:
+        return self._heap.codes.get(self._heap.targets[mark])
+
+    def class_of(self, mark: Mark) -> str:
+        return self._heap.dump.class_name(self._heap.targets[mark])
 
     def object(self, class_name: str, size: int, contents: List[Tuple[str, int, bool]]) -> None:
         if class_name in self._final:
@@ -184,7 +193,7 @@ def convert(
     Where it has too many objects, some classes are left out.
     """
     dump = Dump(file, name, progress)
-    numbers = {one.mark for one in assertions} | {one.owner for one in assertions if one.owner}
+    numbers = {mark for one in assertions for mark in one.marks()}
     wanted = {
         name[len(_CLASS) :] if name.startswith(_CLASS) else name
         for one in assertions
@@ -205,7 +214,7 @@ def convert(
     with out:
         heap.write(out)
         out.finish(heap.named_roots(), progress)
-    return Marked(out.numbers, out.waiting, out.soft)
+    return out.marked(out.waiting, out.soft)
 
 
 def main(words=None) -> int:

@@ -28,6 +28,7 @@ JUNIT_JARS = [os.path.join(DEBIAN, name + ".jar") for name in JUNIT]
 has_junit = all(map(os.path.exists, JUNIT_JARS))
 has_compiler = shutil.which("cc") is not None
 KINDS = 62
+LIMIT = 900  # seconds for a program; nothing in it waits by the clock, so a busy machine only takes longer
 
 # What the report says of each leak of ServiceLeaks.java: its type, and the end of its path.
 LEAKS = {
@@ -53,7 +54,7 @@ LEAKS = {
 
 
 def run(*words, **named):
-    done = subprocess.run(words, stdout=subprocess.PIPE, stderr=subprocess.STDOUT, text=True, **named)
+    done = subprocess.run(words, stdout=subprocess.PIPE, stderr=subprocess.STDOUT, text=True, timeout=LIMIT, **named)
     return done.returncode, done.stdout
 
 
@@ -100,21 +101,17 @@ class WithLibrary(InFolder):
     def setUpClass(cls):
         cls.jar, cls.classes, cls.references = built().jar, built().classes, built().references
 
-    def java(self, *words, path=(), **properties):
-        """Runs a program with the library; the properties are those of gcaudit, or by a name with a sign their own."""
-        found = {"gcaudit.program": PROGRAM, "gcaudit.python": sys.executable}
-        found.update({name if "." in name else "gcaudit." + name: value for name, value in properties.items()})
-        settings = ["-D%s=%s" % one for one in found.items() if one[1] is not None]
+    def java(self, *words, path=(), properties=None):
+        """Runs a program with the library. A property that is None isn't set."""
+        given = {"gcaudit.program": PROGRAM, "gcaudit.python": sys.executable, **(properties or {})}
+        settings = ["-D%s=%s" % one for one in given.items() if one[1] is not None]
         classes = os.pathsep.join([self.classes, self.jar, *path])
         environment = {name: value for name, value in os.environ.items() if name not in ("PYTHONPATH", "GCAUDIT")}
-        before = set(os.listdir(tempfile.gettempdir()))
+        settings.append("-Djava.io.tmpdir=" + self.path("temporary"))
+        os.makedirs(self.path("temporary"), exist_ok=True)
         done = run("java", "-Xmx512m", "-XX:+UseSerialGC", *settings, "-cp", classes, *words, env=environment)
-        left = {
-            name
-            for name in set(os.listdir(tempfile.gettempdir())) - before
-            if name.startswith("gcaudit-") and name.endswith("hprof")
-        }
-        self.assertEqual(left, set())
+        left = [name for name in os.listdir(self.path("temporary")) if not name.endswith(".agent")]
+        self.assertEqual(left, [])  # the dump is deleted
         return done
 
 
@@ -148,7 +145,7 @@ class Leaks(WithLibrary):
         library = self.references
         names = [name for name in LEAKS if library or name != "jni global"]
         self.assertEqual(len(LEAKS), 12)
-        status, said = self.java("ServiceLeaks", *names, **{"jni": library, "gcaudit.program": PROGRAM})
+        status, said = self.java("ServiceLeaks", *names, properties={"jni": library})
         self.assertEqual(status, 0, said)
         twins, _, leaks = said.partition("gcaudit found a violation:\n")
         self.assertEqual(twins, "no violation\nno violation\n")
@@ -162,7 +159,7 @@ class Leaks(WithLibrary):
 
     def test_each_kind_of_holder_is_found_and_its_twin_passes(self):
         library = self.references
-        status, said = self.java("Holders", **{"jni": library, "gcaudit.program": PROGRAM})
+        status, said = self.java("Holders", properties={"jni": library})
         self.assertEqual(status, 0, said)
         kinds = dict(re.findall(r"(?m)^kind (\S+) (\S+)$", said))
         self.assertEqual(len(kinds), KINDS if library else KINDS - 1)
@@ -209,27 +206,33 @@ class Asserting(WithLibrary):
                 {"program": "/no/such/program"},
                 r"the heap could not be audited \(status 2\): .*there is no program /no/such/program",
             ),
-            ({"python": "/no/such/python"}, r"Python could not be run, which reads the heap dump: .*/no/such/python"),
+            (
+                {"gcaudit.python": "/no/such/python"},
+                r"Python could not be run, which reads the heap dump: .*/no/such/python",
+            ),
             (
                 {"program": "/bin/true"},
                 r"the heap could not be audited \(status 2\): .*gcaudit did not read .* to its end",
             ),
-            ({"python": "/bin/true"}, r"the heap could not be audited \(status 0\): nothing was said"),
-            ({"keep": "/dev/null/keep"}, r"no folder for the heap dump can be made"),
-            ({"recorders": "/no/such/folder"}, r"the heap could not be audited \(status 1\): .*No module named"),
+            ({"gcaudit.python": "/bin/true"}, r"the heap could not be audited \(status 0\): nothing was said"),
+            ({"gcaudit.keep": "/dev/null/keep"}, r"no folder for the heap dump can be made"),
+            (
+                {"gcaudit.recorders": "/no/such/folder"},
+                r"the heap could not be audited \(status 1\): .*No module named",
+            ),
         ):
-            status, said = self.java("Asserting", "leak", **properties)
+            status, said = self.java("Asserting", "leak", properties=properties)
             self.assertRegex(said, "HeapAuditException: " + reason)
             self.assertEqual(status, 1)
 
     def test_the_dump_is_kept_where_a_property_says_so(self):
-        status, said = self.java("Asserting", "leak", keep=self.path("kept"))
+        status, said = self.java("Asserting", "leak", properties={"gcaudit.keep": self.path("kept")})
         self.assertEqual(status, 1)
         place = re.search(r"The dump, its trace and the report are in (\S+)", said).group(1)
         self.assertLessEqual({"heap.hprof", "heap.jsonl", "report.txt", "marks.jsonl"}, set(os.listdir(place)))
 
     def test_no_dump_where_all_is_well(self):
-        status, said = self.java("Asserting", "well", program="/no/such/program", python="/no/such/python")
+        status, said = self.java("Asserting", "well", properties={"gcaudit.program": "/no", "gcaudit.python": "/no"})
         self.assertEqual((status, said), (0, "clean\n"))
 
 
@@ -247,7 +250,7 @@ class Regions(WithLibrary):
         self.assertEqual(fourth, "clean\n")
 
     def test_without_the_agent(self):
-        status, said = self.java("Regions", agent="/no/such/agent")
+        status, said = self.java("Regions", properties={"gcaudit.agent": "/no/such/agent"})
         self.assertEqual(status, 1)
         self.assertRegex(
             said, r"HeapAuditException: region\(\) needs the agent libgcaudit, which recorders/jvm/build makes"
@@ -259,14 +262,16 @@ class JUnit(WithLibrary):
     def console(self, **properties):
         reports = self.path("reports")
         words = ["--select-class", "ShopTest", "--reports-dir", reports, "--disable-banner", "--disable-ansi-colors"]
-        status, said = self.java("org.junit.platform.console.ConsoleLauncher", *words, path=JUNIT_JARS, **properties)
+        status, said = self.java(
+            "org.junit.platform.console.ConsoleLauncher", *words, path=JUNIT_JARS, properties=properties
+        )
         cases = ElementTree.parse(os.path.join(reports, "TEST-junit-jupiter.xml")).getroot().iter("testcase")
         return status, said, {case.get("name"): [one.get("message") for one in case.iter("failure")] for case in cases}
 
     def test_green_without_the_leak_and_red_with_it(self):
         status, said, cases = self.console()
         self.assertEqual((status, set(map(tuple, cases.values()))), (0, {()}), said)
-        status, said, cases = self.console(**{"leaks": "true", "gcaudit.program": PROGRAM})
+        status, said, cases = self.console(leaks="true")
         path = (
             r"gc 1 dead \d+ ShopTest\$Session: root .* ShopTest\$Bus \.listeners -> .* \[0\] -> \d+ ShopTest\$Session"
         )
@@ -277,7 +282,7 @@ class JUnit(WithLibrary):
         self.assertRegex(failed["sessionIsGone(HeapAudit)"][0], path)
 
     def test_red_where_nothing_was_asserted(self):
-        status, said, cases = self.console(**{"empty": "true", "gcaudit.program": PROGRAM})
+        status, said, cases = self.console(empty="true")
         self.assertEqual(status, 1, said)
         for messages in cases.values():
             self.assertIn("nothing was asserted", messages[0])

@@ -23,7 +23,6 @@ Convert = Callable[[BinaryIO, str, str, List[Assertion], Progress, bool], Marked
 
 def audit_marked(
     trace: str,
-    assertions: List[Assertion],
     convert: Callable[[bool], Marked],
     program: Optional[str],
     progress: Progress,
@@ -33,23 +32,19 @@ def audit_marked(
     Where something that must be dead is alive and no root leads to it, the trace is written again with the references from objects
     to their classes; and where none leads to it then, it gets a root of its own.
     """
+    left: Set[int] = set()
     for with_classes in (False, True):
         marked = convert(with_classes)
         done = audit(trace, program, (), progress)
-        left = _alive(assertions, marked) - set(map(int, _DEAD.findall(done.report)))
+        left = marked.dead - set(map(int, _DEAD.findall(done.report)))
         if not left:
             return done
     unreached = Unreached(trace, marked, left)
-    unreached.explain({marked.numbers[one.mark] for one in assertions if one.of_runtime})
+    unreached.explain()
     if not unreached.roots:
         return done
     _add_roots(trace, unreached.roots)
     return audit(trace, program, (), progress)
-
-
-def _alive(assertions: Iterable[Assertion], marked: Marked) -> Set[int]:
-    """The numbers of the objects that must be dead and are alive."""
-    return {marked.numbers[one.mark] for one in assertions if one.wants_death} - {0}
 
 
 def _add_roots(trace: str, roots: Iterable[Tuple[str, int]]) -> None:
@@ -88,7 +83,7 @@ def main(program: str, about: str, convert: Convert, words=None) -> int:
             def written(with_classes: bool) -> Marked:
                 return convert(file, asked.dump, asked.trace, assertions, progress, with_classes)
 
-            done = audit_marked(asked.trace, assertions, written, asked.gcaudit, progress)
+            done = audit_marked(asked.trace, written, asked.gcaudit, progress)
         sys.stdout.write("checked %d assertions\n%s" % (len(assertions), grouped_report(done.named, done.verdicts)))
         return done.status
 

@@ -1,11 +1,14 @@
 """Assertions about single objects of a heap dump, which a library in the program has marked before the dump was written.
 
-The library holds each object weakly under a number, and a file says what is asserted of which number: a line of JSON for each
-assertion, with `assert` (dead, region, unshared, ownedby or instances), `mark` and `type`, and as the kind wants it `owner`,
-`owner type` and `limit`. A region's object has `of runtime` where its class is the runtime's own.
+The library holds each object weakly under a mark, a number or a name, and a file says what is asserted of which mark: a line of
+JSON for each assertion, with `assert` (dead, region, unshared, ownedby or instances), `mark` and `type`, and as the kind wants it
+`owner`, `owner type` and `limit`. A region's object has `of runtime` where its class is the runtime's own.
+
+Where a runtime numbers objects in the order of their allocation, a region needs no marks: `allocated` has the numbers `after` and
+`last`, and the types that it may `ignore`.
 """
 import json
-from typing import Any, Callable, Dict, List, NamedTuple, Set
+from typing import Any, Callable, Dict, Iterable, List, NamedTuple, Set, Tuple, Union
 
 from ..errors import TraceError
 from ..progress import Progress
@@ -14,23 +17,33 @@ from ..traces.names import legal_name
 from .options import Wishes, parser_for
 from .output import DumpTrace
 
-_KINDS = ("dead", "region", "unshared", "ownedby", "instances")
+_PLAIN_KINDS = ("dead", "region", "unshared")
+
+
+Mark = Union[int, str]
 
 
 class Assertion(NamedTuple):
-    """What is asserted of a marked object."""
+    """What is asserted of a marked object, or of all that a region allocated."""
 
     kind: str
-    mark: int
-    type_name: str
-    owner: int  # the mark of the owner; 0 where the kind has none
-    owner_type: str
-    limit: int
-    of_runtime: bool
+    mark: Mark = 0
+    type_name: str = ""
+    owner: Mark = 0  # the mark of the owner; 0 where the kind has none
+    owner_type: str = ""
+    limit: int = 0
+    of_runtime: bool = False
+    after: int = 0
+    last: int = 0
+    ignored: Tuple[str, ...] = ()
 
     @property
     def wants_death(self) -> bool:
-        return self.kind in ("dead", "region")
+        return self.kind in ("dead", "region", "allocated")
+
+    def marks(self) -> List[Mark]:
+        """The marks of its objects."""
+        return [mark for mark in (self.mark, self.owner) if mark]
 
 
 def read_assertions(path: str) -> List[Assertion]:
@@ -50,18 +63,24 @@ def read_assertions(path: str) -> List[Assertion]:
 def _assertion(line: str) -> Assertion:
     said: Dict[str, Any] = json.loads(line)
     kind = said["assert"]
-    if kind not in _KINDS:
+    if kind == "allocated":
+        return Assertion(
+            kind, after=int(said["after"]), last=int(said["last"]), ignored=tuple(map(str, said["ignore"]))
+        )
+    found = Assertion(kind, _mark(said["mark"]), str(said["type"]), of_runtime=bool(said.get("of runtime")))
+    if kind == "ownedby":
+        return found._replace(owner=_mark(said["owner"]), owner_type=str(said["owner type"]))
+    if kind == "instances":
+        return found._replace(limit=int(said["limit"]))
+    if kind not in _PLAIN_KINDS:
         raise ValueError(kind)
-    owned, limited = kind == "ownedby", kind == "instances"
-    return Assertion(
-        kind,
-        int(said["mark"]),
-        str(said["type"]),
-        int(said["owner"]) if owned else 0,
-        str(said["owner type"]) if owned else "",
-        int(said["limit"]) if limited else 0,
-        bool(said.get("of runtime")),
-    )
+    return found
+
+
+def _mark(said: Any) -> Mark:
+    if not said or isinstance(said, bool) or not isinstance(said, (int, str)):
+        raise ValueError(said)
+    return said
 
 
 class TooManyObjects(Exception):
@@ -110,43 +129,61 @@ def more_to_leave_out(counts: Dict[str, int], wanted: Set[str], left_out: Set[st
 
 
 class MarkedTrace(DumpTrace):
-    """A trace with the assertions about marked objects. `numbers` has the number of each mark's object in the trace, or 0 where it is gone."""
+    """A trace with the assertions about marked objects."""
 
-    def __init__(
-        self,
-        path: str,
-        wishes: Wishes,
-        assertions: List[Assertion],
-        numbers: Dict[int, int],
-        class_of: Callable[[Assertion], str],
-    ) -> None:
+    def __init__(self, path: str, wishes: Wishes, assertions: List[Assertion]) -> None:
         super().__init__(path, wishes)
         self._assertions = assertions
-        self._numbers = numbers
-        self._class_name = class_of
+
+    def number_of(self, mark: Mark) -> int:
+        """The number of a mark's object in the trace; 0 where it is gone."""
+        raise NotImplementedError
+
+    def class_of(self, mark: Mark) -> str:
+        """The class whose object is marked, under the name of its objects' types."""
+        raise NotImplementedError
+
+    def allocated(self, region: Assertion) -> Iterable[int]:
+        """The numbers in the trace of what a region has allocated."""
+        raise NotImplementedError
+
+    def must_be_dead(self, assertion: Assertion) -> Iterable[int]:
+        """The numbers of its objects which are alive, where the assertion says that they are dead."""
+        if assertion.kind == "allocated":
+            return self.allocated(assertion)
+        number = self.number_of(assertion.mark) if assertion.wants_death else 0
+        return [number] if number else []
 
     def _assert(self, progress: Progress) -> None:
-        trace = self.trace
         for one in self._assertions:
-            number = self._numbers[one.mark]
+            if one.wants_death:
+                for number in self.must_be_dead(one):
+                    self.trace.assert_dead(number)
+                continue
+            number = self.number_of(one.mark)
             if not number:
                 continue
-            if one.wants_death:
-                trace.assert_dead(number)
-            elif one.kind == "unshared":
-                trace.assert_unshared(number)
+            if one.kind == "unshared":
+                self.trace.assert_unshared(number)
             elif one.kind == "instances":
-                trace.assert_instances(legal_name(self._class_name(one)), one.limit)
+                self.trace.assert_instances(legal_name(self.class_of(one.mark)), one.limit)
             else:
                 # An owner that is gone is an object that nothing holds, and that holds nothing.
-                owner = self._numbers[one.owner] or trace.alloc(legal_name(one.owner_type), 0)
+                owner = self.number_of(one.owner) or self.trace.alloc(legal_name(one.owner_type), 0)
                 if owner != number:
-                    trace.assert_owned_by(owner, number)
+                    self.trace.assert_owned_by(owner, number)
+
+    def marked(self, waiting: Iterable[int] = (), soft: Iterable[int] = ()) -> "Marked":
+        """What was written, for whoever asks why something is alive."""
+        dead = {number for one in self._assertions for number in self.must_be_dead(one)}
+        lenient = {number for one in self._assertions if one.of_runtime for number in self.must_be_dead(one)}
+        return Marked(dead, lenient, list(waiting), list(soft))
 
 
 class Marked(NamedTuple):
-    """A trace that was written with the assertions, and what its weak references lead to."""
+    """The objects of a trace that must be dead and are alive, and what its weak references lead to."""
 
-    numbers: Dict[int, int]
+    dead: Set[int]
+    lenient: Set[int]  # of these, those that may stay where no root leads to them
     waiting: List[int]  # objects that may wait for their finalizers
     soft: List[int]  # objects that a reference holds until memory is short

@@ -21,14 +21,14 @@ class Unreached:
         self._left = set(numbers)
         self.roots: List[Tuple[str, int]] = []  # that tell why these objects are alive
 
-    def explain(self, lenient: Set[int]) -> None:
-        """Finds roots for them. What is held softly alone may stay, and so may the `lenient` ones."""
+    def explain(self) -> None:
+        """Finds roots for them. What is held softly alone may stay."""
         reached = set(self._heap.graph().numbers)
         for why, origin in self._origins(self._marked.waiting, reached).items():
             self.roots.append((_WAITS, origin))
             self._left.discard(why)
         self._left -= set(self._origins(self._marked.soft, set()))
-        self._left -= lenient
+        self._left -= self._marked.lenient
         if self._left:
             holders = _holders_besides(self._trace, reached)
             self.roots += [(_ALIVE, _first_holder(number, holders)) for number in sorted(self._left)]

@@ -403,7 +403,17 @@ public class Holders {
         }
     }
 
-    public static void main(String[] words) throws Exception {
+    public static void main(String[] words) {
+        try {
+            check();
+            System.exit(0);
+        } catch (Throwable error) {
+            error.printStackTrace();
+            System.exit(1);     // though threads of the kinds go on
+        }
+    }
+
+    static void check() throws Exception {
         String library = System.getProperty("jni");
         if (library == null) {
             HOLDERS.remove("jni_global");
@@ -412,20 +422,19 @@ public class Holders {
             System.load(library);
         }
         List<Undo> undo = new ArrayList<>();
-        HeapAudit audit = HeapAudit.start();
-        assertDead(audit, undo);
-        try {
+        try (HeapAudit audit = HeapAudit.start()) {
+            assertDead(audit, undo);
+            try {
+                audit.check();
+            } catch (HeapViolation violation) {
+                System.out.println(violation.getMessage());
+            }
+            for (Undo one : undo) {
+                one.run();
+            }
+            undo.clear();
             audit.check();
-        } catch (HeapViolation violation) {
-            System.out.println(violation.getMessage());
         }
-        for (Undo one : undo) {
-            one.run();
-        }
-        undo.clear();
-        audit.check();
-        audit.close();
         System.out.println("all are gone");
-        System.exit(0);
     }
 }

@@ -298,25 +298,34 @@ public class ServiceLeaks {
     }
 
     /** Runs the twins and then the leaks of the scenarios that are named, and prints what each check says: of each, and of a dump. */
-    public static void main(String[] names) throws Exception {
-        String library = System.getProperty("jni");
-        if (library != null) {
-            System.load(library);
-        }
-        for (boolean leaks : new boolean[] {false, true}) {
-            try (HeapAudit audit = HeapAudit.start()) {
-                for (String name : names) {
-                    assertDead(audit, name, leaks);
-                }
-                audit.check();
-                System.out.println("no violation");
-                audit.assertInstances(EventBus.class, 1);
-                audit.check();
-                System.out.println("no violation");
-            } catch (HeapViolation violation) {
-                System.out.println(violation.getMessage());
+    public static void main(String[] names) {
+        try {
+            String library = System.getProperty("jni");
+            if (library != null) {
+                System.load(library);
             }
+            for (boolean leaks : new boolean[] {false, true}) {
+                check(names, leaks);
+            }
+            System.exit(0);
+        } catch (Throwable error) {
+            error.printStackTrace();
+            System.exit(1);     // though threads of the scenarios go on
         }
-        System.exit(0);
+    }
+
+    static void check(String[] names, boolean leaks) throws Exception {
+        try (HeapAudit audit = HeapAudit.start()) {
+            for (String name : names) {
+                assertDead(audit, name, leaks);
+            }
+            audit.check();
+            System.out.println("no violation");
+            audit.assertInstances(EventBus.class, 1);
+            audit.check();
+            System.out.println("no violation");
+        } catch (HeapViolation violation) {
+            System.out.println(violation.getMessage());
+        }
     }
 }
