@@ -288,5 +288,56 @@ class JUnit(WithLibrary):
             self.assertIn("nothing was asserted", messages[0])
 
 
+@needs_commands("jcmd")
+class Service(WithLibrary):
+    """The command that asks a JVM that runs, whose program has no library."""
+
+    def setUp(self):
+        super().setUp()
+        words = ["java", "-Xmx256m", "-XX:+UseSerialGC", "-cp", self.classes, "Service"]
+        self.service = subprocess.Popen(words, stdin=subprocess.PIPE, stdout=subprocess.PIPE)
+        self.addCleanup(self.end)
+        self.assertEqual(self.service.stdout.readline(), b"ready\n")
+
+    def end(self):
+        self.service.stdin.close()
+        self.service.stdout.close()
+        self.service.wait(timeout=LIMIT)
+
+    def ask(self, *words, pid=None):
+        command = [sys.executable, "-B", "-m", "hprof_to_trace.service", pid or str(self.service.pid), *words]
+        return run(
+            *command, cwd=self.folder, env=dict(os.environ, PYTHONPATH=RECORDERS, GCAUDIT=PROGRAM, TMPDIR=self.folder)
+        )
+
+    def test_a_service_is_audited_and_compared(self):
+        words = ["--limit", "Service$Entry=1", "--only", "Service", "--html", "page.html"]
+        status, said = self.ask(*words)
+        self.assertEqual(status, 1, said)
+        self.assertRegex(said, r"(?m)^Service\$Entry has more objects than its limit: \d+, and the limit is 1 ")
+        self.assertRegex(said, r"(?m)class Service \.LOG .* -> \d+ Service\$Entry$")
+        self.assertEqual(os.listdir(self.folder), ["page.html"])
+        status, said = self.ask("--growth", "2", "--every", "0")
+        self.assertEqual(status, 0, said)
+        self.assertEqual(os.listdir(self.folder), ["page.html"])
+
+    def test_what_cannot_be_asked(self):
+        for words, pid, reason in (
+            ([], None, "nothing is asserted, so this check would pass whatever the program holds"),
+            (["--dead", "A", "--only", "B"], None, "something is asserted of A, and it is left out"),
+            (["--growth", "1"], None, "--growth compares 2 heaps or more"),
+            (["--growth", "2", "--dead", "A"], None, "--growth takes no --dead"),
+            (["--dead", "A"], "999999999", "the JVM 999999999 wrote no dump: "),
+            (
+                ["--dead", "A", "--jcmd", "/no/such/jcmd"],
+                None,
+                "/no/such/jcmd could not be run: No such file or directory",
+            ),
+        ):
+            status, said = self.ask(*words, pid=pid)
+            self.assertEqual((status, os.listdir(self.folder)), (2, []), said)
+            self.assertIn("gcaudit-jvm: " + reason, said)
+
+
 if __name__ == "__main__":
     unittest.main()
