@@ -30,6 +30,7 @@ _STORES = frozenset(
 )
 _GONE = "system / Oddball"  # what a WeakRef holds in place of an object that is gone
 _TARGET = "target"
+_PATTERN = "transition_info"  # leads to the object of which V8 makes copies for a literal of the program
 _OF_PROGRAMS = frozenset({"object", "closure", "regexp"})  # kinds of node that a program allocates by itself
 _LEAVE_OUT_CLASSES: Dict[str, List[str]] = {"": []}  # the reader leaves them out where something is owned
 _OF_RUNTIME = ("system", "Gcaudit", "(")
@@ -61,6 +62,8 @@ class MarkedSnapshot(Snapshot):
         self._is_hidden: bytes = b""
         self.ids = array("Q")  # of each node
         self.targets: Dict[Mark, int] = {}
+        self.patterns: Set[int] = set()  # the codes of objects of which V8 makes copies
+        self.marked_nodes: Dict[Mark, int] = {}  # of the marks whose objects are alive
 
     def _take_meta(self, reader: Any) -> None:
         kept = _Kept(reader)
@@ -101,33 +104,40 @@ class MarkedSnapshot(Snapshot):
             )
         of_mark, held_weakly = self._mark_edges(names)
         for mark in self._marks:
-            ref = of_mark.get(mark, 0)
-            target = held_weakly.get(ref, 0)
-            if not ref:
+            if not of_mark.get(mark):
                 raise TraceError(
                     "%s has a mark without an object: it was made by another version of the library" % self.name
                 )
-            node = self.kept_nodes[target - 1] if target > 0 else 0
-            self.targets[mark] = (
-                0 if not node or self.class_of(node) == _GONE or self._text_of(node) == _GONE else target
-            )
+            target = held_weakly.get(of_mark[mark], 0)
+            node = self._node_of(target)
+            if node and self.class_of(node) != _GONE and self._text_of(node) != _GONE:
+                self.targets[mark], self.marked_nodes[mark] = target, node
+            else:
+                self.targets[mark] = 0
         for ref in of_mark.values():
-            if ref > 0:
-                self.codes[self.kept_nodes[ref - 1]] = 0
+            self.codes[self._node_of(ref)] = 0
+
+    def _node_of(self, code: int) -> int:
+        """The node that has a code; the node 0, which is no object, where none has."""
+        return self.kept_nodes[code - 1] if code > 0 else self.left_nodes[-1 - code] if code < 0 else 0
 
     def _mark_edges(self, names: Dict[int, str]):
         """By mark the code of its WeakRef, and by such a code that of its object."""
         of_mark: Dict[Mark, int] = {}
         held_weakly: Dict[int, int] = {}
-        by_property = self.edge_words.index("property")
+        by_property, by_v8 = self.edge_words.index("property"), self.edge_words.index("internal")
         targets = {name for name, text in self.texts.items() if text == _TARGET}
+        patterns = {name for name, text in self.texts.items() if text == _PATTERN}
         for edges in self._edges("reading the marks"):
             for held, holder, kind, name in edges:
                 if kind == by_property:
                     if name in names:
                         of_mark[names[name]] = held
-                elif kind == self._weak and name in targets:
-                    held_weakly[holder] = held
+                elif kind == self._weak:
+                    if name in targets:
+                        held_weakly[holder] = held
+                elif name in patterns and kind == by_v8:
+                    self.patterns.add(held)
         return of_mark, held_weakly
 
     def _text_of(self, node: int) -> str:
@@ -139,12 +149,19 @@ class MarkedSnapshot(Snapshot):
 
     def allocated(self, region: Assertion) -> Iterator[int]:
         """The numbers in the trace of what a region has allocated, and that is alive."""
+        probe = self.marked_nodes.get(region.mark)
+        if probe is None or not region.after < self.ids[probe] <= region.last:
+            raise TraceError("%s has no numbers of objects that go as allocations do, which a region needs" % self.name)
         ignored = _OF_RUNTIME + region.ignored
         kinds = {kind for kind, word in enumerate(self.kind_words) if word in _OF_PROGRAMS}
         for number, node in enumerate(self.kept_nodes, 1):
-            if region.after < self.ids[node] <= region.last and self.kinds[node] in kinds and self.codes[node]:
+            if region.after < self.ids[node] <= region.last and self.kinds[node] in kinds and self._may_count(number):
                 if not self.class_of(node).startswith(ignored) and not self._text_of(node).startswith(_OF_RUNTIME):
                     yield number
+
+    def _may_count(self, number: int) -> bool:
+        """Whether a kept node is neither a mark nor V8's own pattern of a literal."""
+        return self.codes[self.kept_nodes[number - 1]] > 0 and number not in self.patterns
 
 
 class _Trace(MarkedTrace):
@@ -154,10 +171,13 @@ class _Trace(MarkedTrace):
         self._allocated: Dict[Assertion, List[int]] = {}
 
     def number_of(self, mark: Mark) -> int:
-        return self._snapshot.targets[mark]
+        number = self._snapshot.targets[mark]
+        if number < 0:
+            raise TraceError("an object of which something is asserted is left out")
+        return number
 
     def class_of(self, mark: Mark) -> str:
-        return self._snapshot.closure_name(self._snapshot.targets[mark])
+        return self._snapshot.closure_name(self.number_of(mark))
 
     def allocated(self, region: Assertion) -> Iterable[int]:
         if region not in self._allocated:

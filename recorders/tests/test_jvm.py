@@ -45,7 +45,7 @@ LEAKS = {
     "finalizer": ("Connection", r"class ServiceLeaks \.POOL -> .*\[0\]"),
     "timer": ("Watch", r"(\(thread watches\)|java\.util\.TaskQueue \.queue).*"),
     "cache": ("Page", r"class ServiceLeaks \.CACHES -> .* ServiceLeaks\$Cache .*LinkedHashMap\$Entry \.value"),
-    "jni global": ("Image", r"root JNI global"),
+    "jni global": ("Image", r"JNI global( #\d+)?"),
     "record field": (
         "Customer",
         r"class ServiceLeaks \.state -> .*State \.customer -> \d+ java\.util\.Optional \.value",
@@ -203,7 +203,7 @@ class Asserting(WithLibrary):
         )
         for properties, reason in (
             (
-                {"program": "/no/such/program"},
+                {"gcaudit.program": "/no/such/program"},
                 r"the heap could not be audited \(status 2\): .*there is no program /no/such/program",
             ),
             (
@@ -211,7 +211,7 @@ class Asserting(WithLibrary):
                 r"Python could not be run, which reads the heap dump: .*/no/such/python",
             ),
             (
-                {"program": "/bin/true"},
+                {"gcaudit.program": "/bin/true"},
                 r"the heap could not be audited \(status 2\): .*gcaudit did not read .* to its end",
             ),
             ({"gcaudit.python": "/bin/true"}, r"the heap could not be audited \(status 0\): nothing was said"),
@@ -266,7 +266,11 @@ class JUnit(WithLibrary):
             "org.junit.platform.console.ConsoleLauncher", *words, path=JUNIT_JARS, properties=properties
         )
         cases = ElementTree.parse(os.path.join(reports, "TEST-junit-jupiter.xml")).getroot().iter("testcase")
-        return status, said, {case.get("name"): [one.get("message") for one in case.iter("failure")] for case in cases}
+        said_of = {
+            case.get("name"): [one.get("message") for kind in ("failure", "error") for one in case.iter(kind)]
+            for case in cases
+        }
+        return status, said, said_of
 
     def test_green_without_the_leak_and_red_with_it(self):
         status, said, cases = self.console()

@@ -4,8 +4,8 @@ The library holds each object weakly under a mark, a number or a name, and a fil
 JSON for each assertion, with `assert` (dead, region, unshared, ownedby or instances), `mark` and `type`, and as the kind wants it
 `owner`, `owner type` and `limit`. A region's object has `of runtime` where its class is the runtime's own.
 
-Where a runtime numbers objects in the order of their allocation, a region needs no marks: `allocated` has the numbers `after` and
-`last`, and the types that it may `ignore`.
+Where a runtime numbers objects in the order of their allocation, a region's objects need no marks: `allocated` has the numbers
+`after` and `last`, the types that it may `ignore`, and the mark of an object that was allocated in between.
 """
 import json
 from typing import Any, Callable, Dict, Iterable, List, NamedTuple, Set, Tuple, Union
@@ -64,9 +64,8 @@ def _assertion(line: str) -> Assertion:
     said: Dict[str, Any] = json.loads(line)
     kind = said["assert"]
     if kind == "allocated":
-        return Assertion(
-            kind, after=int(said["after"]), last=int(said["last"]), ignored=tuple(map(str, said["ignore"]))
-        )
+        ignored = tuple(map(str, said["ignore"]))
+        return Assertion(kind, _mark(said["mark"]), after=int(said["after"]), last=int(said["last"]), ignored=ignored)
     found = Assertion(kind, _mark(said["mark"]), str(said["type"]), of_runtime=bool(said.get("of runtime")))
     if kind == "ownedby":
         return found._replace(owner=_mark(said["owner"]), owner_type=str(said["owner type"]))

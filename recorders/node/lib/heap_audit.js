@@ -55,22 +55,34 @@ class GcauditAssertion {
   }
 }
 
+/** Is allocated in each region, and stays: so the reader of snapshots sees that numbers go as allocations do. */
+class GcauditProbe {}
+
 /** What was allocated in a region, by the numbers of objects. */
 class GcauditRegion {
-  constructor(after, last, ignore) {
+  constructor(after, ignore) {
     this.after = after;
-    this.last = last;
+    this.last = after;
     this.ignore = ignore;
+    this.probe = new GcauditProbe();
+    this.mark = new GcauditMark(this.probe);
+  }
+
+  async end() {
+    await collect();
+    this.last = await lastObjectId();
   }
 
   isMet() {
     return false;
   }
 
-  drop() {}
+  drop() {
+    this.mark.drop();
+  }
 
   line() {
-    return { assert: 'allocated', after: this.after, last: this.last, ignore: this.ignore };
+    return { assert: 'allocated', after: this.after, last: this.last, ignore: this.ignore, mark: this.mark.name };
   }
 }
 
@@ -117,17 +129,18 @@ class HeapAudit {
   async region(work, { ignore = [] } = {}) {
     this.#needOpen();
     this.#openRegions++;
-    let after;
+    let region;
     try {
       await collect();
-      after = await lastObjectId();
+      const ignored = GcauditList.from(ignore);
+      region = new GcauditRegion(await lastObjectId(), ignored);
       return await work();
     } finally {
-      this.#openRegions--;
-      if (after !== undefined) {
-        await collect();
-        this.#note(new GcauditRegion(after, await lastObjectId(), [...ignore]));
+      if (region !== undefined) {
+        await region.end();
+        this.#note(region);
       }
+      this.#openRegions--;
     }
   }
 
