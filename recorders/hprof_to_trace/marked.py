@@ -39,13 +39,10 @@ def _is_own(name: str) -> bool:
 class MarkedHeap(Heap):
     """The heap of a dump with marks. After `find_objects`, `targets` has the identifier of each mark's object, 0 where it is gone."""
 
-    def __init__(
-        self, dump: Dump, wishes: MarkedWishes, progress: Progress, marked: Set[Mark], with_classes: bool
-    ) -> None:
+    def __init__(self, dump: Dump, wishes: MarkedWishes, progress: Progress, marked: Set[Mark]) -> None:
         super().__init__(dump, wishes, progress)
         self._is_own = wishes.is_own
         self._marked = marked
-        self._with_classes = with_classes
         self._arrays_start = 0  # among `kept_places`: behind them are arrays of primitives, which hold nothing
         self.targets: Dict[Mark, int] = {}
 
@@ -70,12 +67,6 @@ class MarkedHeap(Heap):
             self._may_hold_of[class_id] = False
             return False
         return name == "java.lang.String" or super()._may_hold(class_id)
-
-    def holdings(self, place: int) -> List[Tuple[str, int, bool]]:
-        found = super().holdings(place)
-        if self._with_classes and self.dump.data[place - 1] == INSTANCE:
-            found.append(("(class)", self._instance.unpack_from(self.dump.data, place)[2], False))
-        return found
 
     def _held_by(self, step: str, places: array) -> Iterator[List[int]]:
         return super()._held_by(step, places[: self._arrays_start] if places is self.kept_places else places)
@@ -188,9 +179,9 @@ class _Trace(MarkedTrace):
 def convert(
     file: BinaryIO, name: str, trace: str, assertions: List[Assertion], progress: Progress, with_classes: bool
 ) -> Marked:
-    """Writes the trace of a dump with the assertions about its marks, and with the references from objects to their classes if asked.
+    """Writes the trace of a dump with the assertions about its marks. Where it has too many objects, some classes are left out.
 
-    Where it has too many objects, some classes are left out.
+    The references from objects to their classes are left out where something is owned, unless they are asked for.
     """
     dump = Dump(file, name, progress)
     numbers = {mark for one in assertions for mark in one.marks()}
@@ -202,7 +193,9 @@ def convert(
     left_out: Set[str] = set()
     while True:
         wishes = MarkedWishes(assertions, _is_own, left_out)
-        heap = MarkedHeap(dump, wishes, progress, numbers, with_classes)
+        if with_classes:
+            wishes.owners = {}
+        heap = MarkedHeap(dump, wishes, progress, numbers)
         try:
             heap.find_objects()
             stay = heap.pass_over()

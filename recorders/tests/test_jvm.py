@@ -10,21 +10,10 @@ import tempfile
 import unittest
 import xml.etree.ElementTree as ElementTree
 
-from tests.support import PROGRAM, PROGRAMS, RECORDERS, InFolder, needs_commands, needs_program
+from tests.support import JUNIT_JARS, PROGRAM, PROGRAMS, RECORDERS, InFolder, needs_commands, needs_program
 
 JVM = os.path.join(RECORDERS, "jvm")
 SOURCES = os.path.join(PROGRAMS, "jvm")
-DEBIAN = "/usr/share/java"
-JUNIT = [
-    "junit-jupiter-api",
-    "junit-jupiter-engine",
-    "junit-platform-commons",
-    "junit-platform-engine",
-    "junit-platform-launcher",
-]
-JUNIT += ["junit-platform-console", "junit-platform-reporting", "opentest4j", "apiguardian-api"]
-JUNIT += ["opentest4j-reporting-events", "opentest4j-reporting-schema", "picocli"]
-JUNIT_JARS = [os.path.join(DEBIAN, name + ".jar") for name in JUNIT]
 has_junit = all(map(os.path.exists, JUNIT_JARS))
 has_compiler = shutil.which("cc") is not None
 KINDS = 62
@@ -34,7 +23,7 @@ LIMIT = 900  # seconds for a program; nothing in it waits by the clock, so a bus
 LEAKS = {
     "executor": ("Job", r"\.queue -> .*ScheduledFutureTask \.callable -> .*\$\$Lambda\S* \.arg\$1"),
     "thread local": ("RequestContext", r"\(thread worker\) -> .* \.threadLocals -> .*ThreadLocalMap\$Entry \.value"),
-    "class loader": ("PluginLoader", r"class ServiceLeaks \.PLUGINS -> .* \(class\) -> \d+ class \S+ \(class loader\)"),
+    "class loader": ("PluginLoader", r"class ServiceLeaks \.PLUGINS -> .* <class> -> \d+ class \S+ \(class loader\)"),
     "static map": (
         "Session",
         r"class ServiceLeaks \.SESSIONS -> \d+ java\.util\.HashMap \.table -> .*HashMap\$Node \.value",

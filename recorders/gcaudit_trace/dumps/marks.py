@@ -17,6 +17,7 @@ from ..traces.names import legal_name
 from .options import Wishes, parser_for
 from .output import DumpTrace
 
+_NO_CLASS = "(no class)"
 _PLAIN_KINDS = ("dead", "region", "unshared")
 
 
@@ -97,11 +98,18 @@ class MarkedWishes(Wishes):
         super().__init__(parser_for("", "").parse_args(["", ""]))
         self.is_own = is_own
         self._left_out = left_out
+        self.named = {_NO_CLASS}  # so that the reader tells prototypes from objects
         self.unshared = {one.type_name for one in assertions if one.kind == "unshared"}
         self.owners = {one.owner_type: [one.type_name] for one in assertions if one.kind == "ownedby"}
 
     def keeps(self, name: str) -> bool:
         return name not in self._left_out and not self.is_own(name)
+
+    def is_unshared(self, name: str) -> bool:
+        return name in self.unshared
+
+    def need_known(self, known: Set[str]) -> None:
+        """Each object of which something is asserted is known by its mark."""
 
     def need_room(self, kept: int, counts: Dict[str, int]) -> None:
         if kept > MOST_OBJECTS:
