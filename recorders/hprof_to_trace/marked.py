@@ -3,7 +3,6 @@
 A mark is an object of the class gcaudit.Mark: a reference with a `number` whose `referent` is the marked object. The library's
 own objects are not in the trace.
 """
-import re
 import struct
 import sys
 from array import array
@@ -28,8 +27,8 @@ from .reader import INSTANCE, OBJECT, PRIMITIVE_ARRAY, SIZES, Dump
 
 _MARK = "gcaudit.Mark"
 _OWN = ("gcaudit.", "class gcaudit.")
-_PIECE = 1 << 24
 _CLASS = "class "
+_STRING = "java.lang.String"
 
 
 def _is_own(name: str) -> bool:
@@ -63,10 +62,10 @@ class MarkedHeap(Heap):
 
     def _may_hold(self, class_id: int) -> bool:
         name = self.dump.class_name(class_id)
-        if self._is_own(name):
-            self._may_hold_of[class_id] = False
-            return False
-        return name == "java.lang.String" or super()._may_hold(class_id)
+        if self._is_own(name) or name == _STRING:
+            found = self._may_hold_of[class_id] = name == _STRING  # whose array may be asserted dead
+            return found
+        return super()._may_hold(class_id)
 
     def _held_by(self, step: str, places: array) -> Iterator[List[int]]:
         return super()._held_by(step, places[: self._arrays_start] if places is self.kept_places else places)
@@ -126,29 +125,14 @@ def _fields_of(dump: Dump, classes, class_id: int) -> Dict[str, int]:
 
 
 def _instances(dump: Dump, class_id: int) -> Iterable[int]:
-    """Where the values of the fields of each object of a class may stand: bytes that look like the head of its record come first."""
-    head = re.compile(
-        re.escape(bytes([INSTANCE]))
-        + b".{%d}" % (dump.id_size + 4)
-        + re.escape(struct.pack(">" + dump.id_code, class_id))
-        + b".{4}",
-        re.DOTALL,
-    )
-    longest = 9 + 2 * dump.id_size
-    for start in range(0, dump.size, _PIECE):
-        for found in _overlapping(head, dump.data, start, min(start + _PIECE + longest - 1, dump.size)):
-            size = struct.unpack_from(">I", dump.data, found - 4)[0]
-            if found + size <= dump.size:
-                yield found
-        dump.forget_read(start)
-
-
-def _overlapping(head, data, start: int, end: int) -> Iterable[int]:
-    """Where each match ends, of those too that begin within another."""
-    found = head.search(data, start, end)
-    while found is not None:
-        yield found.end()
-        found = head.search(data, found.start() + 1, end)
+    """Where the values of the fields of each object of a class may stand: the bytes before that look like the head of its record."""
+    wanted, data = struct.pack(">" + dump.id_code, class_id), dump.data
+    at = data.find(wanted)
+    while at >= 0:
+        head, place = at - dump.id_size - 5, at + dump.id_size + 4
+        if head >= 0 and data[head] == INSTANCE and place + struct.unpack_from(">I", data, place - 4)[0] <= dump.size:
+            yield place
+        at = data.find(wanted, at + 1)
 
 
 class _Trace(MarkedTrace):
