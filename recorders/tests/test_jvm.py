@@ -155,8 +155,8 @@ class Leaks(WithLibrary):
         paths = dict(re.findall(r"(?m)^gc 1 dead \d+ (\S+): (.*)$", said))
         self.assertEqual([kind for kind, name in kinds.items() if name not in paths], [])
         for kind, path in (
-            ("class_value", r"root \(alive, and no root of the dump leads to it\) -> .*ClassValue\$Entry \.value -> "),
-            ("finalizer_that_waits", r"root \(waits for its finalizer\) -> \d+ Holders\$Finalized \.held -> "),
+            ("class_value", r"root held by the JVM -> .*ClassValue\$Entry \.value -> "),
+            ("finalizer_that_waits", r"Finalizer \.referent -> \d+ Holders\$Finalized \.held -> "),
             ("frame", r"root frame Holders\.keepsInFrame:\d+ \(thread holder\)"),
             ("inherited_thread_local", r"\.inheritableThreadLocals -> "),
             ("value_of_a_weak_map", r"WeakHashMap\$Entry \.value -> \d+ Holders\$Plain \.held -> "),

@@ -11,6 +11,7 @@ import java.util.Optional;
 import java.util.Timer;
 import java.util.TimerTask;
 import java.util.WeakHashMap;
+import java.util.concurrent.CountDownLatch;
 import java.util.concurrent.Executors;
 import java.util.concurrent.ScheduledFuture;
 import java.util.concurrent.ScheduledThreadPoolExecutor;
@@ -208,14 +209,25 @@ public class ServiceLeaks {
 
     static final Timer TIMER = new Timer("watches", true);
 
-    static Object timer(boolean leaks) {
+    static Object timer(boolean leaks) throws Exception {
         Watch watch = new Watch();
         TIMER.schedule(watch, 3_600_000);
         if (!leaks) {
             watch.cancel();
             TIMER.purge();
+            awaitTimer();
         }
         return watch;
+    }
+
+    /** The thread of a timer has the task for which it waits in a variable, until another one wakes it. */
+    static void awaitTimer() throws InterruptedException {
+        CountDownLatch hasRun = new CountDownLatch(1);
+        TIMER.schedule(new TimerTask() {
+            @Override
+            public void run() { hasRun.countDown(); }
+        }, 0);
+        hasRun.await();
     }
 
     // ---- a cache without a limit
