@@ -189,9 +189,12 @@ class Runners(WithPackage):
 
     @needs_commands("mocha")
     def test_mocha(self):
-        mocha = os.path.realpath(shutil.which("mocha"))
-        self.assertEqual(self.node(mocha, "--timeout", "0", "shop.test.mjs")[0], 0)
-        status, said = self.node(mocha, "--timeout", "0", "shop.test.mjs", LEAKS="1")
+        words = [os.path.realpath(shutil.which("mocha")), "--timeout", "0", "shop.test.mjs"]
+        modules = {"NODE_PATH": "/usr/share/nodejs"}  # where Debian's mocha has its parts
+        if self.node(words[0], "--version", **modules)[0]:
+            self.skipTest("mocha doesn't run with this node")
+        self.assertEqual(self.node(*words, **modules)[0], 0)
+        status, said = self.node(*words, LEAKS="1", **modules)
         self.assertEqual(status, 1)
         self.assertRegex(said, self.path_of_session)
 
