@@ -37,6 +37,7 @@ def parser() -> argparse.ArgumentParser:
     made.add_argument("--html", metavar="FILE", help="writes a page that stands alone")
     made.add_argument("--junit", metavar="FILE", help="writes JUnit XML, with a failed test for each group")
     made.add_argument("--sarif", metavar="FILE", help="writes SARIF 2.1.0, with a result for each group")
+    command_line.add_version(made)
     command_line.add_gcaudit(made)
     return made
 
