@@ -107,7 +107,7 @@ class Guide(InFolder):
     @needs_commands("node", "bash")
     def test_snapshot(self):
         self.command("gcsnap", SNAPSHOTS + ' "$@"')
-        self.run_section("A heap to ask later")
+        self.run_section("A heap kept for later")
 
     def test_the_picture_is_there(self):
         with open(os.path.join(os.path.dirname(GUIDE), "view.png"), "rb") as file:
