@@ -9,6 +9,8 @@ See README.md beside this file.
 """
 from gcaudit_trace import TraceError
 
-from .recorder import HeapViolation, Recorder, audited
+from .auditing import audited
+from .recorder import Recorder
+from .violation import HeapViolation
 
 __all__ = ["HeapViolation", "Recorder", "TraceError", "audited"]

@@ -10,49 +10,64 @@ import weakref
 from collections import deque
 from typing import Any, Callable, Dict, List, NamedTuple, Optional, Tuple, Union
 
-from gcaudit_trace.names import cut, legal_name
+from gcaudit_trace.traces.names import cut, legal_name
 
 # A label, or the index of an element; and what is held there. The label WEAK says that it is held weakly.
 Label = Union[str, int]
 Content = Tuple[Label, Any]
 
 WEAK = "(weak)"
-CellType = type((lambda x: lambda: x)(0).__closure__[0])
+CellType = types.CellType
 PLAIN = frozenset({int, float, complex, bool, str, bytes, type(None), type(Ellipsis), type(NotImplemented), range})
 PROXIES = frozenset({weakref.ProxyType, weakref.CallableProxyType})
 OWN_MODULES = ("gcaudit_recorder.", "gcaudit_trace.")
-_LEFT_OUT = frozenset({
-    types.CodeType, types.GetSetDescriptorType, types.MemberDescriptorType, types.WrapperDescriptorType, types.MethodDescriptorType,
-    types.ClassMethodDescriptorType})
+_LEFT_OUT = frozenset(
+    {
+        types.CodeType,
+        types.GetSetDescriptorType,
+        types.MemberDescriptorType,
+        types.WrapperDescriptorType,
+        types.MethodDescriptorType,
+        types.ClassMethodDescriptorType,
+    }
+)
 _GENERATORS = (types.GeneratorType, types.CoroutineType, types.AsyncGeneratorType)
 _UNCHANGING = frozenset({tuple, frozenset})
-_HAS_GC = 1 << 14       # a type's objects have a head for Python's collector
+_HAS_GC = 1 << 14  # a type's objects have a head for Python's collector
 _IS_HEAP_TYPE = 1 << 9
 _GC_HEAD = 16
-LONG_TEXT = 256         # a text or bytes of more than this count for the object that holds them
-_OPTIMIZED = 1          # code whose variables don't stand in a dict
-_class_dict = type.__dict__["__dict__"].__get__
-_module_dict = types.ModuleType.__dict__["__dict__"].__get__
-_qualified = type.__dict__["__qualname__"].__get__
-_module = type.__dict__["__module__"].__get__
-_order = type.__dict__["__mro__"].__get__
-_bases = type.__dict__["__bases__"].__get__
-_flags = type.__dict__["__flags__"].__get__
+LONG_TEXT = 256  # a text or bytes of more than this count for the object that holds them
+_OPTIMIZED = 1  # code whose variables don't stand in a dict
+
+
+def _descriptor(kind: type, name: str) -> Any:
+    """What a built-in type has under a name, by which it is read without a method of the program's."""
+    return vars(kind)[name]
+
+
+class_dict = _descriptor(type, "__dict__").__get__
+_module_dict = _descriptor(types.ModuleType, "__dict__").__get__
+_qualified = _descriptor(type, "__qualname__").__get__
+_module = _descriptor(type, "__module__").__get__
+_order = _descriptor(type, "__mro__").__get__
+_bases = _descriptor(type, "__bases__").__get__
+_flags = _descriptor(type, "__flags__").__get__
 
 
 class Shape(NamedTuple):
     """What all objects of one type have in common."""
+
     name: str
-    left_out: bool                  # never an object of a trace
-    inner: bool                     # one only where classes, modules and frames are asked for
-    weakly: bool                    # objects of the type can be referred to weakly
-    grows: bool                     # what an object holds can become more
+    left_out: bool  # never an object of a trace
+    inner: bool  # one only where classes, modules and frames are asked for
+    weakly: bool  # objects of the type can be referred to weakly
+    grows: bool  # what an object holds can become more
     reader: Callable[[Any, "Shape"], List[Content]]
-    own_dict: Optional[Any]         # the descriptor of __dict__
-    members: Tuple[Tuple[str, Any], ...]    # label and descriptor of each name in __slots__
-    size: Callable[[Any], int]      # the bytes of an object itself
-    head: int                       # the bytes before it
-    of_program: bool                # a class that a program can make: objects hold it
+    own_dict: Any  # the descriptor of __dict__
+    members: Tuple[Tuple[str, Any], ...]  # label and descriptor of each name in __slots__
+    size: Callable[[Any], int]  # the bytes of an object itself
+    head: int  # the bytes before it
+    of_program: bool  # a class that a program can make: objects hold it
 
 
 _shapes: Dict[int, Tuple[Any, Shape]] = {}
@@ -70,8 +85,14 @@ def shape_of(obj: Any) -> Shape:
 
 
 # Python 3.8 has other names for these. They are found by address, since a class may have a hash of its own.
-_REFERENCES = {id(kind): "weakref." + name for name, kind in
-               (("ReferenceType", weakref.ReferenceType), ("ProxyType", weakref.ProxyType), ("CallableProxyType", weakref.CallableProxyType))}
+_REFERENCES = {
+    id(kind): "weakref." + name
+    for name, kind in (
+        ("ReferenceType", weakref.ReferenceType),
+        ("ProxyType", weakref.ProxyType),
+        ("CallableProxyType", weakref.CallableProxyType),
+    )
+}
 
 
 def type_name(kind: type) -> str:
@@ -116,8 +137,8 @@ def object_name(obj: Any, shape: Shape) -> str:
 
 def _new_shape(kind: type) -> Shape:
     own_dict, members, size = None, [], None
-    for base in _order(kind) or ():     # a type of C code that isn't ready has none
-        for name, found in list(_class_dict(base).items()):
+    for base in _order(kind) or ():  # a type of C code that isn't ready has none
+        for name, found in list(class_dict(base).items()):
             if name == "__dict__" and type(found) in (types.GetSetDescriptorType, types.MemberDescriptorType):
                 own_dict = own_dict or found
             elif type(found) is types.MemberDescriptorType and kind is not types.FunctionType:
@@ -126,8 +147,19 @@ def _new_shape(kind: type) -> Shape:
                 size = found
     inner = issubclass(kind, (type, types.ModuleType)) or kind is types.FrameType
     left_out = kind in PLAIN or kind in _LEFT_OUT or (module_of(kind) + ".").startswith(OWN_MODULES)
-    return Shape(type_name(kind), left_out, inner, kind.__weakrefoffset__ != 0, kind not in _UNCHANGING, _reader(kind), own_dict, tuple(members),
-                 size or object.__sizeof__, _GC_HEAD if _flags(kind) & _HAS_GC else 0, bool(_flags(kind) & _IS_HEAP_TYPE))
+    return Shape(
+        type_name(kind),
+        left_out,
+        inner,
+        kind.__weakrefoffset__ != 0,
+        kind not in _UNCHANGING,
+        _reader(kind),
+        own_dict,
+        tuple(members),
+        size or object.__sizeof__,
+        _GC_HEAD if _flags(kind) & _HAS_GC else 0,
+        bool(_flags(kind) & _IS_HEAP_TYPE),
+    )
 
 
 def _reader(kind: type) -> Callable[[Any, Shape], List[Content]]:
@@ -160,8 +192,12 @@ class _Plain:
 def _holds_by_its_dict(kind: type) -> bool:
     """Whether objects of the type hold nothing but what stands in their __dict__: classes of a program, without slots and built-in bases."""
     bases = [base for base in _order(kind) or (kind,) if base is not object]
-    return (kind.__basicsize__ == _Plain.__basicsize__ and kind.__dictoffset__ == _Plain.__dictoffset__ and kind.__itemsize__ == 0
-            and all(_flags(base) & _IS_HEAP_TYPE and "__slots__" not in _class_dict(base) for base in bases))
+    return (
+        kind.__basicsize__ == _Plain.__basicsize__
+        and kind.__dictoffset__ == _Plain.__dictoffset__
+        and kind.__itemsize__ == 0
+        and all(_flags(base) & _IS_HEAP_TYPE and "__slots__" not in class_dict(base) for base in bases)
+    )
 
 
 def _of_instance(obj: Any, shape: Shape) -> List[Content]:
@@ -238,7 +274,11 @@ def _items(obj: dict) -> List[Content]:
 
 
 def _attributes(names: Dict[str, Any]) -> List[Content]:
-    return [(_ATTRIBUTE_LABELS.get(name) or _attribute_label(name), held) for name, held in list(names.items()) if type(name) is str]
+    return [
+        (_ATTRIBUTE_LABELS.get(name) or _attribute_label(name), held)
+        for name, held in list(names.items())
+        if type(name) is str
+    ]
 
 
 _ATTRIBUTE_LABELS: Dict[str, str] = {}
@@ -269,13 +309,12 @@ def _of_any(obj: Any, shape: Shape) -> List[Content]:
         if issubclass(kind, dict):
             found += _items(obj)
         elif issubclass(kind, (list, tuple)):
-            base = list if issubclass(kind, list) else tuple
-            found += enumerate(base.__iter__(obj))
+            found += enumerate(list.__iter__(obj) if issubclass(kind, list) else tuple.__iter__(obj))
         elif issubclass(kind, deque):
             found += enumerate(list(deque.__iter__(obj)))
         elif issubclass(kind, (set, frozenset)):
-            base = set if issubclass(kind, set) else frozenset
-            found += [("(element)", one) for one in list(base.__iter__(obj))]
+            elements = set.__iter__(obj) if issubclass(kind, set) else frozenset.__iter__(obj)
+            found += [("(element)", one) for one in list(elements)]
         elif shape.name == "numpy.ndarray":
             found += _of_array(obj)
     found += _unnamed(gc.get_referents(obj), found, merged, kind)
@@ -314,13 +353,17 @@ def _unnamed(referents: List[Any], named: List[Content], *others: Any) -> List[C
 def _of_function(obj: Any, shape: Shape) -> List[Content]:
     """The variables that a function closes over, its defaults and attributes; not its module's globals."""
     closure = obj.__closure__
-    found: List[Content] = [("(variable %s)" % name, cell) for name, cell in zip(obj.__code__.co_freevars, closure or ())]
+    found: List[Content] = [
+        ("(variable %s)" % name, cell) for name, cell in zip(obj.__code__.co_freevars, closure or ())
+    ]
     merged = shape.own_dict.__get__(obj)
     found += _attributes(merged)
     for label, held in ((".__defaults__", obj.__defaults__), (".__kwdefaults__", obj.__kwdefaults__)):
         if held is not None:
             found.append((label, held))
-    return found + _unnamed(gc.get_referents(obj), found, merged, obj.__globals__, getattr(obj, "__builtins__", None), closure)
+    return found + _unnamed(
+        gc.get_referents(obj), found, merged, obj.__globals__, getattr(obj, "__builtins__", None), closure
+    )
 
 
 def _of_generator(obj: Any, shape: Shape) -> List[Content]:
@@ -345,7 +388,13 @@ def locals_of(frame: types.FrameType) -> Dict[str, Any]:
     code = frame.f_code
     is_made = type(told) is dict and code.co_flags & _OPTIMIZED
     # This function and the frame hold the dict; who else has it called locals(), or traces the program.
-    if is_made and sys.getrefcount(told) <= 3 and frame.f_trace is None and sys.gettrace() is None and sys.getprofile() is None:
+    if (
+        is_made
+        and sys.getrefcount(told) <= 3
+        and frame.f_trace is None
+        and sys.gettrace() is None
+        and sys.getprofile() is None
+    ):
         for name in code.co_varnames + code.co_cellvars + code.co_freevars:
             told.pop(name, None)
     return found
@@ -358,7 +407,7 @@ def _of_frame(obj: types.FrameType, shape: Shape) -> List[Content]:
 
 
 def _of_class(obj: type, shape: Shape) -> List[Content]:
-    found = _attributes(_class_dict(obj))
+    found = _attributes(class_dict(obj))
     return found + [("(base)", base) for base in _bases(obj)]
 
 

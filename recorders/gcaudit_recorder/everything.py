@@ -16,7 +16,11 @@ def everything(walk: Walk) -> None:
     walk.from_roots([(name, obj) for name, obj in _modules()])
     walk.from_roots(list(_interpreter()))
     walk.from_roots(list(_frames()))
-    classes = [obj for obj in gc.get_objects() if isinstance(obj, type) and not walk.has(obj) and not (module_of(obj) + ".").startswith(OWN_MODULES)]
+    classes = [
+        obj
+        for obj in gc.get_objects()
+        if isinstance(obj, type) and not walk.has(obj) and not (module_of(obj) + ".").startswith(OWN_MODULES)
+    ]
     walk.from_roots([("class " + type_name(cls), cls) for cls in classes])
 
 

@@ -3,9 +3,9 @@ import gc
 import sys
 import threading
 import types
-from typing import Any, Dict, Iterable, Iterator, List, NamedTuple, Set, Tuple
+from typing import Any, Dict, Iterable, Iterator, List, NamedTuple, Optional, Set, Tuple
 
-from .contents import PLAIN, Label, contents, is_own_frame, locals_of, object_name, shape_of
+from .contents import PLAIN, Label, class_dict, contents, is_own_frame, locals_of, object_name, shape_of
 
 NOBODY = "no object that Python's collector knows: the interpreter, C code, or a running call"
 _MOST_LEVELS = 40
@@ -14,6 +14,7 @@ _MOST_OBJECTS = 20000
 
 class Link(NamedTuple):
     """A holder, and the label of the place where it holds the next one, or at last the object in question."""
+
     name: str
     label: str
 
@@ -21,7 +22,8 @@ class Link(NamedTuple):
 def running_frames() -> Iterator[Tuple[str, types.FrameType]]:
     """The frames of all threads with the names of the threads, but for the recorder's own."""
     names = {thread.ident: thread.name for thread in threading.enumerate()}
-    for ident, frame in list(sys._current_frames().items()):
+    for ident, innermost in list(sys._current_frames().items()):
+        frame: Optional[types.FrameType] = innermost
         while frame is not None:
             if not is_own_frame(frame):
                 yield names.get(ident, "thread %d" % ident), frame
@@ -35,8 +37,8 @@ class _Search:
         self._sought = objects
         self._own = own
         self._nodes: Dict[int, Any] = {id(obj): obj for obj in objects}
-        self._held: Dict[int, List[int]] = {}               # by the address of a holder, what it holds of the nodes
-        self._locals: Dict[int, Tuple[str, str]] = {}       # by address, the frame and the variable that hold it
+        self._held: Dict[int, List[int]] = {}  # by the address of a holder, what it holds of the nodes
+        self._locals: Dict[int, Tuple[str, str]] = {}  # by address, the frame and the variable that hold it
         self._anchors: List[int] = []
 
     def chains(self) -> Dict[int, List[Link]]:
@@ -98,7 +100,7 @@ class _Search:
         above: Dict[int, int] = {}
         order = list(dict.fromkeys(tops))
         seen = set(order)
-        for address in order:   # grows while it is gone through
+        for address in order:  # grows while it is gone through
             for below in self._held.get(address, ()):
                 if below not in seen:
                     seen.add(below)
@@ -122,7 +124,7 @@ class _Search:
             holder, held = objects[place], objects[place + 1]
             merged = _own_dict(holder)
             if merged is held and place + 2 < len(objects):
-                held = objects[place + 2]     # through its __dict__, which stands in no trace
+                held = objects[place + 2]  # through its __dict__, which stands in no trace
                 place += 1
             links.append(Link(object_name(holder, shape_of(holder)), _label(holder, held)))
             place += 1
@@ -138,7 +140,7 @@ def _is_own(holder: Any) -> bool:
 def _own_dict(holder: Any) -> Any:
     """The dict of an object's attributes, as gc.get_referrers tells it; None where it has none."""
     if isinstance(holder, type):
-        return gc.get_referents(type.__dict__["__dict__"].__get__(holder))[0]
+        return gc.get_referents(class_dict(holder))[0]
     shape = shape_of(holder)
     return None if shape.own_dict is None else shape.own_dict.__get__(holder)
 

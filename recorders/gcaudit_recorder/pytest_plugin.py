@@ -15,18 +15,19 @@ import pytest
 
 from gcaudit_trace import TraceError
 
-from .recorder import HeapViolation, Recorder
+from .recorder import Recorder
+from .violation import HeapViolation
 
 
 def pytest_addoption(parser):
     parser.getgroup("gcaudit").addoption("--gcaudit", metavar="PROGRAM", default=None, help="the program gcaudit")
 
 
-class HeapFailure(pytest.fail.Exception, HeapViolation):
+class HeapFailure(pytest.fail.Exception, HeapViolation):  # type: ignore[name-defined]
     """A violation as the failure of a test: without a traceback, and an AssertionError, as xfail(raises=AssertionError) wants it."""
 
     def __init__(self, violation: HeapViolation) -> None:
-        super().__init__(str(violation), pytrace=False)
+        super().__init__(str(violation), pytrace=False)  # type: ignore[call-arg]
         self.report, self.named, self.trace = violation.report, violation.named, violation.trace
 
 

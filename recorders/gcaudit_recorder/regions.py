@@ -16,9 +16,11 @@ class Region:
     """A region that is open, or whose objects are looked at."""
 
     def __init__(self) -> None:
-        self.fresh: Set[int] = set()        # the addresses of tracked objects that were seen new before something was frozen again
+        self.fresh: Set[
+            int
+        ] = set()  # the addresses of tracked objects that were seen new before something was frozen again
         self.fresh_plain: Set[int] = set()  # of untracked ones
-        self.old: Dict[int, Any] = {}       # untracked objects that are no new ones, or weak references to them
+        self.old: Dict[int, Any] = {}  # untracked objects that are no new ones, or weak references to them
 
     def hold_untracked(self) -> None:
         """Holds what is there, isn't tracked, and isn't new."""

@@ -5,15 +5,16 @@ from array import array
 from bisect import bisect_right
 from typing import Any, Callable, Dict, Iterable, Iterator, List, Optional, Set, Tuple
 
-from gcaudit_trace.growth import Counts
-from gcaudit_trace.paths import Holder, is_between, named_holder
-from gcaudit_trace.writer import MOST_OBJECTS, TraceError
+from gcaudit_trace import TraceError
+from gcaudit_trace.graphs.paths import Holder, is_between, named_holder
+from gcaudit_trace.reports.growth import Counts
+from gcaudit_trace.traces.limits import MOST_OBJECTS
 
 from .contents import LONG_TEXT, PLAIN, PROXIES, WEAK, Label, Shape, contents, object_name, shape_of, size_of
 
 _NONE = 0xFFFFFFFF
-WEAK_LABEL = 0          # the number of the label WEAK
-EMPTY = (0, -1 << 31)   # a slot that holds nothing: no id, and no label
+WEAK_LABEL = 0  # the number of the label WEAK
+EMPTY = (0, -1 << 31)  # a slot that holds nothing: no id, and no label
 _SHOWN_TYPES = 8
 
 
@@ -26,7 +27,7 @@ class Labels:
         self._indexes: List[str] = []
 
     def number(self, label: Label) -> int:
-        if type(label) is int:
+        if isinstance(label, int):
             return -1 - label
         found = self._numbers.get(label)
         if found is None:
@@ -51,18 +52,18 @@ class Traced:
     def __init__(self) -> None:
         self.place_of: Dict[int, int] = {}
         # Of each place:
-        self.numbers = array("I")                   # the id in the trace; 0 where it has none yet
-        self.rooms = array("I")                     # how many slots the object itself has there
-        self.names: List[str] = []                  # its type there
+        self.numbers = array("I")  # the id in the trace; 0 where it has none yet
+        self.rooms = array("I")  # how many slots the object itself has there
+        self.names: List[str] = []  # its type there
         self.weak: List[Optional[weakref.ref]] = []
-        self.starts = array("Q", [0])               # where what it holds begins in the arrays that follow
-        self.targets = array("I")                   # the place of what is held; _NONE where the trace doesn't have it
+        self.starts = array("Q", [0])  # where what it holds begins in the arrays that follow
+        self.targets = array("I")  # the place of what is held; _NONE where the trace doesn't have it
         self.labels = array("i")
         # Of few of them:
-        self.held_by: Dict[int, Set[int]] = {}      # by place, the serial numbers of the holds that held the object itself
+        self.held_by: Dict[int, Set[int]] = {}  # by place, the serial numbers of the holds that held the object itself
         self.more: Dict[int, Tuple[int, int]] = {}  # by id, the object with the further slots, and how many it has
-        self.owns: Set[int] = set()                 # the ids of what the trace says to own something
-        self.proxied: Dict[int, int] = {}           # by the id of a proxy, the id of what it stands for
+        self.owns: Set[int] = set()  # the ids of what the trace says to own something
+        self.proxied: Dict[int, int] = {}  # by the id of a proxy, the id of what it stands for
 
     def __len__(self) -> int:
         return len(self.numbers)
@@ -70,16 +71,27 @@ class Traced:
     def slots(self, place: int) -> List[Tuple[int, int]]:
         """What the trace has in the slots of an object: an id, or 0, and the label."""
         numbers = self.numbers
-        found = [EMPTY if to == _NONE else (numbers[to], label)
-                 for to, label in zip(self.targets[self.starts[place]:self.starts[place + 1]], self.labels[self.starts[place]:self.starts[place + 1]])]
+        found = [
+            EMPTY if to == _NONE else (numbers[to], label)
+            for to, label in zip(
+                self.targets[self.starts[place] : self.starts[place + 1]],
+                self.labels[self.starts[place] : self.starts[place + 1]],
+            )
+        ]
         to = self.proxied.get(numbers[place])
         return found if to is None else found + [(to, WEAK_LABEL)]
 
     def fillings(self, first: int, end: int, endings: List[str]) -> List[Tuple[str, int, bool]]:
         """The same of a new object that holds these edges, as `TraceWriter.fill_by_endings` takes it; `endings` has those of the labels that are texts."""
         numbers = self.numbers
-        return [(endings[label] if label >= 0 else ',"label":"[%d]"}\n' % (-1 - label), 0 if to == _NONE else numbers[to], label == WEAK_LABEL)
-                for to, label in zip(self.targets[first:end], self.labels[first:end])]
+        return [
+            (
+                endings[label] if label >= 0 else ',"label":"[%d]"}\n' % (-1 - label),
+                0 if to == _NONE else numbers[to],
+                label == WEAK_LABEL,
+            )
+            for to, label in zip(self.targets[first:end], self.labels[first:end])
+        ]
 
 
 class Walk:
@@ -90,19 +102,21 @@ class Walk:
         self._labels = labels
         self._deep = deep
         self._held = held
-        self._recorded: Dict[type, bool] = {}               # whether objects of the type are objects of the trace
-        self._inner_roots: Set[int] = set()                 # the addresses of classes and modules that are roots
-        self._weak_edges: List[Tuple[int, Any]] = []        # the place among the targets, and what is held weakly there
-        self._proxies: Dict[int, int] = {}                  # by address, the place
+        self._recorded: Dict[type, bool] = {}  # whether objects of the type are objects of the trace
+        self._inner_roots: Set[int] = set()  # the addresses of classes and modules that are roots
+        self._weak_edges: List[Tuple[int, Any]] = []  # the place among the targets, and what is held weakly there
+        self._proxies: Dict[int, int] = {}  # by address, the place
         self.roots: List[Tuple[str, Any]] = []
-        self._root_names: Dict[int, str] = {}               # by address
-        self.objects: List[Any] = []        # held while the walk is there, so no address is used twice
+        self._root_names: Dict[int, str] = {}  # by address
+        self.objects: List[Any] = []  # held while the walk is there, so no address is used twice
         self.shapes: List[Shape] = []
-        self.first_edges = array("Q")       # of each object the place of the edge by which it was met first; _FIRST for a root
+        self.first_edges = array(
+            "Q"
+        )  # of each object the place of the edge by which it was met first; _FIRST for a root
         self.is_traced = bytearray()
         self.sizes = array("Q")
         self.now = Traced()
-        self._read = 0                      # so many objects have been read
+        self._read = 0  # so many objects have been read
 
     # ---- which objects there are
 
@@ -156,8 +170,10 @@ class Walk:
             name = shape_of(obj).name
             counts[name] = counts.get(name, 0) + 1
         most = sorted(counts.items(), key=lambda one: (-one[1], one[0]))[:_SHOWN_TYPES]
-        return TraceError("the roots reach more than %d objects, which gcaudit doesn't take; name a root nearer to what is in question. Most are of: %s"
-                          % (MOST_OBJECTS, ", ".join("%s %d" % one for one in most)))
+        return TraceError(
+            "the roots reach more than %d objects, which gcaudit doesn't take; name a root nearer to what is in question. Most are of: %s"
+            % (MOST_OBJECTS, ", ".join("%s %d" % one for one in most))
+        )
 
     def _records(self, held: Any) -> bool:
         """Whether objects of its type are objects of the trace."""
@@ -169,7 +185,7 @@ class Walk:
 
     def _go_on(self) -> None:
         shapes: Dict[type, Shape] = {}
-        for obj in itertools.islice(self.objects, self._read, None):    # they become more meanwhile
+        for obj in itertools.islice(self.objects, self._read, None):  # they become more meanwhile
             shape = shapes.get(type(obj))
             if shape is None:
                 shape = shapes[type(obj)] = shape_of(obj)
@@ -180,7 +196,7 @@ class Walk:
             else:
                 try:
                     found = shape.reader(obj, shape)
-                except RuntimeError:    # another thread changed it meanwhile
+                except RuntimeError:  # another thread changed it meanwhile
                     found = contents(obj, shape)
             self._end_object(found, shape)
 
@@ -189,13 +205,19 @@ class Walk:
         place = self._read
         objects, now, place_of, first_edges = self.objects, self.now, self.now.place_of, self.first_edges
         obj = objects[place]
-        targets, labels, number_of, recorded_of, is_traced = now.targets, now.labels, self._labels.number, self._recorded, self.is_traced
-        texts = 0       # the bytes of the long texts that it holds
+        targets, labels, number_of, recorded_of, is_traced = (
+            now.targets,
+            now.labels,
+            self._labels.number,
+            self._recorded,
+            self.is_traced,
+        )
+        texts = 0  # the bytes of the long texts that it holds
         for label, held in found:
             kind = type(held)
             if kind in PLAIN:
                 if (kind is str or kind is bytes) and len(held) > LONG_TEXT:
-                    texts += kind.__sizeof__(held)
+                    texts += held.__sizeof__()
                 continue
             recorded = recorded_of.get(kind)
             if not recorded and (recorded is False or not self._records(held)):
@@ -215,7 +237,7 @@ class Walk:
                 first_edges.append(len(targets))
                 is_traced.append(1)
             elif not is_traced[to]:
-                is_traced[to] = 1       # an owner that nothing had reached so far
+                is_traced[to] = 1  # an owner that nothing had reached so far
             targets.append(to)
             labels.append(-1 - label if type(label) is int else number_of(label))
         now.starts.append(len(targets))
@@ -233,10 +255,14 @@ class Walk:
         for edge, held in self._weak_edges:
             now.targets[edge] = now.place_of.get(id(held), _NONE)
         now.weak = [weakref.ref(obj) if shape.weakly else None for obj, shape in zip(self.objects, self.shapes)]
-        now.names = [object_name(obj, shape) if shape.inner else shape.name for obj, shape in zip(self.objects, self.shapes)]
+        now.names = [
+            object_name(obj, shape) if shape.inner else shape.name for obj, shape in zip(self.objects, self.shapes)
+        ]
         now.numbers = array("I", bytes(4 * len(self.objects)))
         now.rooms = array("I", bytes(4 * len(self.objects)))
-        now.held_by = {now.place_of[address]: serials for address, serials in self._held.items() if address in now.place_of}
+        now.held_by = {
+            now.place_of[address]: serials for address, serials in self._held.items() if address in now.place_of
+        }
         for place, obj in enumerate(self.objects):
             old = known.place_of.get(id(obj))
             if old is not None and self._is_same(place, old, obj) and not fresh(obj):
@@ -257,9 +283,9 @@ class Walk:
             return False
         if old in known.held_by:
             return bool(known.held_by[old] & now.held_by.get(place, set()))
-        held_then = set(known.targets[known.starts[old]:known.starts[old + 1]])
+        held_then = set(known.targets[known.starts[old] : known.starts[old + 1]])
         tells = any(to != _NONE and known.weak[to] is not None for to in held_then)
-        for to in now.targets[now.starts[place]:now.starts[place + 1]]:
+        for to in now.targets[now.starts[place] : now.starts[place + 1]]:
             if to == _NONE or now.weak[to] is None:
                 continue
             tells = True

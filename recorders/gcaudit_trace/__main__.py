@@ -1,39 +1,7 @@
 """Audits a trace and prints the report with the slots named: python3 -m gcaudit_trace TRACE"""
-import argparse
 import sys
 
-from . import command
-from .instances import with_instances
-from .program import audit
-from .reading import trace_file
-
-_PROGRAM = "gcaudit-named"
-
-
-def parser() -> argparse.ArgumentParser:
-    made = argparse.ArgumentParser(prog=_PROGRAM, description="Audits a trace with gcaudit, and prints its report with the "
-                                   "names that the program gives to slots (attributes, keys, indexes). The status is gcaudit's.")
-    made.add_argument("trace", metavar="TRACE", nargs="?", default="-", help="the trace; without it or for -, standard input")
-    made.add_argument("--output", metavar="FILE", help="where the report is written, else standard output")
-    command.add_gcaudit(made)
-    made.add_argument("--all-instances", action="store_true", help="a path to each object of a type that has more than its limit")
-    return made
-
-
-def main(words=None) -> int:
-    asked = parser().parse_args(words)
-
-    def work() -> int:
-        command.keep_apart([asked.trace], [asked.output])
-        progress = command.Progress(_PROGRAM, 2.0)
-        with trace_file(asked.trace) as trace:
-            done = audit(trace, asked.gcaudit, command.gcaudit_options(asked), progress)
-            text = with_instances(done, trace) if asked.all_instances else done.named
-        with command.output_to(asked.output) as out:
-            out.write(text)
-        return done.status
-    return command.run(_PROGRAM, work)
-
+from .commands.named import main
 
 if __name__ == "__main__":
     sys.exit(main())

@@ -5,25 +5,28 @@ from array import array
 from collections import Counter
 from itertools import chain, compress, repeat
 from operator import floordiv, mod
-from typing import BinaryIO, Dict, Iterator, List, Set, Tuple
+from typing import BinaryIO, Callable, Dict, Iterator, List, Set, Tuple
 
 from gcaudit_trace import TraceError
-from gcaudit_trace.dumps import DumpFile, Progress, Wishes, output_of, say_left_out
-from gcaudit_trace.passing import LeftOut
+from gcaudit_trace.dumps.command import say_left_out
+from gcaudit_trace.dumps.options import Wishes
+from gcaudit_trace.dumps.output import DumpFile, output_of
+from gcaudit_trace.graphs.left_out import LeftOut
+from gcaudit_trace.progress import Progress
 
 from .reader import Reader, read_members
 
 # Plain values: they hold nothing but parts of themselves.
 PLAIN = frozenset({"string", "concatenated string", "sliced string", "number", "symbol", "bigint"})
-_BY_NAME = frozenset({"object", "synthetic", "native"})     # nodes whose class is their name
+_BY_NAME = frozenset({"object", "synthetic", "native"})  # nodes whose class is their name
 _MOST_FUNCTION_NAMES = 30000
 # Through its class an object leads to nearly all of the program: everything would be its owner's, and everything that
 # is left out would lead to what is kept. So these edges are left out of both.
 _TO_CLASS = frozenset({("internal", "map"), ("property", "__proto__")})
-_NUMBERED = frozenset({"element", "hidden"})                # edges that have a number for a name
-_MOST_KINDS = 256                                           # a type is kept in one byte
+_NUMBERED = frozenset({"element", "hidden"})  # edges that have a number for a name
+_MOST_KINDS = 256  # a type is kept in one byte
 
-Edge = Tuple[int, int, int, int]    # the codes of what is held and of who holds, the type, and the name or index
+Edge = Tuple[int, int, int, int]  # the codes of what is held and of who holds, the type, and the name or index
 
 
 class Snapshot:
@@ -40,29 +43,34 @@ class Snapshot:
         self.names = array("I")
         self.edge_counts = array("I")
         self.sizes = array("Q")
-        self.codes = array("i")             # as in `left`; 0 where it is neither kept nor left out
+        self.codes = array("i")  # as in `left`; 0 where it is neither kept nor left out
         self.kept_nodes = array("I")
         self.left_nodes = array("I")
-        self._unshared: Set[int] = set()    # the codes of kept nodes that are asserted unshared
+        self._unshared: Set[int] = set()  # the codes of kept nodes that are asserted unshared
         self.left = LeftOut(self._label_of, self._unshared)
-        self._left_kinds = bytearray()      # of each reference that a left-out node holds
+        self._left_kinds = bytearray()  # of each reference that a left-out node holds
         self._left_names = array("I")
         self.left_out: Dict[str, int] = {}  # how many nodes of each class are left out
         self.texts: Dict[int, str] = {}
         self.weak_lost = 0
-        self.to_classes = 0                 # references from objects to their classes that are left out
-        self._root_edges: List[Tuple[int, int, int]] = []   # the type, the name or index, and the node of each
-        self._class_edges: Set[Tuple[int, int]] = set()     # the type and name of those to classes
+        self.to_classes = 0  # references from objects to their classes that are left out
+        self._root_edges: List[Tuple[int, int, int]] = []  # the type, the name or index, and the node of each
+        self._class_edges: Set[Tuple[int, int]] = set()  # the type and name of those to classes
         self._class_names: Dict[Tuple[int, int], str] = {}  # by type and name
-        self._labels: Dict[Tuple[int, int], str] = {}       # by type and name
+        self._labels: Dict[Tuple[int, int], str] = {}  # by type and name
         self._wanted: Set[int] = set()
         self._node_width = 0
-        self._edges_start = 0               # where in the file they stand
+        self._edges_start = 0  # where in the file they stand
 
     # ---- the first time through: the nodes and the names
 
     def read(self) -> None:
-        takers = {"snapshot": self._take_meta, "nodes": self._take_nodes, "edges": self._take_edge_names, "strings": self._take_strings}
+        takers: Dict[str, Callable[[Reader], None]] = {
+            "snapshot": self._take_meta,
+            "nodes": self._take_nodes,
+            "edges": self._take_edge_names,
+            "strings": self._take_strings,
+        }
         read_members(Reader(self.file, self.name, self.progress, "reading the nodes", self.size), takers)
         self._choose()
 
@@ -76,7 +84,9 @@ class Snapshot:
             self.kind_words = list(meta["node_types"][nodes.index("type")])
             self.edge_words = list(meta["edge_types"][edges.index("type")])
             self._node_width, self._edge_width = len(nodes), len(edges)
-            self._kind_at, self._name_at, self._count_at = (nodes.index(field) for field in ("type", "name", "edge_count"))
+            self._kind_at, self._name_at, self._count_at = (
+                nodes.index(field) for field in ("type", "name", "edge_count")
+            )
             self._size_at = nodes.index("self_size") if "self_size" in nodes else None
             self._edge_at = tuple(edges.index(field) for field in ("type", "name_or_index", "to_node"))
         except (KeyError, ValueError, TypeError, IndexError, AttributeError):
@@ -104,10 +114,12 @@ class Snapshot:
             raise self._wrong("its description doesn't come first")
         try:
             for rows in self._rows(reader, width):
-                self.kinds.extend(rows[self._kind_at::width])
-                self.names.extend(rows[self._name_at::width])
-                self.edge_counts.extend(rows[self._count_at::width])
-                self.sizes.extend(rows[self._size_at::width] if self._size_at is not None else repeat(0, len(rows) // width))
+                self.kinds.extend(rows[self._kind_at :: width])
+                self.names.extend(rows[self._name_at :: width])
+                self.edge_counts.extend(rows[self._count_at :: width])
+                self.sizes.extend(
+                    rows[self._size_at :: width] if self._size_at is not None else repeat(0, len(rows) // width)
+                )
         except (OverflowError, ValueError):
             raise self._wrong("a node has a number that can't be") from None
         if self.kinds and max(self.kinds) >= len(self.kind_words):
@@ -132,24 +144,36 @@ class Snapshot:
                 kinds = bytes(rows[kind_at::width])
             except ValueError:
                 kinds = b"\xff"
-            if kinds and (max(kinds) >= len(self.edge_words) or min(targets) < 0 or max(targets) >= end
-                          or any(map(mod, targets, repeat(node_width)))):
+            if kinds and (
+                max(kinds) >= len(self.edge_words)
+                or min(targets) < 0
+                or max(targets) >= end
+                or any(map(mod, targets, repeat(node_width)))
+            ):
                 raise self._wrong("an edge is of a type that has no name, or leads to no node")
             self._wanted.update(compress(rows[name_at::width], kinds.translate(is_named)))
             if whole < self.edge_counts[0]:
                 own = self.edge_counts[0] - whole
-                self._root_edges += zip(kinds[:own], rows[name_at::width][:own], map(floordiv, targets[:own], repeat(node_width)))
+                self._root_edges += zip(
+                    kinds[:own], rows[name_at::width][:own], map(floordiv, targets[:own], repeat(node_width))
+                )
             whole += len(kinds)
         if whole != sum(self.edge_counts):
-            raise self._wrong("its nodes say that there are %d edges, and there are %d" % (sum(self.edge_counts), whole))
+            raise self._wrong(
+                "its nodes say that there are %d edges, and there are %d" % (sum(self.edge_counts), whole)
+            )
 
     def _take_strings(self, reader: Reader) -> None:
         if not self._edges_start:
             raise self._wrong("its nodes and edges don't come first")
         self.texts = reader.strings(self._wanted)
         self._wanted = set()
-        self._class_edges = {(kind, name) for name, text in self.texts.items()
-                             for kind, word in enumerate(self.edge_words) if (word, text) in _TO_CLASS}
+        self._class_edges = {
+            (kind, name)
+            for name, text in self.texts.items()
+            for kind, word in enumerate(self.edge_words)
+            if (word, text) in _TO_CLASS
+        }
 
     # ---- which nodes are kept
 
@@ -162,7 +186,7 @@ class Snapshot:
                 self._count_left_out(word, self.kinds.count(kind) - (kind == self.kinds[0]))
         of_each = Counter(compress(zip(self.kinds, self.names), is_object))
         self._names_functions = sum(self.kind_words[kind] == "closure" for kind, _ in of_each) <= _MOST_FUNCTION_NAMES
-        keeps: Dict[Tuple[int, int], bool] = {}     # by type and name
+        keeps: Dict[Tuple[int, int], bool] = {}  # by type and name
         counts: Dict[str, int] = {}
         for key, count in of_each.items():
             self._class_names[key] = name = self._class_name(*key)
@@ -210,11 +234,13 @@ class Snapshot:
         """All edges, some at a time. A code is 0 where a node is neither kept nor left out."""
         width, node_width = self._edge_width, self._node_width
         kind_at, name_at, to_at = self._edge_at
-        holders = chain.from_iterable(map(repeat, self.codes, self.edge_counts))
+        holders: Iterator[int] = chain.from_iterable(map(repeat, self.codes, self.edge_counts))  # type: ignore[arg-type]
         reader = Reader(self.file, self.name, self.progress, step, self.size, self._edges_start)
         for rows in self._rows(reader, width):
             held = map(self.codes.__getitem__, map(floordiv, rows[to_at::width], repeat(node_width)))
-            yield zip(held, holders, rows[kind_at::width], rows[name_at::width])   # `held` first, which ends with the rows
+            yield zip(
+                held, holders, rows[kind_at::width], rows[name_at::width]
+            )  # `held` first, which ends with the rows
 
     def pass_over(self) -> int:
         """Where nodes are left out: decides what of them stays as joints, and how many these are."""
@@ -311,5 +337,7 @@ def convert(file: BinaryIO, asked: argparse.Namespace, progress: Progress, limit
         if snapshot.weak_lost:
             progress.say("%d weak references to objects that are left out have no slot" % snapshot.weak_lost)
         if snapshot.to_classes:
-            progress.say("%d references from objects to their classes are left out (map, __proto__)" % snapshot.to_classes)
+            progress.say(
+                "%d references from objects to their classes are left out (map, __proto__)" % snapshot.to_classes
+            )
         out.finish(snapshot.roots(), progress)

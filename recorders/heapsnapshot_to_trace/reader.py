@@ -4,11 +4,11 @@ import re
 from typing import Any, BinaryIO, Callable, Dict, Iterator, List, Optional, Set
 
 from gcaudit_trace import TraceError
-from gcaudit_trace.command import Progress
+from gcaudit_trace.progress import Progress
 
 PIECE = 1 << 20
 LONGEST_TEXT = 400
-_MOST_BYTES_OF_A_CHARACTER = 12     # two escapes, as \ud83d\ude00
+_MOST_BYTES_OF_A_CHARACTER = 12  # two escapes, as \ud83d\ude00
 _NO_BLANK = re.compile(rb"[^ \t\r\n]")
 _OF_NUMBERS = b"0123456789-, \t\r\n"
 _NEITHER = re.compile(rb'["\\]')
@@ -39,7 +39,7 @@ class Reader:
         """Reads on; what was taken is dropped. False at the end of the file."""
         piece = self._file.read(PIECE)
         self._read += len(piece)
-        self._data = self._data[self._at:] + piece
+        self._data = self._data[self._at :] + piece
         self._at = 0
         self._progress.at(self._step, self._read, self._size)
         return bool(piece)
@@ -77,12 +77,12 @@ class Reader:
             elif found.group() == b"\\":
                 if found.start() + 6 > len(self._data) and self.more():
                     continue
-                after = found.start() + (6 if self._data[found.start() + 1:found.start() + 2] == b"u" else 2)
+                after = found.start() + (6 if self._data[found.start() + 1 : found.start() + 2] == b"u" else 2)
                 end, ends = after, False
             else:
                 end, after, ends = found.start(), found.end(), True
             if wanted and length < (LONGEST_TEXT + 1) * _MOST_BYTES_OF_A_CHARACTER:
-                parts.append(self._data[self._at:end])
+                parts.append(self._data[self._at : end])
                 length += len(parts[-1])
                 is_whole = ends
             self._at = min(after, len(self._data))
@@ -102,7 +102,7 @@ class Reader:
                 text = json.loads('"' + text + '"', strict=False)
             except ValueError:
                 raise self.wrong() from None
-        return text[:LONGEST_TEXT + 1]
+        return text[: LONGEST_TEXT + 1]
 
     def value(self) -> Any:
         """The next JSON value, whole."""
@@ -123,7 +123,7 @@ class Reader:
             start = self._at
             self._at = len(self._data) if found is None else found.start()
             if keeps:
-                parts.append(self._data[start:self._at].decode("utf-8", "replace"))
+                parts.append(self._data[start : self._at].decode("utf-8", "replace"))
             if found is None:
                 if not self.more():
                     raise self.cut()
@@ -149,7 +149,7 @@ class Reader:
         left = b""
         while True:
             end = self._data.find(b"]", self._at)
-            text = left + (self._data[self._at:] if end < 0 else self._data[self._at:end])
+            text = left + (self._data[self._at :] if end < 0 else self._data[self._at : end])
             self._at = len(self._data) if end < 0 else end + 1
             if end < 0:
                 text, _, left = text.rpartition(b",")
@@ -204,7 +204,7 @@ def read_members(reader: Reader, takers: Dict[str, Callable[[Reader], None]]) ->
     while reader.next_sign() != b"}":
         name = reader.string()
         reader.take(b":")
-        taker = takers.get(name)
+        taker = None if name is None else takers.get(name)
         if taker is None:
             reader.skip()
         elif name in seen:

@@ -2,8 +2,8 @@
 from array import array
 from typing import Dict, Iterable, List
 
-_PAGE_BITS = 16         # a page has the addresses that differ in these bits alone
-_STEP_BITS = 3          # objects stand at multiples of eight
+_PAGE_BITS = 16  # a page has the addresses that differ in these bits alone
+_STEP_BITS = 3  # objects stand at multiples of eight
 _STEPS = 1 << (_PAGE_BITS - _STEP_BITS)
 _NOTHING = bytes(4 * _STEPS)
 
@@ -14,7 +14,7 @@ class Codes:
     def __init__(self) -> None:
         self._pages: Dict[int, array] = {}
         self._nothing = array("i", _NOTHING)
-        self._others: Dict[int, int] = {}   # of identifiers that are no such address
+        self._others: Dict[int, int] = {}  # of identifiers that are no such address
 
     def get(self, number: int) -> int:
         if number & 7:
@@ -27,7 +27,13 @@ class Codes:
         if self._others:
             return list(filter(None, map(self.get, numbers)))
         page_of, nothing = self._pages.get, self._nothing
-        return [code for code in [page_of(number >> _PAGE_BITS, nothing)[number >> _STEP_BITS & _STEPS - 1] for number in numbers] if code]
+        return [
+            code
+            for code in [
+                page_of(number >> _PAGE_BITS, nothing)[number >> _STEP_BITS & _STEPS - 1] for number in numbers
+            ]
+            if code
+        ]
 
     def add(self, number: int, code: int) -> bool:
         """Gives an object its code. The answer is whether it had none."""

@@ -3,14 +3,29 @@ import argparse
 import struct
 from array import array
 from itertools import chain
-from typing import BinaryIO, Dict, Iterable, Iterator, List, NamedTuple, Set, Tuple
+from typing import BinaryIO, Dict, Iterable, Iterator, List, NamedTuple, Sequence, Set, Tuple
 
 from gcaudit_trace import TraceError
-from gcaudit_trace.dumps import DumpFile, Progress, Wishes, output_of, say_left_out
-from gcaudit_trace.passing import LeftOut
+from gcaudit_trace.dumps.command import say_left_out
+from gcaudit_trace.dumps.options import Wishes
+from gcaudit_trace.dumps.output import DumpFile, output_of
+from gcaudit_trace.graphs.left_out import LeftOut
+from gcaudit_trace.progress import Progress
 
 from .codes import Codes
-from .reader import (CLASS, INSTANCE, OBJECT, OBJECT_ARRAY, PRIMITIVE_ARRAY, PRIMITIVES, ROOTS, SIZES, ClassDump, Dump, Root)
+from .reader import (
+    CLASS,
+    INSTANCE,
+    OBJECT,
+    OBJECT_ARRAY,
+    PRIMITIVE_ARRAY,
+    PRIMITIVES,
+    ROOTS,
+    SIZES,
+    ClassDump,
+    Dump,
+    Root,
+)
 from .threads import thread_names
 
 _REFERENCE = "java.lang.ref.Reference"
@@ -19,6 +34,7 @@ _HOLD_PRIMITIVES_ALONE = frozenset({"java.lang.String"})
 
 class Layout(NamedTuple):
     """Where the references stand in the instances of a class."""
+
     unpack: struct.Struct
     labels: Tuple[str, ...]
     weak: Tuple[bool, ...]
@@ -33,12 +49,12 @@ class Heap:
         self.wishes = wishes
         self.progress = progress
         self.classes: Dict[int, ClassDump] = {}
-        self.codes = Codes()                    # of each kept object and of left-out ones that may hold something, by identifier
-        self.kept_places = array("Q")           # where the record of each kept object stands
-        self._unshared: Set[int] = set()        # the codes of kept objects that are asserted unshared
+        self.codes = Codes()  # of each kept object and of left-out ones that may hold something, by identifier
+        self.kept_places = array("Q")  # where the record of each kept object stands
+        self._unshared: Set[int] = set()  # the codes of kept objects that are asserted unshared
         self.left = LeftOut(self._label_of, self._unshared)
         self.left_places = array("Q")
-        self.left_out: Dict[str, int] = {}      # how many objects of each class are left out
+        self.left_out: Dict[str, int] = {}  # how many objects of each class are left out
         self.roots: List[Root] = []
         self.weak_lost = 0
         self._layouts: Dict[int, Layout] = {}
@@ -94,7 +110,9 @@ class Heap:
         for code, count in primitive.items():
             self.left_out[PRIMITIVES[code] + "[]"] = count
         self._named_counts = {self.dump.class_name(class_id): count for class_id, count in counts.items()}
-        self.wishes.need_known({self.dump.class_name(class_id) for class_id in chain(self.dump.class_names, self.classes)})
+        self.wishes.need_known(
+            {self.dump.class_name(class_id) for class_id in chain(self.dump.class_names, self.classes)}
+        )
         self.wishes.need_room(len(places), self._named_counts)
 
     def _may_hold(self, class_id: int) -> bool:
@@ -117,7 +135,10 @@ class Heap:
     def _label_of(self, place: int, edge: int, code: int) -> str:
         """The label under which a left-out object holds another."""
         code_of = self.codes.get
-        return next((label for label, to, weak in self.holdings(self.left_places[place]) if not weak and code_of(to) == code), "")
+        return next(
+            (label for label, to, weak in self.holdings(self.left_places[place]) if not weak and code_of(to) == code),
+            "",
+        )
 
     # ---- what an object holds
 
@@ -143,8 +164,8 @@ class Heap:
                 class_id, length = of_class(data, place + to_class)
                 layout = layouts.get(class_id)
                 if layout is None or layout.unpack.size > length:
-                    layout = self._fields(place)[0]     # refuses one that is too short
-                found = layout.unpack.unpack_from(data, place + size)
+                    layout = self._fields(place)[0]  # refuses one that is too short
+                found: Sequence[int] = layout.unpack.unpack_from(data, place + size)
                 if layout.has_weak:
                     found = [to for to, weak in zip(found, layout.weak) if not weak]
                 yield many(found)
@@ -157,7 +178,9 @@ class Heap:
         _, _, class_id, size = self._instance.unpack_from(self.dump.data, place)
         layout = self._layout(class_id)
         if layout.unpack.size > size:
-            raise TraceError("%s is damaged: an object of %s is too short" % (self.dump.name, self.dump.class_name(class_id)))
+            raise TraceError(
+                "%s is damaged: an object of %s is too short" % (self.dump.name, self.dump.class_name(class_id))
+            )
         return layout, layout.unpack.unpack_from(self.dump.data, place + self._instance.size)
 
     def _elements(self, place: int) -> Tuple[int, ...]:
@@ -212,7 +235,7 @@ class Heap:
         for start in range(0, len(places), 1 << 16):
             self.progress.at(step, places[start], self.dump.size)
             self.dump.forget_read(places[start])
-            yield from places[start:start + (1 << 16)]
+            yield from places[start : start + (1 << 16)]
 
     # ---- the trace
 
@@ -284,7 +307,11 @@ class Heap:
         if kind == "thread":
             return "thread " + thread
         if numbers:
-            frame = " " + self.dump.frame_name(stack_of.get(root.thread, 0), root.frame) if numbers == 2 and root.frame < 1 << 31 else ""
+            frame = (
+                " " + self.dump.frame_name(stack_of.get(root.thread, 0), root.frame)
+                if numbers == 2 and root.frame < 1 << 31
+                else ""
+            )
             return "%s%s (thread %s)" % (kind, frame, thread)
         return kind
 

@@ -4,7 +4,7 @@ import struct
 from typing import BinaryIO, Dict, Iterator, List, NamedTuple, Tuple
 
 from gcaudit_trace import TraceError
-from gcaudit_trace.command import Progress
+from gcaudit_trace.progress import Progress
 
 OBJECT = 2
 SIZES = {4: 1, 5: 2, 6: 4, 7: 8, 8: 1, 9: 2, 10: 4, 11: 8}
@@ -13,13 +13,22 @@ _STRING, _LOAD_CLASS, _FRAME, _STACK = 0x01, 0x02, 0x04, 0x05
 _HEAP, _HEAP_SEGMENT, _HEAP_END = 0x0C, 0x1C, 0x2C
 INSTANCE, OBJECT_ARRAY, PRIMITIVE_ARRAY, CLASS = 0x21, 0x22, 0x23, 0x20
 # What a root is called, and how many bytes stand behind its object: identifiers, and numbers of four bytes.
-ROOTS = {0xFF: ("unknown root", 0, 0), 0x01: ("JNI global", 1, 0), 0x02: ("JNI local", 0, 2), 0x03: ("frame", 0, 2),
-         0x04: ("native stack", 0, 1), 0x05: ("class", 0, 0), 0x06: ("thread block", 0, 1), 0x07: ("monitor", 0, 0),
-         0x08: ("thread", 0, 2)}
+ROOTS = {
+    0xFF: ("unknown root", 0, 0),
+    0x01: ("JNI global", 1, 0),
+    0x02: ("JNI local", 0, 2),
+    0x03: ("frame", 0, 2),
+    0x04: ("native stack", 0, 1),
+    0x05: ("class", 0, 0),
+    0x06: ("thread block", 0, 1),
+    0x07: ("monitor", 0, 0),
+    0x08: ("thread", 0, 2),
+}
 
 
 class ClassDump(NamedTuple):
     """A class: its superclass, what it refers to itself (label and object), and its fields (name and type)."""
+
     superclass: int
     held: List[Tuple[str, int]]
     fields: List[Tuple[int, int]]
@@ -44,7 +53,7 @@ class Dump:
             raise TraceError("%s is no HPROF dump: it is empty, or no file" % name) from None
         self.size = len(self.data)
         end = self.data.find(b"\0", 0, 64)
-        version = self.data[:max(end, 0)]
+        version = self.data[: max(end, 0)]
         if version not in (b"JAVA PROFILE 1.0.1", b"JAVA PROFILE 1.0.2"):
             what = "HPROF of another version" if version.startswith(b"JAVA PROFILE") else "no HPROF dump"
             raise TraceError("%s is %s: it must begin with JAVA PROFILE 1.0.1 or 1.0.2" % (name, what))
@@ -55,8 +64,8 @@ class Dump:
             raise TraceError("%s has identifiers of %d bytes; 4 and 8 are known" % (name, self.id_size))
         self._start = end + 13
         self.id_code = "Q" if self.id_size == 8 else "I"
-        self._strings: Dict[int, Tuple[int, int]] = {}      # where the text of each stands
-        self.class_names: Dict[int, int] = {}               # the string of each class
+        self._strings: Dict[int, Tuple[int, int]] = {}  # where the text of each stands
+        self.class_names: Dict[int, int] = {}  # the string of each class
         self._class_texts: Dict[int, str] = {}
         self._class_of_serial: Dict[int, int] = {}
         self._frames: Dict[int, Tuple[int, int, int]] = {}  # method, serial number of the class, line
@@ -74,7 +83,9 @@ class Dump:
         """Steps over the outer records, and notes what the others need."""
         data, position, head = self.data, self._start, struct.Struct(">BII")
         one_id, lacks_end = struct.Struct(">" + self.id_code), False
-        load, frame = struct.Struct(">I%sI%s" % ((self.id_code,) * 2)), struct.Struct(">%s%s%s%sIi" % ((self.id_code,) * 4))
+        load, frame = struct.Struct(">I%sI%s" % ((self.id_code,) * 2)), struct.Struct(
+            ">%s%s%s%sIi" % ((self.id_code,) * 4)
+        )
         while position < self.size:
             if position + 9 > self.size:
                 raise self._cut()
@@ -120,7 +131,16 @@ class Dump:
         depth = len(name) - len(name.lstrip("["))
         if depth:
             name = name[depth:]
-            by_code = {"Z": "boolean", "C": "char", "F": "float", "D": "double", "B": "byte", "S": "short", "I": "int", "J": "long"}
+            by_code = {
+                "Z": "boolean",
+                "C": "char",
+                "F": "float",
+                "D": "double",
+                "B": "byte",
+                "S": "short",
+                "I": "int",
+                "J": "long",
+            }
             name = (name[1:].rstrip(";") if name.startswith("L") else by_code.get(name, name)) + "[]" * depth
         return name or "class 0x%x" % number
 
@@ -139,7 +159,9 @@ class Dump:
         Of an array of primitives the element's type stands in place of the object. Roots have zeros there.
         """
         data, id_size, code = self.data, self.id_size, self.id_code
-        instance, array, of_primitives = (struct.Struct(form % ((code,) * 2)[:form.count("%")]) for form in (">%sI%sI", ">%sII%s", ">%sIIB"))
+        instance, array, of_primitives = (
+            struct.Struct(form % ((code,) * 2)[: form.count("%")]) for form in (">%sI%sI", ">%sII%s", ">%sIIB")
+        )
         instance_read, array_read, primitive_read = instance.unpack_from, array.unpack_from, of_primitives.unpack_from
         instance_size, array_size, primitive_size = instance.size, array.size, of_primitives.size
         id_read = struct.Struct(">" + code).unpack_from
@@ -165,7 +187,10 @@ class Dump:
                     else:
                         position = place + roots[tag]
                 except KeyError:
-                    raise TraceError("%s has a record in its heap that is not known (0x%02x at byte %d)" % (self.name, tag, place - 1)) from None
+                    raise TraceError(
+                        "%s has a record in its heap that is not known (0x%02x at byte %d)"
+                        % (self.name, tag, place - 1)
+                    ) from None
                 except (struct.error, IndexError):
                     raise self._cut() from None
                 if position > end:
@@ -186,8 +211,15 @@ class Dump:
         held: List[Tuple[str, int]] = []
         fields: List[Tuple[int, int]] = []
         self._walk_class(place, held, fields)
-        superclass, loader, signers, domain = struct.unpack_from(">4" + self.id_code, self.data, place + self.id_size + 4)
-        own = [("(superclass)", superclass), ("(class loader)", loader), ("(signers)", signers), ("(protection domain)", domain)]
+        superclass, loader, signers, domain = struct.unpack_from(
+            ">4" + self.id_code, self.data, place + self.id_size + 4
+        )
+        own = [
+            ("(superclass)", superclass),
+            ("(class loader)", loader),
+            ("(signers)", signers),
+            ("(protection domain)", domain),
+        ]
         return ClassDump(superclass, [(label, to) for label, to in held + own if to], fields)
 
     def _walk_class(self, place: int, held, fields) -> int:
@@ -211,7 +243,7 @@ class Dump:
         position += 2
         for _ in range(count):
             kind = data[position + id_size]
-            self._size_of(kind)     # refuses one that is not known
+            self._size_of(kind)  # refuses one that is not known
             if fields is not None:
                 fields.append((one_id.unpack_from(data, position)[0], kind))
             position += id_size + 1

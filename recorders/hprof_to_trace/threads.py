@@ -15,13 +15,15 @@ _PIECE = 1 << 24
 def thread_names(dump: Dump, classes: Dict[int, ClassDump], threads: Dict[int, int]) -> Dict[int, str]:
     """By the serial number of each thread its name, where it is found. `threads` has for each the identifier of its name's text."""
     texts = dict(list(threads.items())[:_MOST_THREADS])
-    contents: Dict[int, Tuple[int, int]] = {}   # by the identifier of a text, that of its array, and how it is coded
+    contents: Dict[int, Tuple[int, int]] = {}  # by the identifier of a text, that of its array, and how it is coded
     for number, place in _records(dump, INSTANCE, set(texts.values())):
         found = _text_fields(dump, classes, place)
         if found is not None:
             contents[number] = found
     coders = {array: coder for array, coder in contents.values()}
-    arrays = {number: _decoded(dump, place, coders[number]) for number, place in _records(dump, PRIMITIVE_ARRAY, set(coders))}
+    arrays = {
+        number: _decoded(dump, place, coders[number]) for number, place in _records(dump, PRIMITIVE_ARRAY, set(coders))
+    }
     names = {}
     for serial, text in texts.items():
         name = arrays.get(contents[text][0]) if text in contents else None
@@ -38,7 +40,7 @@ def _records(dump: Dump, tag: int, numbers: Iterable[int]) -> List[Tuple[int, in
     pattern = re.compile(re.escape(bytes([tag])) + b"(?:" + b"|".join(map(re.escape, sorted(wanted))) + b")", re.DOTALL)
     places = []
     for start in range(0, dump.size, _PIECE):
-        end = start + _PIECE + dump.id_size     # one that begins in this piece
+        end = start + _PIECE + dump.id_size  # one that begins in this piece
         places += [found.start() + 1 for found in pattern.finditer(dump.data, start, end)]
         dump.forget_read(start)
     return [(struct.unpack_from(">" + dump.id_code, dump.data, place)[0], place) for place in places]
@@ -73,7 +75,7 @@ def _decoded(dump: Dump, place: int, coder: int) -> str:
     except struct.error:
         return ""
     start = place + dump.id_size + 9
-    raw = dump.data[start:start + min(length, _LONGEST_NAME) * SIZES.get(kind, 1)]
+    raw = dump.data[start : start + min(length, _LONGEST_NAME) * SIZES.get(kind, 1)]
     if kind == _CHAR:
         return raw.decode("utf-16-be", "replace")
     if kind == _BYTE:

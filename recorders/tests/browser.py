@@ -16,9 +16,21 @@ class Browser:
         self._profile = tempfile.mkdtemp(prefix="gcaudit-test-")
         reading, self._to = os.pipe()
         self._from, writing = os.pipe()
-        words = ["sh", "-c", 'exec "$0" "$@" 3<&%d 4>&%d' % (reading, writing), CHROMIUM, "--headless", "--no-sandbox", "--disable-gpu",
-                 "--remote-debugging-pipe", "--user-data-dir=" + self._profile, "about:blank"]
-        self._process = subprocess.Popen(words, pass_fds=(reading, writing), stdout=subprocess.DEVNULL, stderr=subprocess.DEVNULL)
+        words = [
+            "sh",
+            "-c",
+            'exec "$0" "$@" 3<&%d 4>&%d' % (reading, writing),
+            CHROMIUM,
+            "--headless",
+            "--no-sandbox",
+            "--disable-gpu",
+            "--remote-debugging-pipe",
+            "--user-data-dir=" + self._profile,
+            "about:blank",
+        ]
+        self._process = subprocess.Popen(
+            words, pass_fds=(reading, writing), stdout=subprocess.DEVNULL, stderr=subprocess.DEVNULL
+        )
         os.close(reading)
         os.close(writing)
         self._left, self._number = b"", 0
@@ -57,7 +69,9 @@ class Browser:
                 return answer["result"]
 
     def size(self, width, height):
-        self.call("Emulation.setDeviceMetricsOverride", width=width, height=height, deviceScaleFactor=1, mobile=width < 600)
+        self.call(
+            "Emulation.setDeviceMetricsOverride", width=width, height=height, deviceScaleFactor=1, mobile=width < 600
+        )
 
     def open(self, path):
         self.call("Page.navigate", url="file://" + path)
@@ -77,7 +91,14 @@ class Browser:
     def key(self, key, text=""):
         for kind in ("keyDown", "keyUp"):
             more = {"text": text} if text and kind == "keyDown" else {}
-            self.call("Input.dispatchKeyEvent", type=kind, key=key, code=key, windowsVirtualKeyCode={"Enter": 13, "Tab": 9, "ArrowDown": 40}.get(key, 0), **more)
+            self.call(
+                "Input.dispatchKeyEvent",
+                type=kind,
+                key=key,
+                code=key,
+                windowsVirtualKeyCode={"Enter": 13, "Tab": 9, "ArrowDown": 40}.get(key, 0),
+                **more,
+            )
 
     def type(self, text):
         self.call("Input.insertText", text=text)

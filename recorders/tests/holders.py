@@ -37,6 +37,7 @@ class Record:
 
 class Registry(type):
     """A metaclass that notes its classes."""
+
     noted = {}
 
     def __new__(cls, name, bases, names):
@@ -166,6 +167,7 @@ def closure(place, obj, undo):
 def default_argument(place, obj, undo):
     def function(held=obj):
         pass
+
     place.default_argument = function
 
 
@@ -173,6 +175,7 @@ def default_argument(place, obj, undo):
 def keyword_default(place, obj, undo):
     def function(*, held=obj):
         pass
+
     place.keyword_default = function
 
 
@@ -180,6 +183,7 @@ def keyword_default(place, obj, undo):
 def function_attribute(place, obj, undo):
     def function():
         pass
+
     function.held = obj
     place.function_attribute = function
 
@@ -201,6 +205,7 @@ def cached_result(place, obj, undo):
     @functools.lru_cache(maxsize=None)
     def function(number):
         return held.pop()
+
     function(1)
     place.cached = function
 
@@ -210,6 +215,7 @@ def generator(place, obj, undo):
     def generate(held):
         yield
         return held
+
     place.generator = generate(obj)
     next(place.generator)
 
@@ -223,6 +229,7 @@ def coroutine(place, obj, undo):
     async def run(held):
         await wait()
         return held
+
     place.coroutine = run(obj)
     place.coroutine.send(None)
     undo.callback(place.coroutine.close)
@@ -300,6 +307,7 @@ def context_of_an_exception(place, obj, undo):
 def frame(place, obj, undo):
     def function(held):
         return sys._getframe()
+
     place.frame = function(obj)
 
 
@@ -307,6 +315,7 @@ def frame(place, obj, undo):
 def class_attribute(place, obj, undo):
     class Cache:
         entries = [obj]
+
     place.cache_class = Cache
 
 
@@ -319,6 +328,7 @@ def dynamic_class(place, obj, undo):
 def registry_of_a_metaclass(place, obj, undo):
     class Plugin(metaclass=Registry):
         held = obj
+
     undo.callback(Registry.noted.clear)
 
 
@@ -326,6 +336,7 @@ def registry_of_a_metaclass(place, obj, undo):
 def property_of_a_class(place, obj, undo):
     class Shown:
         text = property(lambda self, held=obj: "text")
+
     place.shown = Shown()
 
 
@@ -390,6 +401,7 @@ def stack_of_a_thread(place, obj, undo):
         started.set()
         end.wait()
         del held
+
     thread = threading.Thread(target=run, args=([obj],))
     thread.start()
     started.wait()
@@ -408,4 +420,5 @@ def callback_of_sqlite(place, obj, undo):
 @holder
 def array_of_numpy(place, obj, undo):
     import numpy
+
     place.array = numpy.array([obj, None], dtype=object)

@@ -13,7 +13,6 @@ if RECORDERS not in sys.path:
     sys.path.insert(0, RECORDERS)
 
 
-
 def built(name):
     """A program of the repository: the one that the variable of its name in capitals says, or the built one. None where there is neither."""
     found = os.path.join(os.path.dirname(RECORDERS), "crates", name, "out", name)

@@ -19,7 +19,7 @@ from unittest import mock
 from tests.support import PROGRAM, PROGRAMS, RECORDERS, SNAPSHOTS, InFolder, events, needs_commands, needs_program
 
 from gcaudit_trace import audit
-from gcaudit_trace.command import Progress
+from gcaudit_trace.progress import Progress
 from heapsnapshot_to_trace.__main__ import main as heapsnapshot_to_trace
 from hprof_to_trace.__main__ import main as hprof_to_trace
 
@@ -38,11 +38,17 @@ def run(command, *words):
 def dump_java(folder, name, *words, main="SessionLeak"):
     """Runs a program in a JVM of its own, and dumps its heap."""
     dump = os.path.join(folder, name + ".hprof")
-    process = subprocess.Popen(["java", "-Xmx512m", "-XX:+UseSerialGC", "-cp", folder, main, *words], stdin=subprocess.PIPE, stdout=subprocess.PIPE)
+    process = subprocess.Popen(
+        ["java", "-Xmx512m", "-XX:+UseSerialGC", "-cp", folder, main, *words],
+        stdin=subprocess.PIPE,
+        stdout=subprocess.PIPE,
+    )
     try:
         if process.stdout.readline().strip() != b"ready":
             raise AssertionError("the program did not start")
-        subprocess.run(["jcmd", str(process.pid), "GC.heap_dump", dump], stdout=subprocess.PIPE, check=True, timeout=120)
+        subprocess.run(
+            ["jcmd", str(process.pid), "GC.heap_dump", dump], stdout=subprocess.PIPE, check=True, timeout=120
+        )
     finally:
         process.stdin.close()
         process.wait(timeout=120)
@@ -61,8 +67,16 @@ class DumpTests:
 
     def assertions(self):
         named = self.names
-        return ["--dead", named["Ended"], "--limit", named["Config"] + "=1", "--unshared", named["Node"],
-                "--owned-by", "%s=%s" % (named["Box"], named["Item"])]
+        return [
+            "--dead",
+            named["Ended"],
+            "--limit",
+            named["Config"] + "=1",
+            "--unshared",
+            named["Node"],
+            "--owned-by",
+            "%s=%s" % (named["Box"], named["Item"]),
+        ]
 
     def trace_of(self, dump, *words):
         trace = self.path("trace.jsonl")
@@ -77,7 +91,9 @@ class DumpTests:
         self.assertEqual(done.status, 1)
         self.assertRegex(done.named, self.path_of_session)
         self.assertRegex(done.named, r"instances %s limit 1 found 2: root .* \.second -> " % self.pattern("Config"))
-        self.assertRegex(done.named, r"unshared \d+ %s refs 2: root .* \.left -> .* \| root .* \.right -> " % self.pattern("Node"))
+        self.assertRegex(
+            done.named, r"unshared \d+ %s refs 2: root .* \.left -> .* \| root .* \.right -> " % self.pattern("Node")
+        )
         self.assertRegex(done.named, r"ownedby \d+ %s owner \d+: root " % self.pattern("Item"))
         self.assertIn("violations 4", done.report)
         self.assertRegex(said, r"left out: \d+ objects \(")
@@ -114,8 +130,19 @@ class DumpTests:
             self.assertEqual(os.listdir(self.folder), ["cut"])
 
     def test_what_is_no_dump_is_refused(self):
-        for text in (b"", b"hello", b"\0" * 1000, b"JAVA PROFILE 1.0.9\0" + bytes(100), b"{}", b"[1]", b'{"snapshot":{}}', os.urandom(5000),
-                     b'{"snapshot":{"meta":{"node_fields":["x"]}},"nodes":[1],"edges":[],"strings":[]}', b'{"nodes":[1,2]', b"JAVA PROFILE 1.0.2\0" + bytes(12)):
+        for text in (
+            b"",
+            b"hello",
+            b"\0" * 1000,
+            b"JAVA PROFILE 1.0.9\0" + bytes(100),
+            b"{}",
+            b"[1]",
+            b'{"snapshot":{}}',
+            os.urandom(5000),
+            b'{"snapshot":{"meta":{"node_fields":["x"]}},"nodes":[1],"edges":[],"strings":[]}',
+            b'{"nodes":[1,2]',
+            b"JAVA PROFILE 1.0.2\0" + bytes(12),
+        ):
             with open(self.path("dump"), "wb") as file:
                 file.write(text)
             self.refused([self.path("dump"), self.path("none.jsonl")])
@@ -132,11 +159,18 @@ class DumpTests:
     def test_a_full_disk(self):
         def limit():
             resource.setrlimit(resource.RLIMIT_FSIZE, (100000, 100000))
+
         for name, words in (("none.jsonl", []), ("é" * 120, []), ("none.snapshot", ["--snapshot"])):
-            done = subprocess.run([sys.executable, "-B", "-m", type(self).convert.__module__, self.leak, self.path(name), *words], stderr=subprocess.PIPE,
-                                  env=dict(os.environ, PYTHONPATH=RECORDERS), preexec_fn=limit)
+            done = subprocess.run(
+                [sys.executable, "-B", "-m", type(self).convert.__module__, self.leak, self.path(name), *words],
+                stderr=subprocess.PIPE,
+                env=dict(os.environ, PYTHONPATH=RECORDERS),
+                preexec_fn=limit,
+            )
             self.assertEqual((done.returncode, os.listdir(self.folder)), (2, []))
-            self.assertRegex(done.stderr.decode(), r"^(\w+: [^\n]+\n)*\w+: %s can't be written: File too large\n$" % self.path(name))
+            self.assertRegex(
+                done.stderr.decode(), r"^(\w+: [^\n]+\n)*\w+: %s can't be written: File too large\n$" % self.path(name)
+            )
 
     def test_a_link_stays(self):
         os.mkdir(self.path("elsewhere"))
@@ -147,8 +181,13 @@ class DumpTests:
         self.assertEqual(os.listdir(self.path("elsewhere")), ["real.jsonl"])
 
     def test_wrong_words_are_refused(self):
-        for words in (["--limit", "A"], ["--limit", "A=x"], ["--owned-by", "A"], ["--dead", "A", "--only", "B"],
-                      ["--owned-by", "%s=%s" % (self.names["Node"], self.names["Item"])]):
+        for words in (
+            ["--limit", "A"],
+            ["--limit", "A=x"],
+            ["--owned-by", "A"],
+            ["--dead", "A", "--only", "B"],
+            ["--owned-by", "%s=%s" % (self.names["Node"], self.names["Item"])],
+        ):
             self.refused([self.leak, self.path("none.jsonl"), *words])
         self.assertEqual(os.listdir(self.folder), [])
 
@@ -156,7 +195,9 @@ class DumpTests:
         for name in self.lacking:
             status, said = run(type(self).convert, self.leak, self.path("none.jsonl"), "--dead", name)
             self.assertEqual((status, os.listdir(self.folder)), (2, []))
-            self.assertRegex(said, r"^\w+: the dump has no class %s, but .*%s" % (re.escape(name), self.pattern("Ended")))
+            self.assertRegex(
+                said, r"^\w+: the dump has no class %s, but .*%s" % (re.escape(name), self.pattern("Ended"))
+            )
         status, said = run(type(self).convert, self.leak, self.path("none.jsonl"), "--limit", "NoSuchThingAtAll=1")
         self.assertRegex(said, r"^\w+: the dump has no class NoSuchThingAtAll and none with a name like it\n$")
         self.trace_of(self.leak, "--may-be-missing", "--dead", self.lacking[0])
@@ -192,11 +233,23 @@ class DumpTests:
 @needs_commands("java", "javac", "jcmd")
 class Java(DumpTests, InFolder):
     convert = staticmethod(hprof_to_trace)
-    names = {name: "SessionLeak$" + full for name, full in
-             dict(Ended="EndedSession", Config="Config", Node="Node", Box="Box", Item="Item", Bus="EventBus", Listener="Listener").items()}
+    names = {
+        name: "SessionLeak$" + full
+        for name, full in dict(
+            Ended="EndedSession",
+            Config="Config",
+            Node="Node",
+            Box="Box",
+            Item="Item",
+            Bus="EventBus",
+            Listener="Listener",
+        ).items()
+    }
     lacking = ("SessionLeak.EndedSession", "EndedSession", "endedsession", "SessionLeak$EndedSesion")
-    path_of_session = (r"dead \d+ SessionLeak\$EndedSession: root .* class SessionLeak \.BUS -> \d+ SessionLeak\$EventBus \.listeners -> "
-                       r"\d+ java\.util\.ArrayList \.elementData -> \d+ java\.lang\.Object\[\] \[0\] -> \d+ SessionLeak\$Listener \.session -> ")
+    path_of_session = (
+        r"dead \d+ SessionLeak\$EndedSession: root .* class SessionLeak \.BUS -> \d+ SessionLeak\$EventBus \.listeners -> "
+        r"\d+ java\.util\.ArrayList \.elementData -> \d+ java\.lang\.Object\[\] \[0\] -> \d+ SessionLeak\$Listener \.session -> "
+    )
 
     @classmethod
     def make_dumps(cls):
@@ -209,7 +262,16 @@ class Java(DumpTests, InFolder):
         roots = [e["name"] for e in found if e["op"] == "root"]
         self.assertTrue(any(name.startswith("class java.lang.") for name in roots), roots[:20])
         self.assertTrue(any(re.match(r"frame SessionLeak\.main:\d+ \(thread main\)", name) for name in roots), roots)
-        self.assertLessEqual({"thread main", "thread Finalizer", "thread Signal Dispatcher", "thread d\u00e9p\u00f4t", "thread \u5009\u5eab"}, set(roots))
+        self.assertLessEqual(
+            {
+                "thread main",
+                "thread Finalizer",
+                "thread Signal Dispatcher",
+                "thread d\u00e9p\u00f4t",
+                "thread \u5009\u5eab",
+            },
+            set(roots),
+        )
         trace, _ = self.trace_of(self.leak, "--only", "SessionLeak")
         self.assertIn("thread main", [e["name"] for e in events(trace) if e["op"] == "root"])
         ended = next(e["id"] for e in found if e["op"] == "alloc" and e["type"] == "SessionLeak$EndedSession")
@@ -220,19 +282,31 @@ class Java(DumpTests, InFolder):
     @needs_program
     def test_100000_objects_and_the_limit(self):
         dump = dump_java(self.dumps, "many", "leak", "60000")
-        trace, _ = self.trace_of(dump, "--dead", "SessionLeak$EndedSession", "--without", "java.lang.String", "--without", "java.lang.Integer")
+        trace, _ = self.trace_of(
+            dump,
+            "--dead",
+            "SessionLeak$EndedSession",
+            "--without",
+            "java.lang.String",
+            "--without",
+            "java.lang.Integer",
+        )
         done = audit(trace, PROGRAM)
         self.assertEqual(done.status, 1)
         self.assertGreater(int(done.report.split()[3]), 100000)
         os.unlink(dump)
 
     def test_more_objects_than_gcaudit_takes(self):
-        from gcaudit_trace import dumps
-        self.addCleanup(setattr, dumps, "MOST_OBJECTS", dumps.MOST_OBJECTS)
-        dumps.MOST_OBJECTS = 1000
+        from gcaudit_trace.dumps import options
+
+        self.addCleanup(setattr, options, "MOST_OBJECTS", options.MOST_OBJECTS)
+        options.MOST_OBJECTS = 1000
         status, said = run(hprof_to_trace, self.leak, self.path("none.jsonl"))
         self.assertEqual(status, 2)
-        self.assertRegex(said, r"\d+ objects would be kept, and gcaudit takes 1000; leave some out .* Most are of: java\.lang\.String \d+")
+        self.assertRegex(
+            said,
+            r"\d+ objects would be kept, and gcaudit takes 1000; leave some out .* Most are of: java\.lang\.String \d+",
+        )
 
 
 @needs_commands("node")
@@ -240,16 +314,22 @@ class Node(DumpTests, InFolder):
     convert = staticmethod(heapsnapshot_to_trace)
     names = dict(Ended="EndedSession", Config="Config", Node="TreeNode", Box="Box", Item="Item")
     lacking = ("endedsession", "EndedSesion", "shop.EndedSession")
-    path_of_session = (r"dead \d+ EndedSession: root .* \.bus -> \d+ EventBus \.listeners -> \d+ Array \[0\] -> \d+ function listener "
-                       r"\(context\) -> \d+ system / Context \(variable session\) -> \d+ EndedSession")
+    path_of_session = (
+        r"dead \d+ EndedSession: root .* \.bus -> \d+ EventBus \.listeners -> \d+ Array \[0\] -> \d+ function listener "
+        r"\(context\) -> \d+ system / Context \(variable session\) -> \d+ EndedSession"
+    )
 
     @classmethod
     def make_dumps(cls):
         found = []
         for kind in ("leak", "clean"):
             found.append(os.path.join(cls.dumps, kind + ".heapsnapshot"))
-            subprocess.run(["node", os.path.join(PROGRAMS, "session_leak.js"), kind, found[-1]], check=True, timeout=300,
-                           stdout=subprocess.PIPE)
+            subprocess.run(
+                ["node", os.path.join(PROGRAMS, "session_leak.js"), kind, found[-1]],
+                check=True,
+                timeout=300,
+                stdout=subprocess.PIPE,
+            )
         return found
 
     def test_a_weak_reference_is_a_weak_slot(self):
@@ -274,14 +354,21 @@ class ManyLeaks(InFolder):
     @needs_commands("java", "javac", "jcmd")
     def test_twelve_on_a_jvm(self):
         with open(os.path.join(PROGRAMS, "Leaks.java")) as file:
-            names = ["Leaks$" + name for name in re.findall(r"static class (\w+) extends (?:Held|OfInnerClass) ", file.read())]
+            names = [
+                "Leaks$" + name
+                for name in re.findall(r"static class (\w+) extends (?:Held|OfInnerClass) ", file.read())
+            ]
         leaked = [name for name in names if "Released" not in name]
         self.assertEqual((len(leaked), len(names)), (12, 24))
         subprocess.run(["javac", "-d", self.folder, os.path.join(PROGRAMS, "Leaks.java")], check=True, timeout=300)
         dump = dump_java(self.folder, "many", main="Leaks")
         self.assertEqual(self.found(hprof_to_trace, dump, names), sorted(leaked))
-        for name, path in (("InThreadLocal", r"\.threadLocals -> .* \.value -> "), ("InStaticField", r"class Leaks \.field -> "),
-                           ("OfInnerClass", r"\.this\$0 -> "), ("InWeakMapOfItself", r"class Leaks \.WEAK -> .* \.value -> \d+ java\.lang\.Object\[\] \[0\] -> ")):
+        for name, path in (
+            ("InThreadLocal", r"\.threadLocals -> .* \.value -> "),
+            ("InStaticField", r"class Leaks \.field -> "),
+            ("OfInnerClass", r"\.this\$0 -> "),
+            ("InWeakMapOfItself", r"class Leaks \.WEAK -> .* \.value -> \d+ java\.lang\.Object\[\] \[0\] -> "),
+        ):
             self.assertRegex(self.done.named, r"dead \d+ Leaks\$%s: root .*%s\d+ Leaks\$%s\n" % (name, path, name))
         self.assertRegex(self.done.named, r"dead \d+ Leaks\$OnStack: root frame Leaks\.\S+ \(thread Thread-\d+\) -> ")
 
@@ -289,9 +376,16 @@ class ManyLeaks(InFolder):
     @needs_commands("node")
     def test_fourteen_on_node(self):
         with open(os.path.join(PROGRAMS, "leaks.js")) as file:
-            leaked = re.findall(r"'((?:Of|In)\w+)'", re.search(r"const NAMES = \[(.*?)\]", file.read(), re.DOTALL).group(1))
+            leaked = re.findall(
+                r"'((?:Of|In)\w+)'", re.search(r"const NAMES = \[(.*?)\]", file.read(), re.DOTALL).group(1)
+            )
         self.assertEqual(len(leaked), 14)
-        subprocess.run(["node", os.path.join(PROGRAMS, "leaks.js"), self.path("many.heapsnapshot")], check=True, timeout=300, stdout=subprocess.PIPE)
+        subprocess.run(
+            ["node", os.path.join(PROGRAMS, "leaks.js"), self.path("many.heapsnapshot")],
+            check=True,
+            timeout=300,
+            stdout=subprocess.PIPE,
+        )
         names = leaked + ["Released" + name for name in leaked]
         self.assertEqual(self.found(heapsnapshot_to_trace, self.path("many.heapsnapshot"), names), sorted(leaked))
 
@@ -299,9 +393,19 @@ class ManyLeaks(InFolder):
     @needs_commands("java", "javac", "jcmd")
     def test_the_heap_of_a_compiler(self):
         """Left out are hundreds of thousands of objects that hold one another in circles: few joints stay."""
-        subprocess.run(["javac", "-d", self.folder, os.path.join(PROGRAMS, "HoldsCompiler.java")], check=True, timeout=300)
+        subprocess.run(
+            ["javac", "-d", self.folder, os.path.join(PROGRAMS, "HoldsCompiler.java")], check=True, timeout=300
+        )
         dump = dump_java(self.folder, "compiler", "60", main="HoldsCompiler")
-        status, said = run(hprof_to_trace, dump, self.path("trace.jsonl"), "--only", "HoldsCompiler$", "--dead", "HoldsCompiler$EndedBig")
+        status, said = run(
+            hprof_to_trace,
+            dump,
+            self.path("trace.jsonl"),
+            "--only",
+            "HoldsCompiler$",
+            "--dead",
+            "HoldsCompiler$EndedBig",
+        )
         self.assertEqual(status, 0, said)
         left_out = int(re.search(r"left out: (\d+) objects", said).group(1))
         joints, stand_for = map(int, re.search(r": (\d+), which stand for (\d+) of them", said).groups())
@@ -314,10 +418,13 @@ class ManyLeaks(InFolder):
 
 def written_hprof(id_code, names, control="\n"):
     """A dump as the format describes it: one root, a chain of objects of the classes named, and a circle at its end."""
+
     def one(number):
         return struct.pack(">" + id_code, number)
+
     def record(tag, body):
         return struct.pack(">BII", tag, 0, len(body)) + body
+
     out = b"JAVA PROFILE 1.0.2\0" + struct.pack(">IQ", struct.calcsize(">" + id_code), 0)
     out += record(1, one(1) + ("next" + control).encode())
     for at, name in enumerate(names):
@@ -325,7 +432,15 @@ def written_hprof(id_code, names, control="\n"):
         out += record(2, struct.pack(">I", at + 1) + one(1000 + at) + struct.pack(">I", 0) + one(100 + at))
     heap = b""
     for at in range(len(names)):
-        heap += b"\x20" + one(1000 + at) + struct.pack(">I", 0) + one(0) * 6 + struct.pack(">IHHH", 8, 0, 0, 1) + one(1) + b"\x02"
+        heap += (
+            b"\x20"
+            + one(1000 + at)
+            + struct.pack(">I", 0)
+            + one(0) * 6
+            + struct.pack(">IHHH", 8, 0, 0, 1)
+            + one(1)
+            + b"\x02"
+        )
     for at in range(len(names)):
         following = 2000 + (at + 1 if at + 1 < len(names) else at)
         data = one(following)
@@ -337,11 +452,20 @@ def written_hprof(id_code, names, control="\n"):
 
 def written_snapshot():
     """A snapshot of four nodes, with names that have all that a JSON text may have."""
-    meta = {"node_fields": ["type", "name", "id", "self_size", "edge_count"], "node_types": [["hidden", "object", "synthetic"], "string"],
-            "edge_fields": ["type", "name_or_index", "to_node"], "edge_types": [["element", "property", "weak"], "string_or_number", "node"]}
-    return {"snapshot": {"meta": meta, "x": "]}\"\\"}, "nodes": [2, 0, 1, 0, 1, 1, 1, 3, 0, 2, 1, 2, 5, 0, 1, 1, 3, 7, 0, 0],
-            "edges": [0, 7, 5, 1, 3, 10, 2, 4, 15, 1, 4, 15], "other": [{"a": "]"}, "}", 1.5, None],
-            "strings": ["", "A\\\"]", "long" * 200, "é\u2028\U0001f600\n", "B"], "last": 5}
+    meta = {
+        "node_fields": ["type", "name", "id", "self_size", "edge_count"],
+        "node_types": [["hidden", "object", "synthetic"], "string"],
+        "edge_fields": ["type", "name_or_index", "to_node"],
+        "edge_types": [["element", "property", "weak"], "string_or_number", "node"],
+    }
+    return {
+        "snapshot": {"meta": meta, "x": ']}"\\'},
+        "nodes": [2, 0, 1, 0, 1, 1, 1, 3, 0, 2, 1, 2, 5, 0, 1, 1, 3, 7, 0, 0],
+        "edges": [0, 7, 5, 1, 3, 10, 2, 4, 15, 1, 4, 15],
+        "other": [{"a": "]"}, "}", 1.5, None],
+        "strings": ["", 'A\\"]', "long" * 200, "é\u2028\U0001f600\n", "B"],
+        "last": 5,
+    }
 
 
 class WrittenDumps(InFolder):
@@ -383,17 +507,25 @@ class WrittenDumps(InFolder):
     def test_damaged_hprof(self):
         def record(tag, body):
             return struct.pack(">BII", tag, 0, len(body)) + body
+
         whole = written_hprof("I", ["A", "B"])
         field = struct.pack(">IHHH", 8, 0, 0, 1) + struct.pack(">I", 1)
-        for dump, why in ((whole.replace(field + b"\x02", field + b"\x63"), "is not known"),
-                          (whole.replace(b"\x21" + struct.pack(">I", 2000), b"\x21" + struct.pack(">I", 0)), "the identifier 0"),
-                          (whole.replace(b"\x21" + struct.pack(">III", 2000, 0, 1000), b"\x21" + struct.pack(">III", 2000, 0, 999)), "is not in it"),
-                          (whole + record(1, b"\0\0"), "a record is too short"),
-                          (whole + record(2, b"\0\0"), "a record is too short"),
-                          (whole + record(4, b"\0\0"), "a record is too short"),
-                          (whole + record(5, struct.pack(">III", 1, 0, 0xFFFFFFFF)), "a record is too short"),
-                          (whole[:-9], "is cut: the end of its heap"),
-                          (whole[:-1], "is cut: its last record")):
+        for dump, why in (
+            (whole.replace(field + b"\x02", field + b"\x63"), "is not known"),
+            (whole.replace(b"\x21" + struct.pack(">I", 2000), b"\x21" + struct.pack(">I", 0)), "the identifier 0"),
+            (
+                whole.replace(
+                    b"\x21" + struct.pack(">III", 2000, 0, 1000), b"\x21" + struct.pack(">III", 2000, 0, 999)
+                ),
+                "is not in it",
+            ),
+            (whole + record(1, b"\0\0"), "a record is too short"),
+            (whole + record(2, b"\0\0"), "a record is too short"),
+            (whole + record(4, b"\0\0"), "a record is too short"),
+            (whole + record(5, struct.pack(">III", 1, 0, 0xFFFFFFFF)), "a record is too short"),
+            (whole[:-9], "is cut: the end of its heap"),
+            (whole[:-1], "is cut: its last record"),
+        ):
             self.assertNotEqual(dump, whole)
             with open(self.path("dump"), "wb") as file:
                 file.write(dump)
@@ -419,6 +551,7 @@ class WrittenDumps(InFolder):
 
     def test_snapshot_in_odd_pieces(self):
         from heapsnapshot_to_trace import reader
+
         self.addCleanup(setattr, reader, "PIECE", reader.PIECE)
         snapshot = written_snapshot()
         traces = set()
@@ -447,7 +580,14 @@ class WrittenDumps(InFolder):
         snapshot["edges"][4] = 3
         with open(self.path("dump"), "w") as file:
             json.dump(snapshot, file)
-        status, said = run(heapsnapshot_to_trace, self.path("dump"), self.path("trace.jsonl"), "--dead", "half \\ud800", "--may-be-missing")
+        status, said = run(
+            heapsnapshot_to_trace,
+            self.path("dump"),
+            self.path("trace.jsonl"),
+            "--dead",
+            "half \\ud800",
+            "--may-be-missing",
+        )
         self.assertEqual(status, 0, said)
         self.assertEqual(audit(self.path("trace.jsonl"), PROGRAM).status, 0)
 
@@ -466,14 +606,32 @@ class WrittenDumps(InFolder):
                 self.assertTrue(all(len(kind.encode()) <= 256 for kind in kinds))
 
     def test_damaged_snapshots(self):
-        for change in (lambda s: s["edges"].pop(), lambda s: s["nodes"].append(1), lambda s: s["nodes"].__setitem__(0, 99),
-                       lambda s: s["nodes"].__setitem__(1, -1), lambda s: s["nodes"].__setitem__(4, "x"), lambda s: s["nodes"].__setitem__(4, 2),
-                       lambda s: s["edges"].__setitem__(0, 9), lambda s: s["edges"].__setitem__(2, 20), lambda s: s["edges"].__setitem__(2, 4),
-                       lambda s: s["edges"].__setitem__(2, -5), lambda s: s["edges"].__setitem__(0, 300), lambda s: s["nodes"].__setitem__(1, 1 << 40),
-                       lambda s: s["nodes"].__setitem__(1, 1.5), lambda s: s["nodes"].__setitem__(1, True), lambda s: s["nodes"].__setitem__(1, [1]),
-                       lambda s: s["snapshot"]["meta"].__setitem__("node_types", [["a"] * 300]), lambda s: s["snapshot"].__setitem__("meta", None),
-                       lambda s: s.update(strings=s.pop("strings"), edges=s.pop("edges")), lambda s: s.update(nodes=s.pop("nodes")), lambda s: s["snapshot"]["meta"]["node_fields"].remove("edge_count"),
-                       lambda s: s.pop("nodes"), lambda s: s.pop("strings"), lambda s: s.update(nodes={}), lambda s: s.update(strings=[1])):
+        for change in (
+            lambda s: s["edges"].pop(),
+            lambda s: s["nodes"].append(1),
+            lambda s: s["nodes"].__setitem__(0, 99),
+            lambda s: s["nodes"].__setitem__(1, -1),
+            lambda s: s["nodes"].__setitem__(4, "x"),
+            lambda s: s["nodes"].__setitem__(4, 2),
+            lambda s: s["edges"].__setitem__(0, 9),
+            lambda s: s["edges"].__setitem__(2, 20),
+            lambda s: s["edges"].__setitem__(2, 4),
+            lambda s: s["edges"].__setitem__(2, -5),
+            lambda s: s["edges"].__setitem__(0, 300),
+            lambda s: s["nodes"].__setitem__(1, 1 << 40),
+            lambda s: s["nodes"].__setitem__(1, 1.5),
+            lambda s: s["nodes"].__setitem__(1, True),
+            lambda s: s["nodes"].__setitem__(1, [1]),
+            lambda s: s["snapshot"]["meta"].__setitem__("node_types", [["a"] * 300]),
+            lambda s: s["snapshot"].__setitem__("meta", None),
+            lambda s: s.update(strings=s.pop("strings"), edges=s.pop("edges")),
+            lambda s: s.update(nodes=s.pop("nodes")),
+            lambda s: s["snapshot"]["meta"]["node_fields"].remove("edge_count"),
+            lambda s: s.pop("nodes"),
+            lambda s: s.pop("strings"),
+            lambda s: s.update(nodes={}),
+            lambda s: s.update(strings=[1]),
+        ):
             snapshot = written_snapshot()
             change(snapshot)
             with open(self.path("dump"), "w") as file:
@@ -483,8 +641,15 @@ class WrittenDumps(InFolder):
 
     def test_snapshots_that_are_no_json_of_v8(self):
         whole = json.dumps(written_snapshot())
-        for text in (whole.replace('"other"', '"nodes"'), whole.replace('"other"', '"snapshot"'), '{"snapshot":' + "[" * 100000,
-                     whole.replace("1.5", "[" * 100000), whole.replace('"B"', '"\\x"'), whole.replace('"B"', '"\\u12"'), whole.replace('"B"', "B")):
+        for text in (
+            whole.replace('"other"', '"nodes"'),
+            whole.replace('"other"', '"snapshot"'),
+            '{"snapshot":' + "[" * 100000,
+            whole.replace("1.5", "[" * 100000),
+            whole.replace('"B"', '"\\x"'),
+            whole.replace('"B"', '"\\u12"'),
+            whole.replace('"B"', "B"),
+        ):
             self.refused(text.encode())
         self.refused(whole.encode().replace(b'"B"', b'"\xff"'))
 
@@ -506,13 +671,13 @@ class Damaged(InFolder):
             at, length = chance.randrange(len(made) + 1), chance.choice((1, 1, 2, 4, 8, 30))
             what = chance.randrange(6)
             if what == 0:
-                made[at:at + length] = bytes(chance.randrange(256) for _ in range(length))
+                made[at : at + length] = bytes(chance.randrange(256) for _ in range(length))
             elif what == 1:
-                del made[at:at + length]
+                del made[at : at + length]
             elif what == 2:
-                made[at:at] = made[at:at + length]
+                made[at:at] = made[at : at + length]
             elif what == 3:
-                made[at:at + length] = chance.choice((b"\0", b"\xff", b"9", b"-", b"]", b'"', b"\\")) * length
+                made[at : at + length] = chance.choice((b"\0", b"\xff", b"9", b"-", b"]", b'"', b"\\")) * length
             elif what == 4:
                 del made[at:]
             else:
@@ -521,14 +686,26 @@ class Damaged(InFolder):
 
     def test_1000(self):
         chance = random.Random(5)
-        wholes = [(hprof_to_trace, written_hprof("I", ["kept/A", "out/B", "out/C", "kept/D"])), (hprof_to_trace, written_hprof("Q", ["A", "B" * 50, "java/lang/String"])),
-                  (heapsnapshot_to_trace, json.dumps(written_snapshot()).encode()), (heapsnapshot_to_trace, json.dumps(written_snapshot(), indent=1).encode())]
+        wholes = [
+            (hprof_to_trace, written_hprof("I", ["kept/A", "out/B", "out/C", "kept/D"])),
+            (hprof_to_trace, written_hprof("Q", ["A", "B" * 50, "java/lang/String"])),
+            (heapsnapshot_to_trace, json.dumps(written_snapshot()).encode()),
+            (heapsnapshot_to_trace, json.dumps(written_snapshot(), indent=1).encode()),
+        ]
         taken = 0
         for number in range(1000):
             convert, whole = wholes[number % len(wholes)]
             with open(self.path("dump"), "wb") as file:
                 file.write(self.damaged(whole, chance))
-            words = chance.choice(([], ["--without", "out."], ["--only", "kept."], ["--snapshot"], ["--may-be-missing", "--dead", "A", "--unshared", "kept.D"]))
+            words = chance.choice(
+                (
+                    [],
+                    ["--without", "out."],
+                    ["--only", "kept."],
+                    ["--snapshot"],
+                    ["--may-be-missing", "--dead", "A", "--unshared", "kept.D"],
+                )
+            )
             status, said = run(convert, self.path("dump"), self.path("trace.jsonl"), *words)
             self.assertIn(status, (0, 2), (number, said))
             self.assertRegex(said, r"^(\w+: [^\n]+\n)+$")
@@ -546,7 +723,9 @@ class Damaged(InFolder):
     def is_a_snapshot(self, path):
         if SNAPSHOTS:
             with open(path, "rb") as snapshot:
-                self.assertEqual(subprocess.run([SNAPSHOTS, "to-trace"], stdin=snapshot, stdout=subprocess.DEVNULL).returncode, 0)
+                self.assertEqual(
+                    subprocess.run([SNAPSHOTS, "to-trace"], stdin=snapshot, stdout=subprocess.DEVNULL).returncode, 0
+                )
 
 
 class ProgressLines(unittest.TestCase):
@@ -555,7 +734,7 @@ class ProgressLines(unittest.TestCase):
     def said(self, is_terminal):
         said, now = io.StringIO(), [100.0]
         said.isatty = lambda: is_terminal
-        with contextlib.redirect_stderr(said), mock.patch("gcaudit_trace.command.time.monotonic", lambda: now[0]):
+        with contextlib.redirect_stderr(said), mock.patch("gcaudit_trace.progress.time.monotonic", lambda: now[0]):
             progress = Progress("reader")
             for seconds, done in ((0.5, 1), (0.5, 2), (0.9, 3), (0.1, 4), (5, 5)):
                 now[0] += seconds
@@ -565,8 +744,11 @@ class ProgressLines(unittest.TestCase):
         return said.getvalue()
 
     def test_a_line_a_second(self):
-        self.assertEqual(self.said(True), "reader: reading: 2 of 7 MB\nreader: reading: 4 of 7 MB\nreader: reading: 5 of 7 MB\n"
-                         "reader: following references through what is left out\n")
+        self.assertEqual(
+            self.said(True),
+            "reader: reading: 2 of 7 MB\nreader: reading: 4 of 7 MB\nreader: reading: 5 of 7 MB\n"
+            "reader: following references through what is left out\n",
+        )
 
     def test_none_where_it_is_no_terminal(self):
         self.assertEqual(self.said(False), "")
@@ -574,7 +756,12 @@ class ProgressLines(unittest.TestCase):
 
 class Commands(unittest.TestCase):
     def test_help(self):
-        for module in ("gcaudit_trace", "hprof_to_trace", "heapsnapshot_to_trace"):
+        for module in (
+            "gcaudit_trace",
+            *("gcaudit_trace.commands." + name for name in ("named", "summary", "growth", "view")),
+            "hprof_to_trace",
+            "heapsnapshot_to_trace",
+        ):
             done = subprocess.run([sys.executable, "-m", module, "--help"], cwd=RECORDERS, stdout=subprocess.PIPE)
             self.assertEqual(done.returncode, 0)
             self.assertIn(b"usage: ", done.stdout)

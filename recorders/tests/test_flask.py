@@ -20,8 +20,14 @@ GROWN = [
 DEAD = [
     ("Session", r"\.listeners -> \d+ list \[0\] -> \d+ method \.__self__ -> \d+ __main__\.Session"),
     ("Page", r"\.pages -> \d+ dict \[\d+\] -> \d+ __main__\.Page"),
-    ("Order", r"\.callbacks -> \d+ list \[0\] -> \d+ function \(variable one\) -> \d+ cell \.cell_contents -> \d+ __main__\.Order"),
-    ("Basket", r"ValueError \S+ -> \d+ traceback .*\.tb_frame -> \d+ frame pay \(local basket\) -> \d+ __main__\.Basket"),
+    (
+        "Order",
+        r"\.callbacks -> \d+ list \[0\] -> \d+ function \(variable one\) -> \d+ cell \.cell_contents -> \d+ __main__\.Order",
+    ),
+    (
+        "Basket",
+        r"ValueError \S+ -> \d+ traceback .*\.tb_frame -> \d+ frame pay \(local basket\) -> \d+ __main__\.Basket",
+    ),
     ("Job", r"frame work \(local done\) -> \d+ list \[0\] -> \d+ __main__\.Job"),
     ("Visitor", r"logging\.LogRecord \.args -> \d+ tuple \[0\] -> \d+ __main__\.Visitor"),
 ]
@@ -32,8 +38,13 @@ class FlaskShop(InFolder):
     def said(self, way, leaks):
         folder = self.path(way + leaks)
         os.mkdir(folder)
-        done = subprocess.run([FLASK, "-B", os.path.join(PROGRAMS, "flask_shop.py"), way, leaks, folder], stdout=subprocess.PIPE, stderr=subprocess.PIPE,
-                              env=dict(os.environ, PYTHONPATH=RECORDERS, **({"GCAUDIT": PROGRAM} if PROGRAM else {})), timeout=600)
+        done = subprocess.run(
+            [FLASK, "-B", os.path.join(PROGRAMS, "flask_shop.py"), way, leaks, folder],
+            stdout=subprocess.PIPE,
+            stderr=subprocess.PIPE,
+            env=dict(os.environ, PYTHONPATH=RECORDERS, **({"GCAUDIT": PROGRAM} if PROGRAM else {})),
+            timeout=600,
+        )
         self.assertEqual((done.returncode, done.stderr.decode()), (0, ""))
         return done.stdout.decode()
 
@@ -45,7 +56,9 @@ class FlaskShop(InFolder):
     def test_by_growth(self):
         leak, clean = self.of_both("growth")
         for name, holder in GROWN:
-            self.assertRegex(leak, r"(?m)^ *\+1 __main__\.%s a round, [\d,]+ bytes, held by %s \(1 -> 2 -> 3\)$" % (name, holder))
+            self.assertRegex(
+                leak, r"(?m)^ *\+1 __main__\.%s a round, [\d,]+ bytes, held by %s \(1 -> 2 -> 3\)$" % (name, holder)
+            )
         self.assertEqual(clean, "nothing became more\n")
 
     @needs_program

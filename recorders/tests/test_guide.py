@@ -7,21 +7,39 @@ import subprocess
 import sys
 import unittest
 
-from tests.support import PROGRAM, RECORDERS, SNAPSHOTS, InFolder, needs_commands, needs_program, needs_snapshots, python_with
+from tests.support import (
+    PROGRAM,
+    RECORDERS,
+    SNAPSHOTS,
+    InFolder,
+    needs_commands,
+    needs_program,
+    needs_snapshots,
+    python_with,
+)
 
 GUIDE = os.path.join(os.path.dirname(RECORDERS), "docs", "GUIDE.md")
 PYTEST = python_with("pytest")
-MODULES = {"gcaudit-named": "gcaudit_trace", "gcaudit-view": "gcaudit_trace.view", "gcaudit-growth": "gcaudit_trace.growth",
-           "gcaudit-summary": "gcaudit_trace.summary", "hprof_to_trace": "hprof_to_trace", "heapsnapshot_to_trace": "heapsnapshot_to_trace"}
+MODULES = {
+    "gcaudit-named": "gcaudit_trace",
+    "gcaudit-view": "gcaudit_trace.commands.view",
+    "gcaudit-growth": "gcaudit_trace.commands.growth",
+    "gcaudit-summary": "gcaudit_trace.commands.summary",
+    "hprof_to_trace": "hprof_to_trace",
+    "heapsnapshot_to_trace": "heapsnapshot_to_trace",
+}
 END = "@@end of a command"
-LIMIT = 900     # seconds for a section; nothing in it waits by the clock, so a busy machine only takes longer
+LIMIT = 900  # seconds for a section; nothing in it waits by the clock, so a busy machine only takes longer
 
 
 def blocks_of(section):
     """The blocks of a section: their language and their lines."""
     with open(GUIDE, encoding="utf-8") as file:
         text = file.read().split("\n## %s\n" % section)[1].split("\n## ")[0]
-    return [(found.group(1), found.group(2).split("\n")[:-1]) for found in re.finditer(r"^```(\w+)\n(.*?)^```$", text, re.MULTILINE | re.DOTALL)]
+    return [
+        (found.group(1), found.group(2).split("\n")[:-1])
+        for found in re.finditer(r"^```(\w+)\n(.*?)^```$", text, re.MULTILINE | re.DOTALL)
+    ]
 
 
 def without_numbers(text):
@@ -64,16 +82,29 @@ class Guide(InFolder):
                 name = re.match(r"(?:#|//) (\S+)$", lines[0]).group(1)
                 with open(os.path.join(self.path("work"), name), "w") as file:
                     file.write("\n".join(lines[1:]) + "\n")
-        environment = dict(os.environ, PYTHONPATH=RECORDERS, GCAUDIT=PROGRAM, PATH=self.path("bin") + os.pathsep + os.environ["PATH"], PYTHONDONTWRITEBYTECODE="1",
-                           COLUMNS="80", PYTEST_ADDOPTS="-p gcaudit_recorder.pytest_plugin -p no:cacheprovider --basetemp=" + self.path("temporary"))
+        environment = dict(
+            os.environ,
+            PYTHONPATH=RECORDERS,
+            GCAUDIT=PROGRAM,
+            PATH=self.path("bin") + os.pathsep + os.environ["PATH"],
+            PYTHONDONTWRITEBYTECODE="1",
+            COLUMNS="80",
+            PYTEST_ADDOPTS="-p gcaudit_recorder.pytest_plugin -p no:cacheprovider --basetemp=" + self.path("temporary"),
+        )
         with open(self.path("said"), "wb") as said:
-            shell = subprocess.Popen(["bash", "-c", "\n".join(script)], cwd=self.path("work"), env=environment, stdout=said, stderr=subprocess.STDOUT,
-                                     start_new_session=True)
+            shell = subprocess.Popen(
+                ["bash", "-c", "\n".join(script)],
+                cwd=self.path("work"),
+                env=environment,
+                stdout=said,
+                stderr=subprocess.STDOUT,
+                start_new_session=True,
+            )
             try:
                 shell.wait(timeout=LIMIT)
             finally:
                 with contextlib.suppress(ProcessLookupError):
-                    os.killpg(shell.pid, signal.SIGKILL)    # what it left running
+                    os.killpg(shell.pid, signal.SIGKILL)  # what it left running
         with open(self.path("said"), encoding="utf-8") as file:
             whole = file.read()
         said = whole.split("\n%s\n" % END)
@@ -87,7 +118,13 @@ class Guide(InFolder):
         """The command that mends a file by the lines of a diff, which have what was there and what is there then."""
         old = "\n".join(line[1:] for line in lines[1:] if line[0] in " -")
         new = "\n".join(line[1:] for line in lines[1:] if line[0] in " +")
-        program = "text = open(%r).read(); assert text.count(%r) == 1; open(%r, 'w').write(text.replace(%r, %r))" % (lines[0][4:], old, lines[0][4:], old, new)
+        program = "text = open(%r).read(); assert text.count(%r) == 1; open(%r, 'w').write(text.replace(%r, %r))" % (
+            lines[0][4:],
+            old,
+            lines[0][4:],
+            old,
+            new,
+        )
         return "python3 - <<'END'\n%s\nEND" % program
 
     @unittest.skipIf(PYTEST is None, "pytest is not there")

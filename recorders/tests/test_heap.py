@@ -6,10 +6,10 @@ import unittest
 from tests.support import PROGRAM, InFolder, needs_program
 
 from gcaudit_trace import TraceError, audit
-from gcaudit_trace.dominators import kept_alone
-from gcaudit_trace.heap import heaps
-from gcaudit_trace.paths import Holder, Tree, label_shape, named_holder, path_shape
-from gcaudit_trace.report import Path, Step
+from gcaudit_trace.graphs.dominators import kept_alone
+from gcaudit_trace.graphs.trace_heap import heaps
+from gcaudit_trace.graphs.paths import Holder, Tree, label_shape, named_holder, path_shape
+from gcaudit_trace.graphs.path import Path, Step
 
 
 def random_events(seed):
@@ -19,11 +19,21 @@ def random_events(seed):
     for _ in range(chance.randint(1, 4)):
         for _ in range(chance.randint(1, 12)):
             number += chance.randint(1, 3)
-            found.append({"op": "alloc", "id": number, "type": "T%d" % chance.randint(0, 2), "slots": 3, "bytes": chance.randint(0, 50)})
+            found.append(
+                {
+                    "op": "alloc",
+                    "id": number,
+                    "type": "T%d" % chance.randint(0, 2),
+                    "slots": 3,
+                    "bytes": chance.randint(0, 50),
+                }
+            )
             live.append(number)
         for _ in range(chance.randint(0, 25)):
             at, slot = chance.choice(live), chance.randint(0, 2)
-            found.append({"op": "store", "at": at, "slot": slot, "to": chance.choice(live + [None]), "label": ".x%d" % slot})
+            found.append(
+                {"op": "store", "at": at, "slot": slot, "to": chance.choice(live + [None]), "label": ".x%d" % slot}
+            )
             if chance.random() < 0.2:
                 found.append({"op": "set-weak", "at": at, "slot": slot, "weak": chance.random() < 0.6})
         for name in "abc":
@@ -86,7 +96,11 @@ class Plain:
         owners = {owner for ownee, owner in self.owner.items() if ownee in self.slots and owner in self.slots}
         self.before = dict(self.slots)
         self.traced = self.reach(list(self.roots.values()) + [to for owner in owners for to in self.held(owner)])
-        self.slots = {one: [[to if to in self.traced else None, weak] for to, weak in slots] for one, slots in self.slots.items() if one in self.traced}
+        self.slots = {
+            one: [[to if to in self.traced else None, weak] for to, weak in slots]
+            for one, slots in self.slots.items()
+            if one in self.traced
+        }
 
 
 class Graphs(InFolder):
@@ -100,12 +114,16 @@ class Graphs(InFolder):
             found = random_events(seed)
             ends = [place for place, event in enumerate(found) if event["op"] == "collect"]
             for heap, end in zip(heaps(self.write(found)), ends):
-                plain = Plain(found[:end + 1])
+                plain = Plain(found[: end + 1])
                 graph = heap.graph()
                 self.assertEqual(set(graph.numbers), plain.traced, seed)
-                self.assertEqual(sorted(name for name, _ in graph.roots), sorted(name for name, to in plain.roots.items() if to))
+                self.assertEqual(
+                    sorted(name for name, _ in graph.roots), sorted(name for name, to in plain.roots.items() if to)
+                )
                 for node, number in enumerate(graph.numbers):
-                    self.assertEqual([graph.numbers[to] for to in graph.held_by(node)], [to for to in plain.held(number)])
+                    self.assertEqual(
+                        [graph.numbers[to] for to in graph.held_by(node)], [to for to in plain.held(number)]
+                    )
                 self.compare_dominators(graph, plain)
 
     def compare_dominators(self, graph, plain):
@@ -128,8 +146,14 @@ class Graphs(InFolder):
             for collection, heap in enumerate(heaps(trace), 1):
                 tree = Tree(heap.graph())
                 for verdict in done.verdicts:
-                    if verdict.collection == collection and verdict.kind == "dead" and verdict.paths[0].root is not None:
-                        self.assertEqual(str(tree.path(tree.graph.node_of(verdict.number))), str(verdict.paths[0]), seed)
+                    if (
+                        verdict.collection == collection
+                        and verdict.kind == "dead"
+                        and verdict.paths[0].root is not None
+                    ):
+                        self.assertEqual(
+                            str(tree.path(tree.graph.node_of(verdict.number))), str(verdict.paths[0]), seed
+                        )
                         compared += 1
         self.assertGreater(compared, 50)
 
@@ -139,7 +163,11 @@ class Graphs(InFolder):
         found = [{"op": "alloc", "id": one, "type": "Link", "slots": 2} for one in range(1, size + 1)]
         found += [{"op": "store", "at": one, "slot": 0, "to": one + 1, "label": ".next"} for one in range(1, size)]
         found += [{"op": "store", "at": one, "slot": 1, "to": one - 1, "label": ".back"} for one in range(2, size + 1)]
-        found += [{"op": "root", "name": "first", "to": 1}, {"op": "root", "name": "last", "to": size}, {"op": "collect"}]
+        found += [
+            {"op": "root", "name": "first", "to": 1},
+            {"op": "root", "name": "last", "to": size},
+            {"op": "collect"},
+        ]
         graph = next(heaps(self.write(found))).graph()
         kept = kept_alone(graph)
         self.assertEqual([kept.objects[0], kept.objects[size // 2], kept.objects[size - 1]], [1, 1, 1])
@@ -149,8 +177,11 @@ class Graphs(InFolder):
         self.assertEqual(str(path_shape(path)), "root first -> Link .next -> Link")
 
     def test_names_of_holders(self):
-        for type_name, label, name in (("shop.EventBus", ".listeners", "shop.EventBus.listeners"), ("A", "(variable x)", "A (variable x)"),
-                                       ("shop.Table", "['key'] (over 2 left out)", "shop.Table[*] (over 2 left out)")):
+        for type_name, label, name in (
+            ("shop.EventBus", ".listeners", "shop.EventBus.listeners"),
+            ("A", "(variable x)", "A (variable x)"),
+            ("shop.Table", "['key'] (over 2 left out)", "shop.Table[*] (over 2 left out)"),
+        ):
             self.assertEqual(named_holder(type_name, label), Holder(type_name, name))
         self.assertEqual(label_shape(".items[3]"), ".items[*]")
         path = Path("thread 7", 1, "T", (Step("[3]", 2, "list"), Step("['a']", 3, "dict")))

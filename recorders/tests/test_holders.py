@@ -69,13 +69,18 @@ class Holders(InFolder):
         found = found_in(self.report(held, dict(held.places)))
         self.assertEqual(sorted(found), sorted(kinds()))
         beside = {name for name, line in found.items() if "root (alive, and no root leads to it)" in line}
-        for name, chain in (("class_attribute", r"class \S+Cache \.entries -> \d+ list \[0\] -> "),
-                            ("frame", r"frame function \(local held\) -> "),
-                            ("dynamic_class", r"class \S+Dynamic \.held -> "),
-                            ("stack_of_a_thread", r"frame run:\d+ \(thread Thread-\d+.*?\) \(local held\) -> "),
-                            ("timer", r"threading\.Timer \.args -> "),
-                            ("finalizer", r"\.args -> \d+ tuple \[0\] -> "),
-                            ("callback_of_sqlite", r"no object that Python's collector knows: .* functools\.partial \.args -> \d+ tuple \[0\] -> ")):
+        for name, chain in (
+            ("class_attribute", r"class \S+Cache \.entries -> \d+ list \[0\] -> "),
+            ("frame", r"frame function \(local held\) -> "),
+            ("dynamic_class", r"class \S+Dynamic \.held -> "),
+            ("stack_of_a_thread", r"frame run:\d+ \(thread Thread-\d+.*?\) \(local held\) -> "),
+            ("timer", r"threading\.Timer \.args -> "),
+            ("finalizer", r"\.args -> \d+ tuple \[0\] -> "),
+            (
+                "callback_of_sqlite",
+                r"no object that Python's collector knows: .* functools\.partial \.args -> \d+ tuple \[0\] -> ",
+            ),
+        ):
             self.assertIn(name, beside)
             self.assertRegex(found[name], chain)
 
@@ -92,8 +97,15 @@ class Holders(InFolder):
         self.addCleanup(held.let_go)
         found = found_in(self.report(held, dict(held.places), deep=True))
         self.assertEqual(sorted(found), sorted(kinds()))
-        for name in ("traceback", "context_of_an_exception", "frame", "class_attribute", "dynamic_class", "property_of_a_class",
-                     "globals_of_a_function"):
+        for name in (
+            "traceback",
+            "context_of_an_exception",
+            "frame",
+            "class_attribute",
+            "dynamic_class",
+            "property_of_a_class",
+            "globals_of_a_function",
+        ):
             self.assertIn("root %s -> " % name, found[name])
 
     def test_the_twins_pass(self):
@@ -106,10 +118,16 @@ class Holders(InFolder):
 
     @unittest.skipIf(python_with("numpy") is None, "numpy is not there")
     def test_numpy(self):
-        program = ("import sys; sys.path.insert(0, %r)\nfrom tests.test_holders import *\nimport tempfile\nheld = Held([NEEDS_NUMPY])\n"
-                   "try:\n    recorder = Recorder(%r, dict(held.places))\n    held.assert_dead(recorder)\n    recorder.check(%r)\n"
-                   "except HeapViolation as violation:\n    print(violation)\n") % (RECORDERS, self.path("trace.jsonl"), PROGRAM)
-        done = subprocess.run([python_with("numpy"), "-B", "-c", program], stdout=subprocess.PIPE, env=dict(os.environ, PYTHONPATH=RECORDERS))
+        program = (
+            "import sys; sys.path.insert(0, %r)\nfrom tests.test_holders import *\nimport tempfile\nheld = Held([NEEDS_NUMPY])\n"
+            "try:\n    recorder = Recorder(%r, dict(held.places))\n    held.assert_dead(recorder)\n    recorder.check(%r)\n"
+            "except HeapViolation as violation:\n    print(violation)\n"
+        ) % (RECORDERS, self.path("trace.jsonl"), PROGRAM)
+        done = subprocess.run(
+            [python_with("numpy"), "-B", "-c", program],
+            stdout=subprocess.PIPE,
+            env=dict(os.environ, PYTHONPATH=RECORDERS),
+        )
         self.assertRegex(done.stdout.decode(), r"\.array -> \d+ numpy\.ndarray \[0\] -> ")
 
 

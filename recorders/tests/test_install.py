@@ -39,21 +39,37 @@ class Installed(unittest.TestCase):
     @classmethod
     def run_words(cls, *words, status=0):
         """What a command says, which must end with the status."""
-        done = subprocess.run(words, cwd=cls.folder, env=cls.environment, stdout=subprocess.PIPE, stderr=subprocess.STDOUT, timeout=300)
+        done = subprocess.run(
+            words, cwd=cls.folder, env=cls.environment, stdout=subprocess.PIPE, stderr=subprocess.STDOUT, timeout=300
+        )
         said = done.stdout.decode()
         if done.returncode != status:
             raise AssertionError("%s ended with %d: %s" % (" ".join(words), done.returncode, said))
         return said
 
     def test_the_commands_run(self):
-        for name in ("hprof_to_trace", "heapsnapshot_to_trace", "gcaudit-named"):
+        for name in (
+            "hprof_to_trace",
+            "heapsnapshot_to_trace",
+            "gcaudit-from-hprof",
+            "gcaudit-from-heapsnapshot",
+            "gcaudit-named",
+            "gcaudit-summary",
+            "gcaudit-growth",
+            "gcaudit-view",
+        ):
             self.assertIn("usage: %s " % name, self.run_words(self.command(name), "--help"))
-            self.assertIn("%s: " % name, self.run_words(self.command(name), *["no such file"] * (1 if name == "gcaudit-named" else 2), status=2))
+            takes_one = name in ("gcaudit-named", "gcaudit-summary", "gcaudit-view")
+            self.assertIn(
+                "%s: " % name, self.run_words(self.command(name), *["no such file"] * (1 if takes_one else 2), status=2)
+            )
 
     def test_the_modules_are_those_installed(self):
         for name in ("gcaudit_recorder", "gcaudit_trace", "hprof_to_trace", "heapsnapshot_to_trace"):
             said = self.run_words(self.command("python"), "-c", "import %s; print(%s.__file__)" % (name, name))
-            self.assertTrue(os.path.realpath(said.strip()).startswith(os.path.realpath(self.commands[:-len("bin")])), said)
+            self.assertTrue(
+                os.path.realpath(said.strip()).startswith(os.path.realpath(self.commands[: -len("bin")])), said
+            )
 
     @needs_program
     def test_pytest_finds_the_fixture(self):
@@ -61,8 +77,19 @@ class Installed(unittest.TestCase):
             self.skipTest("pytest is not there")
         with open(os.path.join(self.folder, "test_thing.py"), "w") as file:
             file.write(TEST)
-        said = self.run_words(self.command("python"), "-m", "pytest", "-p", "no:cacheprovider", "--basetemp", os.path.join(self.folder, "temporary"),
-                              "--gcaudit", PROGRAM, "test_thing.py", status=1)
+        said = self.run_words(
+            self.command("python"),
+            "-m",
+            "pytest",
+            "-p",
+            "no:cacheprovider",
+            "--basetemp",
+            os.path.join(self.folder, "temporary"),
+            "--gcaudit",
+            PROGRAM,
+            "test_thing.py",
+            status=1,
+        )
         self.assertIn("root things -> 1 list [0] -> 2 test_thing.Thing\n", said)
 
     @needs_program
@@ -74,9 +101,26 @@ class Installed(unittest.TestCase):
             file.write(TEST + "    thing = heap.root('things', None)\n    heap.root('other', [])\n")
         for pythonpath in ({}, {"PYTHONPATH": RECORDERS}):
             for named in ([], ["-p", "gcaudit_recorder.pytest_plugin"]):
-                done = subprocess.run([self.command("python"), "-B", "-m", "pytest", "-p", "no:cacheprovider", *named, "--basetemp",
-                                       os.path.join(self.folder, "temporary"), "--gcaudit", PROGRAM, "test_gone.py"], cwd=self.folder,
-                                      env=dict(self.environment, **pythonpath), stdout=subprocess.PIPE, stderr=subprocess.STDOUT)
+                done = subprocess.run(
+                    [
+                        self.command("python"),
+                        "-B",
+                        "-m",
+                        "pytest",
+                        "-p",
+                        "no:cacheprovider",
+                        *named,
+                        "--basetemp",
+                        os.path.join(self.folder, "temporary"),
+                        "--gcaudit",
+                        PROGRAM,
+                        "test_gone.py",
+                    ],
+                    cwd=self.folder,
+                    env=dict(self.environment, **pythonpath),
+                    stdout=subprocess.PIPE,
+                    stderr=subprocess.STDOUT,
+                )
                 self.assertIn("1 passed in ", done.stdout.decode())
 
 

@@ -15,16 +15,23 @@ from unittest import mock
 from tests.support import PROGRAM, RECORDERS, InFolder, needs_program
 
 from gcaudit_trace import TraceError, audit
-from gcaudit_trace.command import Progress
-from gcaudit_trace.report import read_report
+from gcaudit_trace.progress import Progress
+from gcaudit_trace.reports.report import read_report
 
-LEAK = ('{"op":"alloc","id":1,"type":"App","slots":2}\n{"op":"alloc","id":2,"type":"Config"}\n{"op":"alloc","id":3,"type":"Config"}\n'
-        '{"op":"store","at":1,"slot":0,"to":2,"label":".config"}\n{"op":"store","at":1,"slot":1,"to":3,"label":".other"}\n'
-        '{"op":"root","name":"app","to":1}\n{"op":"assert-instances","type":"Config","limit":1}\n{"op":"assert-dead","id":3}\n{"op":"collect"}\n'
-        '{"op":"collect"}\n')
-NAMED = ('gc 1 live 3 traced 3 freed 0\ngc 1 dead 3 Config: root app -> 1 App .other -> 3 Config\n'
-         'gc 1 instances Config limit 1 found 2: root app -> 1 App .other -> 3 Config\n')
-ENDLESS = "#!%s\nimport os, time\nwith open(%%r, 'w') as file:\n    file.write(str(os.getpid()))\nwhile True:\n    time.sleep(1)\n" % sys.executable
+LEAK = (
+    '{"op":"alloc","id":1,"type":"App","slots":2}\n{"op":"alloc","id":2,"type":"Config"}\n{"op":"alloc","id":3,"type":"Config"}\n'
+    '{"op":"store","at":1,"slot":0,"to":2,"label":".config"}\n{"op":"store","at":1,"slot":1,"to":3,"label":".other"}\n'
+    '{"op":"root","name":"app","to":1}\n{"op":"assert-instances","type":"Config","limit":1}\n{"op":"assert-dead","id":3}\n{"op":"collect"}\n'
+    '{"op":"collect"}\n'
+)
+NAMED = (
+    "gc 1 live 3 traced 3 freed 0\ngc 1 dead 3 Config: root app -> 1 App .other -> 3 Config\n"
+    "gc 1 instances Config limit 1 found 2: root app -> 1 App .other -> 3 Config\n"
+)
+ENDLESS = (
+    "#!%s\nimport os, time\nwith open(%%r, 'w') as file:\n    file.write(str(os.getpid()))\nwhile True:\n    time.sleep(1)\n"
+    % sys.executable
+)
 
 
 def is_running(process):
@@ -44,8 +51,13 @@ class Named(InFolder):
             file.write(LEAK)
 
     def run_named(self, *words, **more):
-        return subprocess.run([sys.executable, "-B", "-m", "gcaudit_trace", "--gcaudit", PROGRAM, *words], stdout=more.pop("stdout", subprocess.PIPE),
-                              stderr=subprocess.PIPE, env=dict(os.environ, PYTHONPATH=RECORDERS), **more)
+        return subprocess.run(
+            [sys.executable, "-B", "-m", "gcaudit_trace", "--gcaudit", PROGRAM, *words],
+            stdout=more.pop("stdout", subprocess.PIPE),
+            stderr=subprocess.PIPE,
+            env=dict(os.environ, PYTHONPATH=RECORDERS),
+            **more,
+        )
 
     def test_words_for_gcaudit(self):
         done = self.run_named(self.trace, "--react", "halt", "--workers", "2")
@@ -54,7 +66,13 @@ class Named(InFolder):
         self.assertEqual(done.stdout.decode().count(": path left out\n"), 4)
         done = self.run_named(self.trace, "--react", "force")
         self.assertIn("gc 1 cleared 1\n", done.stdout.decode())
-        for words in (["--workers", "0"], ["--workers", "17"], ["--workers", "x"], ["--paths", "-1"], ["--paths", "10001"]):
+        for words in (
+            ["--workers", "0"],
+            ["--workers", "17"],
+            ["--workers", "x"],
+            ["--paths", "-1"],
+            ["--paths", "10001"],
+        ):
             done = self.run_named(self.trace, *words)
             self.assertEqual((done.returncode, done.stdout), (2, b""))
             self.assertIn(words[0].encode(), done.stderr)
@@ -74,11 +92,19 @@ class Named(InFolder):
 
     def test_a_path_to_each_instance(self):
         done = self.run_named(self.trace, "--all-instances")
-        self.assertIn(NAMED + "gc 1 instance 1 of 2 Config: root app -> 1 App .config -> 2 Config\n"
-                      "gc 1 instance 2 of 2 Config: root app -> 1 App .other -> 3 Config\n", done.stdout.decode())
+        self.assertIn(
+            NAMED + "gc 1 instance 1 of 2 Config: root app -> 1 App .config -> 2 Config\n"
+            "gc 1 instance 2 of 2 Config: root app -> 1 App .other -> 3 Config\n",
+            done.stdout.decode(),
+        )
 
     def test_what_goes_wrong_is_a_sentence(self):
-        for words in ([self.path("none")], [self.folder], [self.trace, "--output", self.path("no/folder")], [self.trace, "--gcaudit", "/no/such"]):
+        for words in (
+            [self.path("none")],
+            [self.folder],
+            [self.trace, "--output", self.path("no/folder")],
+            [self.trace, "--gcaudit", "/no/such"],
+        ):
             done = self.run_named(*words)
             self.assertEqual(done.returncode, 2)
             self.assertRegex(done.stderr.decode(), r"^gcaudit-named: [^\n]+\n$")
@@ -88,14 +114,18 @@ class Named(InFolder):
         self.assertRegex(done.stderr.decode(), r"^gcaudit-named: \S+ is packed by gzip and damaged: [^\n]+\n$")
         with open("/dev/full", "w") as full:
             done = self.run_named(self.trace, stdout=full)
-        self.assertEqual((done.returncode, done.stderr.decode()), (2, "gcaudit-named: standard output: No space left on device\n"))
+        self.assertEqual(
+            (done.returncode, done.stderr.decode()), (2, "gcaudit-named: standard output: No space left on device\n")
+        )
 
     def test_a_reader_that_is_gone(self):
         reading, writing = os.pipe()
         os.close(reading)
         with os.fdopen(writing, "w") as gone:
             done = self.run_named(self.trace, stdout=gone)
-        self.assertEqual((done.returncode, done.stderr.decode()), (2, "gcaudit-named: nobody reads the output any longer\n"))
+        self.assertEqual(
+            (done.returncode, done.stderr.decode()), (2, "gcaudit-named: nobody reads the output any longer\n")
+        )
 
     def test_ctrl_c_and_other_ends(self):
         """A word, the status of the signal, and nothing is left: no temporary file, and no gcaudit that goes on."""
@@ -112,8 +142,13 @@ class Named(InFolder):
             with open(self.path("endless"), "w") as file:
                 file.write(ENDLESS % begun)
             os.chmod(self.path("endless"), 0o755)
-            process = subprocess.Popen([sys.executable, "-B", "-m", "gcaudit_trace", "--gcaudit", self.path("endless")], stdin=subprocess.PIPE,
-                                       stderr=subprocess.PIPE, preexec_fn=heeded, env=dict(os.environ, PYTHONPATH=RECORDERS, TMPDIR=folder))
+            process = subprocess.Popen(
+                [sys.executable, "-B", "-m", "gcaudit_trace", "--gcaudit", self.path("endless")],
+                stdin=subprocess.PIPE,
+                stderr=subprocess.PIPE,
+                preexec_fn=heeded,
+                env=dict(os.environ, PYTHONPATH=RECORDERS, TMPDIR=folder),
+            )
             process.stdin.write(LEAK.encode())
             process.stdin.close()
             process.stdin = None
@@ -134,9 +169,12 @@ class Named(InFolder):
     def test_no_room_for_a_copy_of_standard_input(self):
         def limited():
             resource.setrlimit(resource.RLIMIT_FSIZE, (100, 100))
+
         done = self.run_named("-", input=LEAK.encode(), preexec_fn=limited)
-        self.assertEqual((done.returncode, done.stderr.decode()),
-                         (2, "gcaudit-named: standard input can't be copied into the folder for temporary files: File too large\n"))
+        self.assertEqual(
+            (done.returncode, done.stderr.decode()),
+            (2, "gcaudit-named: standard input can't be copied into the folder for temporary files: File too large\n"),
+        )
 
     def test_what_is_read_is_not_replaced(self):
         os.symlink(self.trace, self.path("link"))
@@ -150,7 +188,7 @@ class Named(InFolder):
     def test_progress_after_two_seconds(self):
         said, now = io.StringIO(), [100.0]
         said.isatty = lambda: True
-        with mock.patch("sys.stderr", said), mock.patch("gcaudit_trace.command.time.monotonic", lambda: now[0]):
+        with mock.patch("sys.stderr", said), mock.patch("gcaudit_trace.progress.time.monotonic", lambda: now[0]):
             progress = Progress("gcaudit-named", 2.0)
             for _ in range(35):
                 now[0] += 0.1
@@ -163,11 +201,17 @@ class Named(InFolder):
         with open(self.trace) as file:
             found = [json.loads(line) for line in file]
         backwards = [dict(reversed(list(event.items()))) for event in found]
-        for shown in ([json.dumps(event) for event in found], [json.dumps(event, separators=(",", ":")) for event in backwards],
-                      ["\n \t" + json.dumps(event, separators=(" ,", ": ")) + "\r" for event in found],
-                      [json.dumps(event, separators=(",", ":")).replace('"at":', '"\\u0061t":').replace('"id":', '"i\\u0064":') for event in found]):
+        for shown in (
+            [json.dumps(event) for event in found],
+            [json.dumps(event, separators=(",", ":")) for event in backwards],
+            ["\n \t" + json.dumps(event, separators=(" ,", ": ")) + "\r" for event in found],
+            [
+                json.dumps(event, separators=(",", ":")).replace('"at":', '"\\u0061t":').replace('"id":', '"i\\u0064":')
+                for event in found
+            ],
+        ):
             for paths in ("100", "10000"):
-                with mock.patch("gcaudit_trace.report._MOST_IN_EXPRESSION", int(paths) % 10000):
+                with mock.patch("gcaudit_trace.reports.report._MOST_IN_EXPRESSION", int(paths) % 10000):
                     with open(self.trace, "w") as file:
                         file.write("\n".join(shown))
                     self.assertEqual(audit(self.trace, PROGRAM, ["--paths", paths]).named.encode(), report)
@@ -191,9 +235,15 @@ class LargeTraces(InFolder):
         super().setUp()
         self.trace = self.path("trace.jsonl")
         with open(self.trace, "w") as file:
-            file.writelines('{"op":"alloc","id":%d,"type":"com.shop.Node%d","slots":2,"bytes":24}\n' % (number, number % 7) for number in range(1, 50001))
+            file.writelines(
+                '{"op":"alloc","id":%d,"type":"com.shop.Node%d","slots":2,"bytes":24}\n' % (number, number % 7)
+                for number in range(1, 50001)
+            )
             for slot in range(2):
-                file.writelines('{"op":"store","at":%d,"slot":%d,"to":%d,"label":".next%d"}\n' % (number, slot, number + 1, slot) for number in range(1, 50000))
+                file.writelines(
+                    '{"op":"store","at":%d,"slot":%d,"to":%d,"label":".next%d"}\n' % (number, slot, number + 1, slot)
+                    for number in range(1, 50000)
+                )
             file.write('{"op":"root","name":"top","to":1}\n{"op":"collect"}\n')
         line = "gc 1 dead %d com.shop.Node%d: root top -> 1 com.shop.Node1 [0] -> 2 com.shop.Node2 ... %d steps ... [1] -> %d com.shop.Node%d"
         dead = [number for number in range(4, 50000, 499)]
@@ -202,12 +252,14 @@ class LargeTraces(InFolder):
 
     def test_the_names(self):
         self.assertEqual(read_report(self.report, self.trace).named, self.named)
-        with mock.patch("gcaudit_trace.report._MOST_IN_EXPRESSION", 50):
+        with mock.patch("gcaudit_trace.reports.report._MOST_IN_EXPRESSION", 50):
             self.assertEqual(read_report(self.report, self.trace).named, self.named)
 
     def test_lines_of_other_objects_are_not_read(self):
         for most in (4096, 50):
-            with mock.patch("gcaudit_trace.report._MOST_IN_EXPRESSION", most), mock.patch("gcaudit_trace.report.json.loads", side_effect=json.loads) as loads:
+            with mock.patch("gcaudit_trace.reports.report._MOST_IN_EXPRESSION", most), mock.patch(
+                "gcaudit_trace.reports.report.json.loads", side_effect=json.loads
+            ) as loads:
                 read_report(self.report, self.trace)
             self.assertLess(loads.call_count, 1000)
 
@@ -222,22 +274,29 @@ class LargeTraces(InFolder):
                 file.write(json.dumps(event, sort_keys=True, separators=(",", ":")) + "\n")
         named = self.report.replace("[0]", "[slot 0]").replace("[1]", "[slot 1]")
         for most in (4096, 50):
-            with mock.patch("gcaudit_trace.report._MOST_IN_EXPRESSION", most), mock.patch("gcaudit_trace.report.json.loads", side_effect=json.loads) as loads:
+            with mock.patch("gcaudit_trace.reports.report._MOST_IN_EXPRESSION", most), mock.patch(
+                "gcaudit_trace.reports.report.json.loads", side_effect=json.loads
+            ) as loads:
                 self.assertEqual(read_report(self.report, self.trace).named, named)
             self.assertLess(loads.call_count, 1000)
 
     def test_an_operation_behind_its_fields(self):
         """A field that an operation doesn't name is no reason to pass its line over."""
         with open(self.trace, "w") as file:
-            file.write('{"id":1,"op":"alloc","type":"A","slots":1}\n{"at":7,"op":"root","name":"top","to":1}\n{"id":7,"op":"root","name":"top","to":1}\n'
-                       '{"at":8,"op":"collect"}\n{"id":9,"op":"collect"}\n')
+            file.write(
+                '{"id":1,"op":"alloc","type":"A","slots":1}\n{"at":7,"op":"root","name":"top","to":1}\n{"id":7,"op":"root","name":"top","to":1}\n'
+                '{"at":8,"op":"collect"}\n{"id":9,"op":"collect"}\n'
+            )
         for most in (4096, 0):
-            with mock.patch("gcaudit_trace.report._MOST_IN_EXPRESSION", most):
+            with mock.patch("gcaudit_trace.reports.report._MOST_IN_EXPRESSION", most):
                 found = read_report("gc 2 dead 1 A: root top -> 1 A", self.trace)
-                self.assertEqual([(verdict.kind, verdict.paths[0].root) for verdict in found.verdicts], [("dead", "top")])
+                self.assertEqual(
+                    [(verdict.kind, verdict.paths[0].root) for verdict in found.verdicts], [("dead", "top")]
+                )
 
     def test_its_time(self):
         """It takes about as long as to split each line at its first commas."""
+
         def seconds(work):
             start = time.process_time()
             work()
@@ -246,6 +305,7 @@ class LargeTraces(InFolder):
         def split():
             with open(self.trace, "rb") as lines:
                 return [line for line in lines if line.split(b",", 2)[0] == b"{}"]
+
         shares = [seconds(lambda: read_report(self.report, self.trace)) / seconds(split) for _ in range(7)]
         self.assertLess(min(shares), 1.4)
 

@@ -48,6 +48,7 @@ class Config:
 
 class Slotted:
     """Without __weakref__ and without __dict__."""
+
     __slots__ = ("next", "note")
 
     def __init__(self, next=None):
@@ -84,9 +85,13 @@ class Leaks(InFolder):
                 server.ended = recorder.assert_dead
                 service.serve_a_day(server)
                 server.ended = None
+
         report = report_of(lambda: day(True))
-        self.assertRegex(report, r"gc 1 dead \d+ tests\.programs\.service\.Session: root service -> \d+ tests\.programs\.service\.Service"
-                                 r" \.bus -> \d+ tests\.programs\.service\.EventBus \.listeners -> \d+ list \[0\] -> \d+ method \.__self__ -> ")
+        self.assertRegex(
+            report,
+            r"gc 1 dead \d+ tests\.programs\.service\.Session: root service -> \d+ tests\.programs\.service\.Service"
+            r" \.bus -> \d+ tests\.programs\.service\.EventBus \.listeners -> \d+ list \[0\] -> \d+ method \.__self__ -> ",
+        )
         self.assertIn("violations 1", report)
         self.assertIsNone(report_of(lambda: day(False)))
 
@@ -97,8 +102,12 @@ class Leaks(InFolder):
                 recorder.assert_instances(Entry, cache.limit)
                 for key in range(30):
                     cache.put("key%d" % key, evict)
+
         report = report_of(lambda: fill(False))
-        self.assertRegex(report, r"instances tests\.test_python\.Entry limit 10 found 30: root cache -> 1 \S+ \.entries -> \d+ dict \['key10'\] -> ")
+        self.assertRegex(
+            report,
+            r"instances tests\.test_python\.Entry limit 10 found 30: root cache -> 1 \S+ \.entries -> \d+ dict \['key10'\] -> ",
+        )
         self.assertIsNone(report_of(lambda: fill(True)))
 
     def test_doubled_singleton(self):
@@ -107,14 +116,19 @@ class Leaks(InFolder):
             app.plugins["mail"] = App(config=Config() if doubled else app.config)
             with self.audited(app=app) as recorder:
                 recorder.assert_instances(Config, 1)
+
         report = report_of(lambda: start(True))
-        self.assertRegex(report, r"Config limit 1 found 2: root app -> \d+ \S+App \.plugins -> \d+ dict \['mail'\] -> .* \.config -> ")
+        self.assertRegex(
+            report,
+            r"Config limit 1 found 2: root app -> \d+ \S+App \.plugins -> \d+ dict \['mail'\] -> .* \.config -> ",
+        )
         self.assertIsNone(report_of(lambda: start(False)))
 
     def test_element_kept_past_its_container(self):
         def run(kept):
             class Box:
                 pass
+
             app, box, item = App(), Box(), Entry()
             app.box, app.recent, box.item = box, [], item
             with self.audited(app=app) as recorder:
@@ -123,14 +137,22 @@ class Leaks(InFolder):
                 if kept:
                     app.recent.append(item)
                 del app.box, box, item
+
         report = report_of(lambda: run(True))
-        self.assertRegex(report, r"gc 2 ownedby \d+ \S+Entry owner \d+: root app -> 1 \S+App \.recent -> \d+ list \[0\] -> ")
+        self.assertRegex(
+            report, r"gc 2 ownedby \d+ \S+Entry owner \d+: root app -> 1 \S+App \.recent -> \d+ list \[0\] -> "
+        )
         self.assertIsNone(report_of(lambda: run(False)))
 
     def test_each_case_of_an_owner(self):
         """The table of gcaudit_recorder/README.md: by whom the element is held, and whether that is a violation."""
-        for by_box, by_recent, box_lives, violated in ((True, False, True, False), (True, True, True, False), (False, True, True, True),
-                                                       (False, True, False, True), (False, False, True, False)):
+        for by_box, by_recent, box_lives, violated in (
+            (True, False, True, False),
+            (True, True, True, False),
+            (False, True, True, True),
+            (False, True, False, True),
+            (False, False, True, False),
+        ):
             app, item = App(box=App(), recent=[]), Entry()
             app.box.item = item
 
@@ -143,6 +165,7 @@ class Leaks(InFolder):
                         del app.box.item
                     if not box_lives:
                         del app.box
+
             report = report_of(run)
             self.assertEqual(report is not None, violated, (by_box, by_recent, box_lives))
             if violated:
@@ -151,6 +174,7 @@ class Leaks(InFolder):
     def test_element_held_beside_its_container(self):
         class Box:
             pass
+
         app, box, item = App(), Box(), Entry()
         app.box, app.recent, box.item = box, [item], item
         with self.audited(app=app) as recorder:  # reached by the owner too: no violation
@@ -174,8 +198,12 @@ class Leaks(InFolder):
             tree = Node(Node(leaf), Node(leaf if shared else Node()))
             with self.audited(tree=tree) as recorder:
                 recorder.assert_unshared(leaf)
+
         report = report_of(lambda: grow(True))
-        self.assertRegex(report, r"unshared \d+ \S+Node refs 2: root tree -> .* \[0\] -> \d+ \S+Node \.children -> \d+ list \[0\] -> \d+ \S+Node \| root tree")
+        self.assertRegex(
+            report,
+            r"unshared \d+ \S+Node refs 2: root tree -> .* \[0\] -> \d+ \S+Node \.children -> \d+ list \[0\] -> \d+ \S+Node \| root tree",
+        )
         self.assertIsNone(report_of(lambda: grow(False)))
 
     def test_region(self):
@@ -191,6 +219,7 @@ class Leaks(InFolder):
                     if leaks:
                         log.append(request)
                     del request
+
         report = report_of(lambda: serve(True))
         self.assertRegex(report, r"dead \d+ dict: root app -> \d+ \S+App \.log -> \d+ list \[0\] -> ")
         self.assertIn("violations 2", report)
@@ -234,6 +263,7 @@ class Leaks(InFolder):
         def generate(held):
             yield
             return held
+
         item, other = Entry(), Entry()
         waiting = generate(other)
         next(waiting)
@@ -242,19 +272,24 @@ class Leaks(InFolder):
             with self.audited(app=app) as recorder:
                 recorder.assert_dead(item)
                 recorder.assert_dead(other)
-        self.assertRegex(caught.exception.named, r"\.callback -> \d+ function \(variable item\) -> \d+ cell \.cell_contents -> ")
+        self.assertRegex(
+            caught.exception.named, r"\.callback -> \d+ function \(variable item\) -> \d+ cell \.cell_contents -> "
+        )
         self.assertRegex(caught.exception.named, r"\.waiting -> \d+ generator \(local\) -> ")
 
     def test_a_class_and_a_module_as_roots(self):
         class Registry:
             entries = [Entry()]
+
         module = types.ModuleType("settings")
         module.entry = Entry()
         with self.assertRaises(HeapViolation) as caught:
             with self.audited(registry=Registry, settings=module) as recorder:
                 recorder.assert_dead(Registry.entries[0])
                 recorder.assert_dead(module.entry)
-        self.assertRegex(caught.exception.named, r"root registry -> \d+ class \S+Registry \.entries -> \d+ list \[0\] -> ")
+        self.assertRegex(
+            caught.exception.named, r"root registry -> \d+ class \S+Registry \.entries -> \d+ list \[0\] -> "
+        )
         self.assertRegex(caught.exception.named, r"root settings -> \d+ module settings \.entry -> ")
 
 
@@ -328,7 +363,13 @@ class Traces(InFolder):
     def test_addresses_used_again(self):
         # What holds an object that has weak references is told apart by it. Where nothing can tell, an old id comes back.
         again = 0
-        for make, ids_at_least in ((Entry, 12), (lambda: Slotted(Entry()), 12), (lambda: [Entry()], 12), (lambda: [1], 1), (dict, 1)):
+        for make, ids_at_least in (
+            (Entry, 12),
+            (lambda: Slotted(Entry()), 12),
+            (lambda: [Entry()], 12),
+            (lambda: [1], 1),
+            (dict, 1),
+        ):
             recorder = self.recorder()
             app = App()
             recorder.root("app", app)
@@ -420,9 +461,12 @@ class Traces(InFolder):
         class Touchy:
             def __getattribute__(self, name):
                 raise AssertionError("touched")
+
             __eq__ = __hash__ = __repr__ = __bool__ = __len__ = __iter__ = lambda self, *other: 1 / 0
+
         class Table(dict):
             __getitem__ = __iter__ = items = keys = values = lambda self, *other: 1 / 0
+
         touchy = Touchy()
         app = App(table=Table(a=touchy), items=[touchy])
         recorder = self.recorder(app=app)
@@ -433,24 +477,44 @@ class Traces(InFolder):
     def test_slots_and_attributes_of_one_object(self):
         class Base:
             __slots__ = ("slot",)
+
         class Derived(Base):
             pass
+
         class Further(Derived):
             def __init__(self):
                 self.slot, self.attribute = Entry(), Entry()
+
         app = App(further=Further())
         recorder = self.recorder(app=app)
         recorder.collect()
         self.clean(recorder)
-        self.assertEqual(sorted(e["label"] for e in events(self.trace) if e["op"] == "store"), [".attribute", ".further", ".slot"])
+        self.assertEqual(
+            sorted(e["label"] for e in events(self.trace) if e["op"] == "store"), [".attribute", ".further", ".slot"]
+        )
 
     def test_other_containers(self):
         import collections, functools, threading, itertools
+
         entry = Entry()
-        values = [collections.deque([entry]), collections.OrderedDict(a=entry), collections.defaultdict(list, a=[entry]),
-                  {entry}, frozenset([entry]), functools.partial(print, entry), itertools.chain([entry]), threading.Lock(),
-                  ValueError(entry), memoryview(bytearray(5)), collections.ChainMap({"a": entry}), {(1, "a"): entry, entry: 1},
-                  collections.namedtuple("Pair", "a b")(entry, 1), property(lambda self: entry), object(), [].append]
+        values = [
+            collections.deque([entry]),
+            collections.OrderedDict(a=entry),
+            collections.defaultdict(list, a=[entry]),
+            {entry},
+            frozenset([entry]),
+            functools.partial(print, entry),
+            itertools.chain([entry]),
+            threading.Lock(),
+            ValueError(entry),
+            memoryview(bytearray(5)),
+            collections.ChainMap({"a": entry}),
+            {(1, "a"): entry, entry: 1},
+            collections.namedtuple("Pair", "a b")(entry, 1),
+            property(lambda self: entry),
+            object(),
+            [].append,
+        ]
         app = App(values=values)
         recorder = self.recorder(app=app)
         recorder.collect()
@@ -481,15 +545,21 @@ class Traces(InFolder):
         del recorder
         gc.collect()
         self.assertEqual(os.listdir(self.folder), [])
-        program = "from gcaudit_recorder import Recorder\nrecorder = Recorder(%r, {'a': []})\nrecorder.collect()\n" % self.trace
+        program = (
+            "from gcaudit_recorder import Recorder\nrecorder = Recorder(%r, {'a': []})\nrecorder.collect()\n"
+            % self.trace
+        )
         subprocess.run([sys.executable, "-B", "-c", program], env=dict(os.environ, PYTHONPATH=RECORDERS), check=True)
         self.assertEqual(os.listdir(self.folder), [])
 
     @needs_program
     def test_nothing_asserted_or_no_root_is_no_pass(self):
         held = [Entry()]
-        for roots, asserted, why in (({"held": held}, None, "nothing was asserted"), ({}, [Entry()], "no root was there"),
-                                     ({"gone": Entry()}, [Entry()], "no root was there")):
+        for roots, asserted, why in (
+            ({"held": held}, None, "nothing was asserted"),
+            ({}, [Entry()], "no root was there"),
+            ({"gone": Entry()}, [Entry()], "no root was there"),
+        ):
             for may_be_empty in (False, True):
                 recorder = Recorder(self.trace, roots, may_be_empty=may_be_empty)
                 roots = {name: held for name in roots}
@@ -507,7 +577,9 @@ class Traces(InFolder):
         for _ in range(3):
             recorder.collect()
         recorder.close()
-        self.assertEqual({e["op"] for e in events(self.trace)[events(self.trace).index({"op": "collect"}):]}, {"collect"})
+        self.assertEqual(
+            {e["op"] for e in events(self.trace)[events(self.trace).index({"op": "collect"}) :]}, {"collect"}
+        )
         if PROGRAM:
             self.assertIn("gc 3 live 15 traced 15 freed 0\n", recorder.check(PROGRAM))
 
@@ -519,10 +591,14 @@ class Traces(InFolder):
         with self.assertRaises(HeapViolation) as caught:
             recorder.check(PROGRAM, all_instances=True)
         for place, path in enumerate((r"\.first", r"\.others -> \d+ list \[0\]", r"\.others -> \d+ list \[1\]"), 1):
-            self.assertRegex(str(caught.exception), r"gc 1 instance %d of 3 \S+Entry: root app -> 1 \S+App %s -> \d+ \S+Entry\n" % (place, path))
+            self.assertRegex(
+                str(caught.exception),
+                r"gc 1 instance %d of 3 \S+Entry: root app -> 1 \S+App %s -> \d+ \S+Entry\n" % (place, path),
+            )
 
     def test_too_many_objects_say_of_which_types(self):
         from gcaudit_recorder import walk
+
         self.addCleanup(setattr, walk, "MOST_OBJECTS", walk.MOST_OBJECTS)
         walk.MOST_OBJECTS = 100
         app = App(entries=[Entry() for _ in range(200)])
@@ -540,17 +616,37 @@ class Traces(InFolder):
 
     def test_what_is_refused(self):
         recorder = self.recorder()
-        for wrong in (lambda: recorder.assert_dead("text"), lambda: recorder.assert_dead(Entry), lambda: recorder.root("r", 5),
-                      lambda: recorder.assert_instances("Entry", 1), lambda: recorder.assert_instances(Entry, -1),
-                      lambda: recorder.assert_instances(str, 1), lambda: recorder.assert_dead(recorder)):
+        for wrong in (
+            lambda: recorder.assert_dead("text"),
+            lambda: recorder.assert_dead(Entry),
+            lambda: recorder.root("r", 5),
+            lambda: recorder.assert_instances("Entry", 1),
+            lambda: recorder.assert_instances(Entry, -1),
+            lambda: recorder.assert_instances(str, 1),
+            lambda: recorder.assert_dead(recorder),
+        ):
             self.assertRaises(TraceError, wrong)
         entry = Entry()
-        for wrong in (lambda: recorder.assert_owned_by(entry, entry), lambda: recorder.assert_dead(None), lambda: recorder.root(5, entry),
-                      lambda: recorder.assert_instances(Entry, True), lambda: recorder.assert_instances(Entry, "1"), lambda: recorder.assert_owned_by(5, entry),
-                      lambda: Recorder(5), lambda: Recorder(None), lambda: Recorder(self.path("a"), [entry]), lambda: Recorder(self.path("a"), "every"),
-                      lambda: Recorder(self.path("a"), {"a": 5}), lambda: Recorder("a\0b"), lambda: recorder.growth(0, list), lambda: recorder.growth(2, 5),
-                      lambda: recorder.region("Entry").__enter__(), lambda: recorder.region(5).__enter__(), lambda: recorder.region([5]).__enter__(),
-                      lambda: Recorder("")):
+        for wrong in (
+            lambda: recorder.assert_owned_by(entry, entry),
+            lambda: recorder.assert_dead(None),
+            lambda: recorder.root(5, entry),
+            lambda: recorder.assert_instances(Entry, True),
+            lambda: recorder.assert_instances(Entry, "1"),
+            lambda: recorder.assert_owned_by(5, entry),
+            lambda: Recorder(5),
+            lambda: Recorder(None),
+            lambda: Recorder(self.path("a"), [entry]),
+            lambda: Recorder(self.path("a"), "every"),
+            lambda: Recorder(self.path("a"), {"a": 5}),
+            lambda: Recorder("a\0b"),
+            lambda: recorder.growth(0, list),
+            lambda: recorder.growth(2, 5),
+            lambda: recorder.region("Entry").__enter__(),
+            lambda: recorder.region(5).__enter__(),
+            lambda: recorder.region([5]).__enter__(),
+            lambda: Recorder(""),
+        ):
             self.assertRaises(TraceError, wrong)
         self.assertEqual([name for name in os.listdir(self.folder) if "trace.jsonl" not in name], [])
         recorder.close()
@@ -566,12 +662,21 @@ class Naming(InFolder):
     def test_what_gcaudit_reads_is_named(self):
         held = '{"op":"store","at":1,"slot":0,"to":2,%s}\n'
         deep = '"other":' + "[" * 60 + "]" * 60
-        for line, step in ((held % '"label":".x"', " .x -> "), ("\n \t\n" + held % '"label":".x"', " .x -> "), (held % '"label":".x"\r', " .x -> "),
-                           (held % '"label":5', " [slot 0] -> "), (held % '"label":null', " [slot 0] -> "), (held % '"other":1', " [slot 0] -> "),
-                           (held % deep, " [slot 0] -> ")):
+        for line, step in (
+            (held % '"label":".x"', " .x -> "),
+            ("\n \t\n" + held % '"label":".x"', " .x -> "),
+            (held % '"label":".x"\r', " .x -> "),
+            (held % '"label":5', " [slot 0] -> "),
+            (held % '"label":null', " [slot 0] -> "),
+            (held % '"other":1', " [slot 0] -> "),
+            (held % deep, " [slot 0] -> "),
+        ):
             with open(self.path("trace.jsonl"), "w", newline="\n") as file:
-                file.write('{"op":"alloc","id":1,"type":"A","slots":1}\n{"op":"alloc","id":2,"type":"B","slots":0}\n' + line +
-                           '{"op":"root","name":"r","to":1}\n{"op":"assert-dead","id":2}\n{"op":"collect"}\n')
+                file.write(
+                    '{"op":"alloc","id":1,"type":"A","slots":1}\n{"op":"alloc","id":2,"type":"B","slots":0}\n'
+                    + line
+                    + '{"op":"root","name":"r","to":1}\n{"op":"assert-dead","id":2}\n{"op":"collect"}\n'
+                )
             self.assertIn("gc 1 dead 2 B: root r -> 1 A%s2 B\n" % step, audit(self.path("trace.jsonl"), PROGRAM).named)
 
 
@@ -611,16 +716,38 @@ class Plugin(InFolder):
         """The status of pytest over a file of tests, and what it says."""
         with open(self.path("test_it.py"), "w") as file:
             file.write(text)
-        words = [PYTEST, "-B", "-m", "pytest", "-p", "no:cacheprovider", "-p", "gcaudit_recorder.pytest_plugin", "--gcaudit", program,
-                 "--basetemp", self.path("temporary"), "test_it.py"]
-        done = subprocess.run(words, cwd=self.folder, stdout=subprocess.PIPE, stderr=subprocess.STDOUT, env=dict(os.environ, PYTHONPATH=RECORDERS))
+        words = [
+            PYTEST,
+            "-B",
+            "-m",
+            "pytest",
+            "-p",
+            "no:cacheprovider",
+            "-p",
+            "gcaudit_recorder.pytest_plugin",
+            "--gcaudit",
+            program,
+            "--basetemp",
+            self.path("temporary"),
+            "test_it.py",
+        ]
+        done = subprocess.run(
+            words,
+            cwd=self.folder,
+            stdout=subprocess.PIPE,
+            stderr=subprocess.STDOUT,
+            env=dict(os.environ, PYTHONPATH=RECORDERS),
+        )
         return done.returncode, done.stdout.decode()
 
     def test_leak(self):
         status, said = self.run_pytest(LOGOUT % False)
         self.assertEqual(status, 1, said)
-        self.assertRegex(said, r"gc 1 dead \d+ test_it\.Session: root bus -> 1 test_it\.EventBus \.listeners -> \d+ list \[0\] -> "
-                               r"\d+ method \.__self__ -> \d+ test_it\.Session\n")
+        self.assertRegex(
+            said,
+            r"gc 1 dead \d+ test_it\.Session: root bus -> 1 test_it\.EventBus \.listeners -> \d+ list \[0\] -> "
+            r"\d+ method \.__self__ -> \d+ test_it\.Session\n",
+        )
         self.assertIn("1 failed in ", said)
 
     def test_the_twin_passes(self):
@@ -629,7 +756,9 @@ class Plugin(InFolder):
         self.assertIn("1 passed in ", said)
 
     def test_a_root_that_was_taken_away(self):
-        status, said = self.run_pytest(LOGOUT % False + "    heap.root('bus', None)\n    heap.may_be_empty = True\n    del bus, session\n")
+        status, said = self.run_pytest(
+            LOGOUT % False + "    heap.root('bus', None)\n    heap.may_be_empty = True\n    del bus, session\n"
+        )
         self.assertEqual(status, 0, said)
 
     def test_a_test_that_fails_itself(self):
@@ -639,15 +768,19 @@ class Plugin(InFolder):
         self.assertNotIn("gcaudit found a violation", said)
 
     def test_xfail_takes_a_violation(self):
-        mark = "import pytest\n" + (LOGOUT % False).replace("def test_logout", "@pytest.mark.xfail(raises=AssertionError, strict=True)\ndef test_logout")
+        mark = "import pytest\n" + (LOGOUT % False).replace(
+            "def test_logout", "@pytest.mark.xfail(raises=AssertionError, strict=True)\ndef test_logout"
+        )
         status, said = self.run_pytest(mark)
         self.assertEqual(status, 0, said)
         self.assertIn("1 xfailed in ", said)
 
     def test_a_test_that_asserts_nothing_or_names_no_root_fails(self):
-        for text, why in (("def test_it(heap):\n    heap.root('a', [1])\n", "nothing was asserted"),
-                          ("def test_it(heap):\n    heap.assert_dead([[]])\n", "no root was there"),
-                          ("def test_it(heap):\n    pass\n", "nothing was asserted")):
+        for text, why in (
+            ("def test_it(heap):\n    heap.root('a', [1])\n", "nothing was asserted"),
+            ("def test_it(heap):\n    heap.assert_dead([[]])\n", "no root was there"),
+            ("def test_it(heap):\n    pass\n", "nothing was asserted"),
+        ):
             status, said = self.run_pytest(text)
             self.assertEqual(status, 1, said)
             self.assertIn(why, said)

@@ -15,11 +15,13 @@ class App:
 
 class Slotted:
     """Without __weakref__ and without __dict__."""
+
     __slots__ = ("held",)
 
 
 class Bare:
     """Python's collector doesn't track it."""
+
     __slots__ = ()
 
 
@@ -34,9 +36,19 @@ class Session:
         pass
 
 
-KINDS = {"Slotted": Slotted, "Bare": Bare, "list": lambda: [1], "dict of plain values": lambda: {"n": 1}, "empty dict": dict, "dict": lambda: {"n": []},
-         "tuple of plain values": lambda: tuple([1, 2.5]), "tuple": lambda: ([],), "deque": collections.deque, "object": object,
-         "session": Session}
+KINDS = {
+    "Slotted": Slotted,
+    "Bare": Bare,
+    "list": lambda: [1],
+    "dict of plain values": lambda: {"n": 1},
+    "empty dict": dict,
+    "dict": lambda: {"n": []},
+    "tuple of plain values": lambda: tuple([1, 2.5]),
+    "tuple": lambda: ([],),
+    "deque": collections.deque,
+    "object": object,
+    "session": Session,
+}
 
 
 @needs_program
@@ -78,9 +90,9 @@ class Regions(InFolder):
                 inner = app.later[0]
                 recorder = self.recorder(app=app)
                 with recorder.region():
-                    app.log.append(local)           # what only a variable held so far
-                    app.table["tracked"] = app      # Python's collector begins to track it
-                    app.holds.clear()               # and ends to track this
+                    app.log.append(local)  # what only a variable held so far
+                    app.table["tracked"] = app  # Python's collector begins to track it
+                    app.holds.clear()  # and ends to track this
                     app.holds["n"] = 5
                     app.moved, app.inner = app.kept, inner
                     app.kept = app.later = None
@@ -109,16 +121,28 @@ class Regions(InFolder):
             app.log.append(Session())
         self.assertGreater(self.violations(recorder), 8)
         lines = self.said.split("\n")
-        self.assertRegex(lines[2], r"^gc 1 dead \d+ tests\.test_regions\.Session: root app -> \d+ \S+App \.log -> \d+ list \[0\] -> \d+ \S+Session$")
-        self.assertRegex(lines[3], r"^    from it hang \d+ more that must be dead: dict 3, list 3, method 1, weakref\.ReferenceType 1$")
+        self.assertRegex(
+            lines[2],
+            r"^gc 1 dead \d+ tests\.test_regions\.Session: root app -> \d+ \S+App \.log -> \d+ list \[0\] -> \d+ \S+Session$",
+        )
+        self.assertRegex(
+            lines[3],
+            r"^    from it hang \d+ more that must be dead: dict 3, list 3, method 1, weakref\.ReferenceType 1$",
+        )
         self.assertRegex(lines[4], "^end gcs 1 violations ")
         with open(self.path("trace.jsonl")) as file:
             dead = [line for line in file if '"thread":1' in line]
-        self.assertIn("Session", dead[1])   # behind the start of the region
+        self.assertIn("Session", dead[1])  # behind the start of the region
 
     def test_what_is_ignored(self):
-        for patterns, violations in (((), 4), (["*.Session"], 3), (["root app.log*"], 1), (["root app.metrics", "root app.log*"], 0),
-                                     (["root app.log[?].data*"], 2), (["root app.metrics", "*Session", "dict", "list"], 0)):
+        for patterns, violations in (
+            ((), 4),
+            (["*.Session"], 3),
+            (["root app.log*"], 1),
+            (["root app.metrics", "root app.log*"], 0),
+            (["root app.log[?].data*"], 2),
+            (["root app.metrics", "*Session", "dict", "list"], 0),
+        ):
             app = App(log=[], metrics=None)
             recorder = self.recorder(app=app)
             with recorder.region(ignore=patterns):

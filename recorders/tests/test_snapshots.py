@@ -10,19 +10,24 @@ from unittest import mock
 from tests.support import PROGRAM, PROGRAMS, RECORDERS, SNAPSHOTS, InFolder, needs_commands, needs_snapshots
 from tests.test_dumps import dump_java, run, written_hprof, written_snapshot
 
-from gcaudit_trace import audit, writer
-from gcaudit_trace.summary import main as summary
+from gcaudit_trace import audit
+from gcaudit_trace.commands.summary import main as summary
+from gcaudit_trace.traces import limits, snapshot_writer
 from heapsnapshot_to_trace.__main__ import main as heapsnapshot_to_trace
 from hprof_to_trace.__main__ import main as hprof_to_trace
 
 LONG = "long" * 75
 CHAIN = ["kept/A", "out/B", "out/C", "kept/D"]
 # The classes are objects too. What is left out between the third and the fourth is passed over; the fourth holds itself.
-OF_CHAIN = ("heapsnap 1\nobject 1 0 class kept.A\nobject 2 0 class kept.D\nobject 3 1 kept.A\nslot 0 4\nobject 4 1 kept.D\nslot 0 4\n"
-            "root 3 unknown root\nend\n")
+OF_CHAIN = (
+    "heapsnap 1\nobject 1 0 class kept.A\nobject 2 0 class kept.D\nobject 3 1 kept.A\nslot 0 4\nobject 4 1 kept.D\nslot 0 4\n"
+    "root 3 unknown root\nend\n"
+)
 # The second slot of the first object is weak, so it is empty.
-OF_SNAPSHOT = ('heapsnap 1\nobject 1 2 A\\"]\nslot 0 2\nobject 2 1 %s~%s\nslot 0 3\nobject 3 0 é\u2028\U0001f600\\x0a\nroot 1 A\\"]\nend\n'
-               % (LONG[:247], hashlib.sha256(LONG.encode()).hexdigest()[:8]))
+OF_SNAPSHOT = (
+    'heapsnap 1\nobject 1 2 A\\"]\nslot 0 2\nobject 2 1 %s~%s\nslot 0 3\nobject 3 0 é\u2028\U0001f600\\x0a\nroot 1 A\\"]\nend\n'
+    % (LONG[:247], hashlib.sha256(LONG.encode()).hexdigest()[:8])
+)
 
 
 class Snapshots(InFolder):
@@ -61,38 +66,56 @@ class Texts(Snapshots):
 
     def test_roots_by_the_bytes_of_their_names(self):
         found = []
-        snapshot = writer.SnapshotWriter(found.append)
+        snapshot = snapshot_writer.SnapshotWriter(found.append)
         snapshot.object("A", [])
         snapshot.object("B", [("", 2, False), ("", 0, False), ("", 1, True), ("", 1, False)])
         snapshot.finish([("\U0001f600", 1), ("z", 2), ("Z", 1), ("\uffee", 2), ("z z", 1), ("é", 2)])
-        self.assertEqual("".join(found), "heapsnap 1\nobject 1 0 A\nobject 2 4 B\nslot 0 2\nslot 3 1\n"
-                         "root 1 Z\nroot 2 z\nroot 1 z z\nroot 2 é\nroot 2 \uffee\nroot 1 \U0001f600\nend\n")
+        self.assertEqual(
+            "".join(found),
+            "heapsnap 1\nobject 1 0 A\nobject 2 4 B\nslot 0 2\nslot 3 1\n"
+            "root 1 Z\nroot 2 z\nroot 1 z z\nroot 2 é\nroot 2 \uffee\nroot 1 \U0001f600\nend\n",
+        )
 
     def test_limits_are_those_of_a_trace(self):
         """What is refused as a trace is refused as a snapshot, by the same sentence, with the same status, and no file is left."""
-        for name, most, what in (("MOST_TYPES", 2, "2 types"), ("MOST_OBJECTS", 2, "2 live objects"), ("MOST_SLOTS", 2, "2 live slots"), ("MOST_ROOTS", 0, "0 roots")):
+        for name, most, what in (
+            ("MOST_TYPES", 2, "2 types"),
+            ("MOST_OBJECTS", 2, "2 live objects"),
+            ("MOST_SLOTS", 2, "2 live slots"),
+            ("MOST_ROOTS", 0, "0 roots"),
+        ):
             said = []
             for words in ([], ["--snapshot"]):
                 self.write_dump(heapsnapshot_to_trace)
-                with mock.patch.object(writer, name, most):
+                with mock.patch.object(limits, name, most):
                     said.append(run(heapsnapshot_to_trace, self.path("dump"), self.path("none"), *words))
                 self.assertEqual(os.listdir(self.folder), ["dump"])
             want = "heapsnapshot_to_trace: the %%s would have more than %s, which gcaudit doesn't take\n" % what
             self.assertEqual(said, [(2, want % "trace"), (2, want % "snapshot")])
 
     def test_at_its_limits(self):
-        for name, most in (("MOST_TYPES", 3), ("MOST_OBJECTS", 3), ("MOST_SLOTS", 3), ("MOST_ROOTS", 1), ("LONGEST_SNAPSHOT", len(OF_SNAPSHOT.encode()))):
+        for name, most in (
+            ("MOST_TYPES", 3),
+            ("MOST_OBJECTS", 3),
+            ("MOST_SLOTS", 3),
+            ("MOST_ROOTS", 1),
+            ("LONGEST_SNAPSHOT", len(OF_SNAPSHOT.encode())),
+        ):
             self.write_dump(heapsnapshot_to_trace)
-            with mock.patch.object(writer, name, most):
+            with mock.patch.object(limits, name, most):
                 self.assertEqual(self.snapshot_of(heapsnapshot_to_trace, self.path("dump")).decode(), OF_SNAPSHOT)
 
     def test_one_byte_too_long(self):
         self.write_dump(heapsnapshot_to_trace)
-        with mock.patch.object(writer, "LONGEST_SNAPSHOT", len(OF_SNAPSHOT.encode()) - 1):
+        with mock.patch.object(limits, "LONGEST_SNAPSHOT", len(OF_SNAPSHOT.encode()) - 1):
             status, said = run(heapsnapshot_to_trace, self.path("dump"), self.path("none"), "--snapshot")
         self.assertEqual((status, os.listdir(self.folder)), (2, ["dump"]))
-        self.assertEqual(said, "heapsnapshot_to_trace: the snapshot would have more than %d bytes, which gcsnap doesn't take\n" % (len(OF_SNAPSHOT.encode()) - 1))
-        self.assertEqual(writer.LONGEST_SNAPSHOT, 2 ** 28)
+        self.assertEqual(
+            said,
+            "heapsnapshot_to_trace: the snapshot would have more than %d bytes, which gcsnap doesn't take\n"
+            % (len(OF_SNAPSHOT.encode()) - 1),
+        )
+        self.assertEqual(limits.LONGEST_SNAPSHOT, 2**28)
 
     def test_assertions_are_refused(self):
         for words in (["--dead", "A"], ["--limit", "A=1"], ["--unshared", "A"], ["--owned-by", "A=B"]):
@@ -100,19 +123,30 @@ class Texts(Snapshots):
                 self.write_dump(convert)
                 status, said = run(convert, self.path("dump"), self.path("none"), "--snapshot", *words)
                 self.assertEqual((status, os.listdir(self.folder)), (2, ["dump"]))
-                self.assertRegex(said, r"^\w+: a snapshot has no assertions; put them into the trace that gcsnap to-trace makes of it\n$")
+                self.assertRegex(
+                    said,
+                    r"^\w+: a snapshot has no assertions; put them into the trace that gcsnap to-trace makes of it\n$",
+                )
 
     def test_a_snapshot_is_no_trace(self):
         words = self.write_dump(hprof_to_trace)
         self.snapshot_of(hprof_to_trace, self.path("dump"), *words)
         status, said = run(summary, self.path("heap.snapshot"))
-        self.assertEqual((status, said), (2, "gcaudit-summary: %s is a snapshot for gcsnap: gcsnap to-trace makes a trace of it, "
-                                          "and a collection belongs behind that\n" % self.path("heap.snapshot")))
+        self.assertEqual(
+            (status, said),
+            (
+                2,
+                "gcaudit-summary: %s is a snapshot for gcsnap: gcsnap to-trace makes a trace of it, "
+                "and a collection belongs behind that\n" % self.path("heap.snapshot"),
+            ),
+        )
 
     def test_the_dump_is_not_replaced(self):
         self.write_dump(hprof_to_trace)
         status, said = run(hprof_to_trace, self.path("dump"), self.path("dump"), "--snapshot")
-        self.assertEqual((status, said), (2, "hprof_to_trace: the snapshot would replace the dump, %s\n" % self.path("dump")))
+        self.assertEqual(
+            (status, said), (2, "hprof_to_trace: the snapshot would replace the dump, %s\n" % self.path("dump"))
+        )
         self.assertEqual(os.path.getsize(self.path("dump")), len(written_hprof("I", CHAIN)))
 
 
@@ -124,17 +158,30 @@ class Audited(Snapshots):
         lines = self.trace_of(self.snapshot_of(hprof_to_trace, self.path("dump"), *words))
         with open(self.path("trace.jsonl"), "w") as file:
             file.write("\n".join(lines + ['{"op":"assert-dead","id":4}', '{"op":"collect"}']) + "\n")
-        done = subprocess.run([sys.executable, "-B", "-m", "gcaudit_trace", "--gcaudit", PROGRAM, self.path("trace.jsonl")], stdout=subprocess.PIPE,
-                              env=dict(os.environ, PYTHONPATH=RECORDERS))
-        self.assertEqual((done.returncode, done.stdout.decode()), (1, "gc 1 live 4 traced 2 freed 2\ngc 1 dead 4 kept.D: root unknown root -> 3 kept.A [slot 0] -> 4 kept.D\n"
-                                                                  "end gcs 1 violations 1\n"))
+        done = subprocess.run(
+            [sys.executable, "-B", "-m", "gcaudit_trace", "--gcaudit", PROGRAM, self.path("trace.jsonl")],
+            stdout=subprocess.PIPE,
+            env=dict(os.environ, PYTHONPATH=RECORDERS),
+        )
+        self.assertEqual(
+            (done.returncode, done.stdout.decode()),
+            (
+                1,
+                "gc 1 live 4 traced 2 freed 2\ngc 1 dead 4 kept.D: root unknown root -> 3 kept.A [slot 0] -> 4 kept.D\n"
+                "end gcs 1 violations 1\n",
+            ),
+        )
 
     def test_odd_names(self):
         """Names as the format has them: with spaces at each end, cut, with escapes, of other letters."""
         for names in ([" a b ", "x" * 300, "é" * 128, "bad\x01\x7f\nname"], ["", "\u2028", "[Lpart/of;", "\ud800half"]):
             with open(self.path("dump"), "wb") as file:
                 file.write(written_hprof("Q", names))
-            kinds = {json.loads(line)["type"] for line in self.trace_of(self.snapshot_of(hprof_to_trace, self.path("dump"))) if '"op":"alloc"' in line}
+            kinds = {
+                json.loads(line)["type"]
+                for line in self.trace_of(self.snapshot_of(hprof_to_trace, self.path("dump")))
+                if '"op":"alloc"' in line
+            }
             status, said = run(hprof_to_trace, self.path("dump"), self.path("trace.jsonl"))
             self.assertEqual(status, 0, said)
             with open(self.path("trace.jsonl"), encoding="utf-8") as file:
@@ -152,9 +199,13 @@ class Audited(Snapshots):
             event = json.loads(line)
             if event["op"] == "alloc":
                 ids.setdefault(event["type"], []).append(event["id"])
-        asserted = [{"op": "assert-dead", "id": one} for one in ids[names["Ended"]]] + [{"op": "assert-instances", "type": names["Config"], "limit": 1}]
+        asserted = [{"op": "assert-dead", "id": one} for one in ids[names["Ended"]]] + [
+            {"op": "assert-instances", "type": names["Config"], "limit": 1}
+        ]
         asserted += [{"op": "assert-unshared", "id": one} for one in ids[names["Node"]]]
-        asserted += [{"op": "assert-ownedby", "owner": ids[names["Box"]][0], "ownee": one} for one in ids[names["Item"]]]
+        asserted += [
+            {"op": "assert-ownedby", "owner": ids[names["Box"]][0], "ownee": one} for one in ids[names["Item"]]
+        ]
         asserted = list(map(json.dumps, asserted))
         self.assertEqual(written[-1], '{"op":"collect"}')
         of_trace = self.audited(written[:-1] + asserted + written[-1:])
@@ -164,20 +215,36 @@ class Audited(Snapshots):
 
     @needs_commands("java", "javac", "jcmd")
     def test_a_jvm(self):
-        subprocess.run(["javac", "-d", self.folder, os.path.join(PROGRAMS, "SessionLeak.java")], check=True, timeout=300)
-        names = {name: "SessionLeak$" + full for name, full in dict(Ended="EndedSession", Config="Config", Node="Node", Box="Box", Item="Item").items()}
+        subprocess.run(
+            ["javac", "-d", self.folder, os.path.join(PROGRAMS, "SessionLeak.java")], check=True, timeout=300
+        )
+        names = {
+            name: "SessionLeak$" + full
+            for name, full in dict(Ended="EndedSession", Config="Config", Node="Node", Box="Box", Item="Item").items()
+        }
         dump = dump_java(self.folder, "leak", "leak")
         for words in ((), ("--only", "SessionLeak", "--only", "java.util.")):
-            self.assertEqual({verdict.kind for verdict in self.same_verdicts(hprof_to_trace, dump, names, *words)}, {"dead", "instances", "unshared", "ownedby"})
+            self.assertEqual(
+                {verdict.kind for verdict in self.same_verdicts(hprof_to_trace, dump, names, *words)},
+                {"dead", "instances", "unshared", "ownedby"},
+            )
 
     @needs_commands("node")
     def test_node(self):
         names = dict(Ended="EndedSession", Config="Config", Node="TreeNode", Box="Box", Item="Item")
         dump = self.path("leak.heapsnapshot")
-        subprocess.run(["node", os.path.join(PROGRAMS, "session_leak.js"), "leak", dump], check=True, timeout=300, stdout=subprocess.PIPE)
+        subprocess.run(
+            ["node", os.path.join(PROGRAMS, "session_leak.js"), "leak", dump],
+            check=True,
+            timeout=300,
+            stdout=subprocess.PIPE,
+        )
         only = [word for name in list(names.values()) + ["EventBus", "Listener"] for word in ("--only", name)]
         # (an object leads to its class and that to all of the program: beside --snapshot these edges stay, so the box may own every item)
-        self.assertLessEqual({"dead", "instances", "unshared"}, {verdict.kind for verdict in self.same_verdicts(heapsnapshot_to_trace, dump, names, *only)})
+        self.assertLessEqual(
+            {"dead", "instances", "unshared"},
+            {verdict.kind for verdict in self.same_verdicts(heapsnapshot_to_trace, dump, names, *only)},
+        )
 
 
 if __name__ == "__main__":

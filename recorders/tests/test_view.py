@@ -31,9 +31,22 @@ def store(at, slot, to, label):
 
 
 # Three sessions that must be dead, two of them in a list of listeners; the first holds a buffer that must be dead too.
-LEAK = [alloc(1, "Bus", 1), alloc(2, "list", 3), alloc(3, "Session", 1), alloc(4, "Session", 1), alloc(5, "Buffer", 0, 1000), alloc(6, "Cache", 1),
-        alloc(7, "Session"), store(1, 0, 2, ".listeners"), store(2, 0, 3, "[0]"), store(2, 1, 4, "[1]"), store(3, 0, 5, ".buffer"),
-        store(6, 0, 7, "['" + HOSTILE + "']"), {"op": "root", "name": "bus", "to": 1}, {"op": "root", "name": "cache", "to": 6}]
+LEAK = [
+    alloc(1, "Bus", 1),
+    alloc(2, "list", 3),
+    alloc(3, "Session", 1),
+    alloc(4, "Session", 1),
+    alloc(5, "Buffer", 0, 1000),
+    alloc(6, "Cache", 1),
+    alloc(7, "Session"),
+    store(1, 0, 2, ".listeners"),
+    store(2, 0, 3, "[0]"),
+    store(2, 1, 4, "[1]"),
+    store(3, 0, 5, ".buffer"),
+    store(6, 0, 7, "['" + HOSTILE + "']"),
+    {"op": "root", "name": "bus", "to": 1},
+    {"op": "root", "name": "cache", "to": 6},
+]
 DEAD = [{"op": "assert-dead", "id": number} for number in (3, 4, 5, 7)]
 UNSHARED = [{"op": "assert-unshared", "id": 5}, store(4, 0, 5, ".buffer")]
 COLLECT = {"op": "collect"}
@@ -46,8 +59,13 @@ class Commands(InFolder):
         return self.path(name)
 
     def run_module(self, module, *words):
-        return subprocess.run([sys.executable, "-B", "-m", "gcaudit_trace." + module, *words], stdout=subprocess.PIPE, stderr=subprocess.PIPE,
-                              env=dict(os.environ, PYTHONPATH=RECORDERS), cwd=self.folder)
+        return subprocess.run(
+            [sys.executable, "-B", "-m", "gcaudit_trace.commands." + module, *words],
+            stdout=subprocess.PIPE,
+            stderr=subprocess.PIPE,
+            env=dict(os.environ, PYTHONPATH=RECORDERS),
+            cwd=self.folder,
+        )
 
     def said(self, module, *words, status=0):
         done = self.run_module(module, *words)
@@ -57,20 +75,33 @@ class Commands(InFolder):
 
 class Summary(Commands):
     def test_types_and_roots(self):
-        self.assertEqual(self.said("summary", self.write(*LEAK, COLLECT)).split("\n"), [
-            "7 objects, 1,060 bytes", "",
-            "objects  bytes  kept alone  bytes kept alone  type",
-            "      1  1,000           1             1,000  Buffer",
-            "      3     30           4             1,030  Session",
-            "      1     10           5             1,040  Bus",
-            "      1     10           2                20  Cache",
-            "      1     10           4             1,030  list", "",
-            "reaches  kept alone  bytes kept alone  root",
-            "      5           5             1,040  bus",
-            "      2           2                20  cache", ""])
+        self.assertEqual(
+            self.said("summary", self.write(*LEAK, COLLECT)).split("\n"),
+            [
+                "7 objects, 1,060 bytes",
+                "",
+                "objects  bytes  kept alone  bytes kept alone  type",
+                "      1  1,000           1             1,000  Buffer",
+                "      3     30           4             1,030  Session",
+                "      1     10           5             1,040  Bus",
+                "      1     10           2                20  Cache",
+                "      1     10           4             1,030  list",
+                "",
+                "reaches  kept alone  bytes kept alone  root",
+                "      5           5             1,040  bus",
+                "      2           2                20  cache",
+                "",
+            ],
+        )
 
     def test_the_last_collection_counts(self):
-        trace = self.write(*LEAK, COLLECT, {"op": "root", "name": "bus", "to": None}, COLLECT, {"op": "root", "name": "cache", "to": None})
+        trace = self.write(
+            *LEAK,
+            COLLECT,
+            {"op": "root", "name": "bus", "to": None},
+            COLLECT,
+            {"op": "root", "name": "cache", "to": None},
+        )
         self.assertIn("2 objects, 20 bytes", self.said("summary", trace, "--top", "1"))
         self.assertIn("and 1 types more", self.said("summary", trace, "--top", "1"))
 
@@ -81,11 +112,17 @@ class Summary(Commands):
 
     def test_what_would_be_replaced(self):
         trace = self.write(*LEAK, COLLECT)
-        for words in (["view", trace, "--sarif", trace], ["view", trace, "--html", self.path("out"), "--junit", self.path("out")],
-                      ["summary", trace, "--output", trace], ["growth", trace, trace, "--output", trace]):
+        for words in (
+            ["view", trace, "--sarif", trace],
+            ["view", trace, "--html", self.path("out"), "--junit", self.path("out")],
+            ["summary", trace, "--output", trace],
+            ["growth", trace, trace, "--output", trace],
+        ):
             done = self.run_module(*words)
             self.assertEqual((done.returncode, done.stdout), (2, b""))
-            self.assertRegex(done.stderr.decode(), r"^gcaudit-\w+: %s would be replaced: [^\n]+\n$" % re.escape(words[-1]))
+            self.assertRegex(
+                done.stderr.decode(), r"^gcaudit-\w+: %s would be replaced: [^\n]+\n$" % re.escape(words[-1])
+            )
         self.assertEqual(os.listdir(self.folder), ["trace.jsonl"])
         done = self.run_module("summary", trace, "--top", "-3")
         self.assertIn(b"argument --top: a number from 0 on is wanted, not -3\n", done.stderr)
@@ -102,17 +139,39 @@ class Summary(Commands):
 
 class Growth(Commands):
     def test_collections_of_a_trace(self):
-        trace = self.write(*LEAK, COLLECT, alloc(10, "Session", 1), alloc(11, "Buffer", 0, 100), store(2, 2, 10, "[2]"), store(10, 0, 11, ".buffer"),
-                           COLLECT, alloc(12, "Session", 1), alloc(13, "Buffer", 0, 100), store(4, 0, 12, ".next"), store(12, 0, 13, ".buffer"), COLLECT)
-        self.assertEqual(self.said("growth", trace).split("\n"), [
-            "+0.5 Session a collection, 5 bytes, held by Bus.listeners (2 -> 3 -> 3)",
-            "    its objects keep 2 objects more alone a collection, 110 bytes",
-            "  +1 Buffer a collection, 100 bytes, held by Session.buffer (1 -> 2 -> 3)",
-            "  +0.5 Session a collection, 5 bytes, held by Session.next (0 -> 0 -> 1)", ""])
+        trace = self.write(
+            *LEAK,
+            COLLECT,
+            alloc(10, "Session", 1),
+            alloc(11, "Buffer", 0, 100),
+            store(2, 2, 10, "[2]"),
+            store(10, 0, 11, ".buffer"),
+            COLLECT,
+            alloc(12, "Session", 1),
+            alloc(13, "Buffer", 0, 100),
+            store(4, 0, 12, ".next"),
+            store(12, 0, 13, ".buffer"),
+            COLLECT,
+        )
+        self.assertEqual(
+            self.said("growth", trace).split("\n"),
+            [
+                "+0.5 Session a collection, 5 bytes, held by Bus.listeners (2 -> 3 -> 3)",
+                "    its objects keep 2 objects more alone a collection, 110 bytes",
+                "  +1 Buffer a collection, 100 bytes, held by Session.buffer (1 -> 2 -> 3)",
+                "  +0.5 Session a collection, 5 bytes, held by Session.next (0 -> 0 -> 1)",
+                "",
+            ],
+        )
 
     def test_two_traces(self):
-        first, second = self.write(*LEAK, COLLECT), self.write(*LEAK, alloc(9, "Session"), store(2, 2, 9, "[2]"), COLLECT, name="second.jsonl")
-        self.assertEqual(self.said("growth", first, second).split("\n")[0], "+1 Session a dump, 10 bytes, held by Bus.listeners (2 -> 3)")
+        first, second = self.write(*LEAK, COLLECT), self.write(
+            *LEAK, alloc(9, "Session"), store(2, 2, 9, "[2]"), COLLECT, name="second.jsonl"
+        )
+        self.assertEqual(
+            self.said("growth", first, second).split("\n")[0],
+            "+1 Session a dump, 10 bytes, held by Bus.listeners (2 -> 3)",
+        )
         self.assertEqual(self.said("growth", second, first), "nothing became more\n")
 
     def test_one_heap_is_refused(self):
@@ -127,15 +186,23 @@ class Growth(Commands):
         class Session:
             def __init__(self):
                 self.data = {}
+
         bus, cache = Bus(), {}
 
         def work():
             bus.listeners.append(Session())
             cache["last"] = Session()
+
         with Recorder(self.path("trace.jsonl"), {"bus": bus, "cache": cache}) as recorder:
             growth = recorder.growth(3, work)
-            self.assertRegex(str(growth).split("\n")[0], r"^\+1 \S+Session a round, \d+ bytes, held by \S+Bus\.listeners \(1 -> 2 -> 3 -> 4\)$")
-            self.assertRegex(str(growth).split("\n")[1], r"^  \+1 dict a round, \d+ bytes, held by \S+Session\.data \(2 -> 3 -> 4 -> 5\)$")
+            self.assertRegex(
+                str(growth).split("\n")[0],
+                r"^\+1 \S+Session a round, \d+ bytes, held by \S+Bus\.listeners \(1 -> 2 -> 3 -> 4\)$",
+            )
+            self.assertRegex(
+                str(growth).split("\n")[1],
+                r"^  \+1 dict a round, \d+ bytes, held by \S+Session\.data \(2 -> 3 -> 4 -> 5\)$",
+            )
             self.assertEqual(str(recorder.growth(2, lambda: None)), "nothing became more")
 
 
@@ -145,25 +212,52 @@ class View(Commands):
         return self.said("view", *words, "--gcaudit", PROGRAM, status=status)
 
     def test_groups(self):
-        self.assertEqual(self.view(self.write(*LEAK, *DEAD, COLLECT)).split("\n"), [
-            "Session (2 times) must be dead and is reached (collection 1; keeps 2 objects, 1,010 bytes alive alone; "
-            "1 more that must be dead hang from it: Buffer 1)",
-            "    root bus -> 1 Bus .listeners -> 2 list [0] -> 3 Session",
-            "Session must be dead and is reached (collection 1; keeps 1 object, 10 bytes alive alone)",
-            "    root cache -> 6 Cache ['%s'] -> 7 Session" % HOSTILE,
-            "4 violations in 2 groups; 1 collections", ""])
+        self.assertEqual(
+            self.view(self.write(*LEAK, *DEAD, COLLECT)).split("\n"),
+            [
+                "Session (2 times) must be dead and is reached (collection 1; keeps 2 objects, 1,010 bytes alive alone; "
+                "1 more that must be dead hang from it: Buffer 1)",
+                "    root bus -> 1 Bus .listeners -> 2 list [0] -> 3 Session",
+                "Session must be dead and is reached (collection 1; keeps 1 object, 10 bytes alive alone)",
+                "    root cache -> 6 Cache ['%s'] -> 7 Session" % HOSTILE,
+                "4 violations in 2 groups; 1 collections",
+                "",
+            ],
+        )
 
     def test_other_kinds(self):
-        trace = self.write(*LEAK, *UNSHARED, {"op": "assert-instances", "type": "Session", "limit": 2}, {"op": "assert-ownedby", "owner": 6, "ownee": 3},
-                           COLLECT)
+        trace = self.write(
+            *LEAK,
+            *UNSHARED,
+            {"op": "assert-instances", "type": "Session", "limit": 2},
+            {"op": "assert-ownedby", "owner": 6, "ownee": 3},
+            COLLECT,
+        )
         said = self.view(trace)
-        self.assertIn("Session has more objects than its limit: 3, and the limit is 2 (collection 1; keeps 3 objects, 30 bytes alive alone)\n", said)
-        self.assertIn("Buffer may have one reference and has more (collection 1; 2 references; keeps 1 object, 1,000 bytes alive alone)\n", said)
-        self.assertIn("Session outlives its owner's hold on it (collection 1; its owner, object 6, doesn't lead to it; ", said)
+        self.assertIn(
+            "Session has more objects than its limit: 3, and the limit is 2 (collection 1; keeps 3 objects, 30 bytes alive alone)\n",
+            said,
+        )
+        self.assertIn(
+            "Buffer may have one reference and has more (collection 1; 2 references; keeps 1 object, 1,000 bytes alive alone)\n",
+            said,
+        )
+        self.assertIn(
+            "Session outlives its owner's hold on it (collection 1; its owner, object 6, doesn't lead to it; ", said
+        )
 
     def test_no_violation(self):
         trace = self.write(*LEAK, COLLECT)
-        said = self.view(trace, "--html", self.path("page.html"), "--junit", self.path("junit.xml"), "--sarif", self.path("all.sarif"), status=0)
+        said = self.view(
+            trace,
+            "--html",
+            self.path("page.html"),
+            "--junit",
+            self.path("junit.xml"),
+            "--sarif",
+            self.path("all.sarif"),
+            status=0,
+        )
         self.assertEqual(said, "0 violations in 0 groups; 1 collections\n")
         suite = ElementTree.parse(self.path("junit.xml")).getroot()[0]
         self.assertEqual((suite.get("tests"), suite.get("failures")), ("1", "0"))
@@ -184,15 +278,25 @@ class View(Commands):
         if shutil.which("xmllint") is None:
             self.skipTest("xmllint is not there")
         for schema in ("jenkins-junit-10.xsd", "ant-junit.xsd"):
-            done = subprocess.run(["xmllint", "--noout", "--schema", os.path.join(SCHEMAS, schema), path], stderr=subprocess.PIPE)
+            done = subprocess.run(
+                ["xmllint", "--noout", "--schema", os.path.join(SCHEMAS, schema), path], stderr=subprocess.PIPE
+            )
             self.assertEqual(done.returncode, 0, done.stderr.decode())
 
     def test_names_of_tests_stay(self):
         """From run to run, where ids and indexes differ."""
         names = []
         for number, index in ((3, 0), (9, 2)):
-            path = self.written("junit", *LEAK[:2], alloc(number, "Session"), store(1, 0, 2, ".listeners"), store(2, index, number, "[%d]" % index),
-                                {"op": "root", "name": "bus", "to": 1}, {"op": "assert-dead", "id": number}, COLLECT)
+            path = self.written(
+                "junit",
+                *LEAK[:2],
+                alloc(number, "Session"),
+                store(1, 0, 2, ".listeners"),
+                store(2, index, number, "[%d]" % index),
+                {"op": "root", "name": "bus", "to": 1},
+                {"op": "assert-dead", "id": number},
+                COLLECT,
+            )
             names.append([case.get("name") for case in ElementTree.parse(path).getroot()[0].findall("testcase")])
         self.assertEqual(names, [["dead Session root bus -> Bus .listeners -> list [*] -> Session"]] * 2)
 
@@ -203,7 +307,9 @@ class View(Commands):
         rules = [rule["id"] for rule in run["tool"]["driver"]["rules"]]
         self.assertEqual([rules[result["ruleIndex"]] for result in run["results"]], ["dead", "dead", "unshared"])
         self.assertEqual([result["occurrenceCount"] for result in run["results"]], [2, 1, 1])
-        self.assertEqual(run["results"][0]["locations"][0]["physicalLocation"]["artifactLocation"]["uri"], "a%20trace%20%C3%A9.jsonl")
+        self.assertEqual(
+            run["results"][0]["locations"][0]["physicalLocation"]["artifactLocation"]["uri"], "a%20trace%20%C3%A9.jsonl"
+        )
         self.assertEqual(run["results"][0]["properties"]["keptAlone"], {"objects": 1, "bytes": 10})
 
     @unittest.skipIf(python_with("jsonschema") is None, "jsonschema is not there")
@@ -217,7 +323,10 @@ for path in sys.argv[2:]:
 """
         found = [self.written("sarif", *LEAK, *DEAD, *UNSHARED, COLLECT), self.path("none.sarif")]
         self.view(self.write(*LEAK, COLLECT), "--sarif", found[1], status=0)
-        subprocess.run([python_with("jsonschema"), "-c", program, os.path.join(SCHEMAS, "sarif-2.1.0-rtm.4.json"), *found], check=True)
+        subprocess.run(
+            [python_with("jsonschema"), "-c", program, os.path.join(SCHEMAS, "sarif-2.1.0-rtm.4.json"), *found],
+            check=True,
+        )
 
     def test_the_page_stands_alone(self):
         with open(self.written("html", *LEAK, *DEAD, *UNSHARED, COLLECT)) as file:
@@ -231,6 +340,7 @@ for path in sys.argv[2:]:
                 for name, value in attributes:
                     assert name not in ("src", "href", "srcset", "action"), (tag, name, value)
                     assert not name.startswith("on"), name
+
         reader = Reader()
         reader.feed(text)
         self.assertEqual([reader.tags.count(tag) for tag in ("details", "svg", "script", "b")], [3, 4, 1, 3])
@@ -272,8 +382,12 @@ for path in sys.argv[2:]:
             for width in (320, 390, 1000):
                 browser.size(width, 800)
                 self.assertLessEqual(browser.value("document.documentElement.scrollWidth"), width)
-                self.assertTrue(browser.value("Array.from(document.querySelectorAll('svg')).every(s => { var r = s.getBoundingClientRect(); "
-                                              "return r.left >= 0 && r.right <= %d && r.width > 150; })" % width))
+                self.assertTrue(
+                    browser.value(
+                        "Array.from(document.querySelectorAll('svg')).every(s => { var r = s.getBoundingClientRect(); "
+                        "return r.left >= 0 && r.right <= %d && r.width > 150; })" % width
+                    )
+                )
             browser.value("document.getElementById('close').click()")
             self.assertEqual(browser.value(opened), [False, False, False])
 

@@ -156,6 +156,7 @@ class Shop:
             self.made(visitor)
             self.log.warning("%s was here", visitor)
             return "seen"
+
         return app
 
     def visit(self):
@@ -174,7 +175,7 @@ def main(way, leaks, folder):
             return
         shop.visit()
         shop.made = lambda made: None
-        shop.visit()    # what the shop has of the last visit is none of the first
+        shop.visit()  # what the shop has of the last visit is none of the first
         try:
             recorder.check()
             print("no violation")

@@ -1,0 +1,188 @@
+"""The trace of a program's heap: what changed from one collection to the next."""
+from typing import Dict, List, Tuple
+
+from gcaudit_trace import TraceWriter, legal_name
+from gcaudit_trace.graphs.path import MORE
+from gcaudit_trace.traces.names import UniqueNames
+
+from .assertions import Assertion
+from .holders import Link
+from .unreached import BESIDE, Chains
+from .walk import EMPTY, WEAK_LABEL, Labels, Traced, Walk
+
+_REGION_THREAD = 1
+
+
+class HeapWriter:
+    """Writes with a trace writer what walks find; keeps what the trace has."""
+
+    def __init__(self, trace: TraceWriter) -> None:
+        self._trace = trace
+        self.labels = Labels()
+        self.known = Traced()
+        self._written_roots: Dict[str, int] = {}
+        self._freed_next: List[int] = []  # the slots of each object that the next collection frees
+
+    def write(self, walk: Walk, chains: Chains, assertions: List[Assertion], region_ended: bool) -> None:
+        """Writes what changed since the last collection, what is asserted, and a collection."""
+        self._write_objects(walk, assertions, region_ended)
+        self._write_contents(walk)
+        self._write_roots(walk, chains)
+        self._write_assertions(walk, assertions)
+        self._trace.collect()
+        self._keep_traced(walk)
+        self._freed_next = [1] * sum(map(len, (chain for _, chain in chains)))
+
+    def _write_objects(self, walk: Walk, assertions: List[Assertion], region_ended: bool) -> None:
+        """New objects, those of a region first: between its start and its end, on a thread of their own."""
+        numbers = walk.now.numbers
+        if region_ended:
+            self._trace.start_region(_REGION_THREAD)
+            for one in assertions:
+                place = walk.now.place_of.get(id(one.target.get())) if one.in_region else None
+                if place is not None and not numbers[place]:
+                    self._alloc(walk, place, _REGION_THREAD)
+                    one.written = (numbers[place],)
+            self._trace.assert_alldead(_REGION_THREAD)
+        for place, number in enumerate(numbers):
+            if not number:
+                self._alloc(walk, place, 0)
+
+    def _alloc(self, walk: Walk, place: int, thread: int) -> None:
+        """What can grow has some slots to spare, the last of which can lead to further ones."""
+        now = walk.now
+        count = now.starts[place + 1] - now.starts[place]
+        room = now.rooms[place] = count + count // 4 + 2 if walk.shapes[place].grows else count
+        now.numbers[place] = self._trace.alloc(now.names[place], room, thread, walk.sizes[place])
+
+    def _write_contents(self, walk: Walk) -> None:
+        walk.find_proxied()
+        now, known = walk.now, self.known
+        old_places = {number: place for place, number in enumerate(known.numbers) if number}
+        endings = list(map(self._trace.ending, self.labels.texts))
+        start = 0
+        for place, number in enumerate(now.numbers):
+            first, start = start, now.starts[place + 1]
+            old = old_places.get(number)
+            if old is not None:
+                self._write_changes(now, place, old)
+            elif number in now.proxied:
+                self._write_slots(now, place, [], now.slots(place))
+            elif first != start:  # a new object has room for all that it holds
+                self._trace.fill_by_endings(number, now.fillings(first, start, endings))
+        for place in walk.gone():
+            if known.numbers[place] in known.owns:  # gcaudit traces from it, until this collection frees it
+                self._write_slots(known, place, known.slots(place), [])
+
+    def _write_changes(self, now: Traced, place: int, old: int) -> None:
+        """Writes what an object holds now and didn't hold at the last collection."""
+        number, known = now.numbers[place], self.known
+        more = known.more.get(number)
+        if more is not None:
+            now.more[number] = more
+        if number in known.owns:
+            now.owns.add(number)
+        was, slots = known.slots(old), now.slots(place)
+        if was != slots:
+            self._write_slots(now, place, was, slots)
+
+    def _write_slots(
+        self, traced: Traced, place: int, was: List[Tuple[int, int]], slots: List[Tuple[int, int]]
+    ) -> None:
+        """Writes the slots that differ from what the trace has."""
+        number, room = traced.numbers[place], traced.rooms[place]
+        more, more_room = traced.more.get(number, (0, 0))
+        own = room
+        if more or len(slots) > room:
+            own = room - 1
+            if len(slots) - own > more_room:
+                more, more_room = self._make_more(traced, place, was, own, 2 * (len(slots) - own))
+                was = was[:own]
+        for at in range(max(len(slots), len(was))):
+            to, label = slots[at] if at < len(slots) else EMPTY
+            old_to, old_label = was[at] if at < len(was) else EMPTY
+            holder, slot = (number, at) if at < own else (more, at - own)
+            if (label == WEAK_LABEL) != (old_label == WEAK_LABEL):
+                self._trace.set_weak(holder, slot, label == WEAK_LABEL)
+            if (to, label) != (old_to, old_label) and (to or old_to):
+                self._trace.store(holder, slot, to or None, self.labels.text(label) if to else "")
+
+    def _make_more(
+        self, traced: Traced, place: int, was: List[Tuple[int, int]], own: int, room: int
+    ) -> Tuple[int, int]:
+        """Gives an object further slots: they are those of a second object, which its last slot holds."""
+        number = traced.numbers[place]
+        if number in traced.more:
+            self._freed_next.append(traced.more[number][1])
+        made = traced.more[number] = self._trace.alloc(legal_name("more of " + traced.names[place]), room), room
+        if len(was) > own and was[own][1] == WEAK_LABEL:
+            self._trace.set_weak(number, own, False)
+        self._trace.store(number, own, made[0], MORE)
+        return made
+
+    def _write_roots(self, walk: Walk, chains: Chains) -> None:
+        numbers, names = walk.now.numbers, UniqueNames()
+        now = {names.name_for(name): numbers[walk.now.place_of[id(obj)]] for name, obj in walk.roots}
+        for place, chain in chains:
+            now[names.name_for(BESIDE)] = self._write_chain(chain, numbers[place])
+        for name in self._written_roots:
+            if name not in now:
+                self._trace.root(name, None)
+        for name, number in now.items():
+            if self._written_roots.get(name) != number:
+                self._trace.root(name, number)
+        self._written_roots = now
+
+    def _write_chain(self, chain: List[Link], held: int) -> int:
+        """Objects that stand for the holders of a chain until the next collection. The answer is the first."""
+        for link in reversed(chain):
+            number = self._trace.alloc(legal_name(link.name), 1)
+            self._trace.store(number, 0, held, link.label)
+            held = number
+        return held
+
+    def _write_assertions(self, walk: Walk, assertions: List[Assertion]) -> None:
+        for one in assertions:
+            place = walk.now.place_of.get(id(one.target.get()))
+            if place is None:
+                continue
+            number = walk.now.numbers[place]
+            if one.kind == "owned":
+                self._write_owned(one, number, walk)
+            elif one.written != (number,):
+                one.written = (number,)
+                if one.kind == "dead":
+                    self._trace.assert_dead(number)
+                else:
+                    self._trace.assert_unshared(number)
+
+    def _write_owned(self, one: Assertion, ownee: int, walk: Walk) -> None:
+        """The owner may have died since; then an object without contents stands for it until this collection."""
+        owner = None if one.owner is None else one.owner.get()
+        if owner is not None:
+            number = walk.now.numbers[walk.now.place_of[id(owner)]]
+            walk.now.owns.add(number)
+        elif one.written is not None and one.written[1] == ownee:
+            return
+        else:
+            number = self._trace.alloc(one.owner_type, 0)
+            self._freed_next.append(0)
+        if one.written != (number, ownee):
+            one.written = (number, ownee)
+            self._trace.assert_owned_by(number, ownee)
+
+    def _keep_traced(self, walk: Walk) -> None:
+        """After a collection the trace has exactly the traced objects; what it doesn't have is forgotten here too."""
+        known, now = self.known, walk.now
+        for place in walk.gone():
+            self._count_freed(known, place)
+        for place in walk.untraced():
+            self._count_freed(now, place)
+        walk.forget_untraced()
+        for slots in self._freed_next:
+            self._trace.freed(1, slots)
+        self.known = now
+
+    def _count_freed(self, traced: Traced, place: int) -> None:
+        more = traced.more.get(traced.numbers[place])
+        self._trace.freed(1 if more is None else 2, traced.rooms[place] + (more[1] if more else 0))

@@ -1,0 +1,138 @@
+"""What the readers of heap dumps are asked for on their command lines: what is written, asserted and kept."""
+import argparse
+import difflib
+from typing import Dict, List, Set, Tuple
+
+from ..errors import TraceError
+from ..traces.limits import MOST_OBJECTS
+
+SHOWN_CLASSES = 8
+
+
+def parser_for(program: str, about: str) -> argparse.ArgumentParser:
+    """The words that all readers of dumps take."""
+    parser = argparse.ArgumentParser(prog=program, description=about)
+    parser.add_argument("dump", metavar="DUMP", help="the heap dump")
+    parser.add_argument(
+        "trace", metavar="TRACE", help="the trace that is written for gcaudit, or the snapshot for gcsnap"
+    )
+    parser.add_argument(
+        "--snapshot",
+        action="store_true",
+        help="write a heap snapshot in place of a trace: gcsnap to-trace makes a trace of it, "
+        "behind which assertions can be put at any time. It has no assertions itself",
+    )
+    said = parser.add_argument_group("what is asserted (each may be given more than once)")
+    said.add_argument("--dead", metavar="CLASS", action="append", default=[], help="no object of the class is reached")
+    said.add_argument(
+        "--limit", metavar="CLASS=N", action="append", default=[], help="at most N objects of the class are reached"
+    )
+    said.add_argument(
+        "--unshared",
+        metavar="CLASS",
+        action="append",
+        default=[],
+        help="each object of the class has one reference at most",
+    )
+    said.add_argument(
+        "--owned-by",
+        metavar="OWNER=CLASS",
+        action="append",
+        default=[],
+        help="no object of the class outlives the hold that the one object of the class OWNER has on it: where a root leads to "
+        "it past the owner, the owner must lead to it too",
+    )
+    said.add_argument(
+        "--may-be-missing",
+        action="store_true",
+        help="it is no mistake where the dump knows nothing of a class that was named",
+    )
+    kept = parser.add_argument_group("what is kept (each may be given more than once)")
+    kept.add_argument(
+        "--only", metavar="PREFIX", action="append", default=[], help="keep classes whose names begin so, and no others"
+    )
+    kept.add_argument(
+        "--without", metavar="PREFIX", action="append", default=[], help="leave out classes whose names begin so"
+    )
+    return parser
+
+
+def kind_of(asked: argparse.Namespace) -> str:
+    """What is written."""
+    return "snapshot" if asked.snapshot else "trace"
+
+
+class Wishes:
+    """What is written, what is asserted and what is kept, by the names of classes."""
+
+    def __init__(self, asked: argparse.Namespace, limited: bool = True) -> None:
+        self.limited = limited  # no more is kept than gcaudit takes
+        self.kind = kind_of(asked)
+        self._only = tuple(asked.only)
+        self._without = tuple(asked.without)
+        self._may_be_missing = asked.may_be_missing
+        self.dead = set(asked.dead)
+        self.unshared = set(asked.unshared)
+        self.limits = dict(self._limit(text) for text in asked.limit)
+        self.owners: Dict[str, List[str]] = {}  # the owned classes of each owner class
+        for text in asked.owned_by:
+            owner, equals, ownee = text.partition("=")
+            if not (owner and equals and ownee):
+                raise TraceError("--owned-by wants OWNER=CLASS, not %s" % text)
+            self.owners.setdefault(owner, []).append(ownee)
+        self.owned = {ownee for ownees in self.owners.values() for ownee in ownees}
+        self.named = self.dead | self.unshared | self.owned | set(self.owners) | set(self.limits)
+        if asked.snapshot and self.named:
+            raise TraceError("a snapshot has no assertions; put them into the trace that gcsnap to-trace makes of it")
+        for name in sorted(self.named):
+            if not self.keeps(name):
+                raise TraceError("something is asserted of %s, and it is left out by --only or --without" % name)
+
+    @staticmethod
+    def _limit(text: str) -> Tuple[str, int]:
+        name, equals, number = text.rpartition("=")
+        if not (name and equals and number.isascii() and number.isdigit() and int(number) <= 4294967295):
+            raise TraceError("--limit wants CLASS=N, not %s" % text)
+        return name, int(number)
+
+    def keeps(self, name: str) -> bool:
+        """Whether objects of the class are kept."""
+        return (not self._only or name.startswith(self._only)) and not (
+            self._without and name.startswith(self._without)
+        )
+
+    def need_room(self, kept: int, counts: Dict[str, int]) -> None:
+        """Refuses more objects than gcaudit takes, and says which classes have most of them."""
+        if kept > MOST_OBJECTS and self.limited:
+            raise TraceError(
+                "%d objects would be kept, and gcaudit takes %d; leave some out by --only or --without. Most are of: %s"
+                % (kept, MOST_OBJECTS, most_of(counts))
+            )
+
+    def need_known(self, known: Set[str]) -> None:
+        """Refuses a class that the dump knows nothing of: what is asserted of it would hold whatever the program does."""
+        missing = sorted(self.named - known)
+        if missing and not self._may_be_missing:
+            raise TraceError(
+                "; ".join("the dump has no class %s%s" % (name, _nearest(name, known)) for name in missing)
+            )
+
+
+def _nearest(name: str, known: Set[str]) -> str:
+    """The names that were meant, as far as can be guessed."""
+    last = _last_word(name)
+    found = sorted((one for one in known if _last_word(one) == last), key=len)[:3]
+    found = found or difflib.get_close_matches(name, known, 3)
+    return ", but %s" % " and ".join(found) if found else " and none with a name like it"
+
+
+def _last_word(name: str) -> str:
+    """What stands behind the last of the signs that part packages and outer classes, in small letters."""
+    return name.replace("$", ".").replace("/", ".").rpartition(".")[2].lower()
+
+
+def most_of(counts: Dict[str, int]) -> str:
+    """The classes that have most objects, and how many classes more there are."""
+    most = sorted(counts.items(), key=lambda one: (-one[1], one[0]))[:SHOWN_CLASSES]
+    more = ", and %d classes more" % (len(counts) - len(most)) if len(counts) > len(most) else ""
+    return ", ".join("%s %d" % one for one in most) + more

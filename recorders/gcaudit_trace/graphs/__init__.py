@@ -1,0 +1,1 @@
+"""Graphs of heaps: reading them, paths, dominators, and references through what is left out."""

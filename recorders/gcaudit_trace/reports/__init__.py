@@ -1,0 +1,1 @@
+"""What gcaudit says of a trace, and what a heap or its growth shows, in forms to read."""

@@ -1,0 +1,83 @@
+"""Finding and running the program gcaudit."""
+import os
+import shutil
+import subprocess
+from typing import Iterable, List, NamedTuple, Optional
+
+from ..bundled import find_bundled
+from ..errors import TraceError
+from ..progress import Progress
+from .report import Verdict, read_report
+
+_PASSED = {0: "no assertion was violated", 1: "some assertion was violated"}
+_LAST_LINES = ("end gcs ", "halt gc ")
+
+
+class Audit(NamedTuple):
+    """What gcaudit said of a trace: its report, the same with the slots named, its violations, its status, its standard error."""
+
+    report: str
+    named: str
+    verdicts: List[Verdict]
+    status: int
+    errors: str
+
+
+def find_program(program: Optional[str] = None) -> str:
+    """Where gcaudit is: the argument, the variable GCAUDIT, this package, the PATH, or the script of the repository."""
+    asked = program or os.environ.get("GCAUDIT")
+    if asked:
+        found = shutil.which(asked)
+        if found is None:
+            raise TraceError("there is no program %s" % asked)
+        return found
+    found = find_bundled("gcaudit") or shutil.which("gcaudit")
+    if found is not None:
+        return found
+    top = os.path.abspath(__file__)
+    for _ in range(4):  # reports, gcaudit_trace, recorders, and the top
+        top = os.path.dirname(top)
+    script = os.path.join(top, "gcaudit")
+    if os.path.isfile(os.path.join(top, "crates.txt")) and os.access(script, os.X_OK):
+        return script
+    raise TraceError("gcaudit was not found: put it on the PATH, or its place into the variable GCAUDIT")
+
+
+def audit(
+    trace: str, program: Optional[str] = None, options: Iterable[str] = (), progress: Optional[Progress] = None
+) -> Audit:
+    """Runs gcaudit on a trace, with further words of its command line. Where it could not read the trace to its end, that is a TraceError."""
+    found = find_program(program)
+    said = progress or Progress("gcaudit", 2.0)
+    try:
+        lines = open(trace, "rb")
+    except OSError as error:
+        raise TraceError("%s can't be read: %s" % (trace, error.strerror)) from None
+    with lines:
+        size = os.fstat(lines.fileno()).st_size
+        try:
+            process = subprocess.Popen([found, *options], stdin=lines, stdout=subprocess.PIPE, stderr=subprocess.PIPE)
+        except OSError as error:
+            raise TraceError("%s could not be run: %s" % (found, error.strerror)) from None
+        with process:
+            try:
+                out, err = _outputs(process, lines.fileno(), size, said)
+            except BaseException:
+                process.kill()
+                raise
+    report, errors = out.decode("utf-8", "replace"), err.decode("utf-8", "replace")
+    last = report.rstrip("\n").split("\n")[-1]
+    if process.returncode not in _PASSED or not last.startswith(_LAST_LINES):
+        why = (last if last.startswith("fault ") else "") or errors.strip().split("\n")[-1] or "no report"
+        raise TraceError("gcaudit did not read %s to its end (status %d): %s" % (trace, process.returncode, why))
+    named = read_report(report, trace, lambda done: said.at("naming the slots", done, size))
+    return Audit(report, named.named, named.verdicts, process.returncode, errors)
+
+
+def _outputs(process: subprocess.Popen, trace: int, size: int, progress: Progress):
+    """What the program writes. It reads the file through this process's own handle, whose place says how far it is."""
+    while True:
+        try:
+            return process.communicate(timeout=1)
+        except subprocess.TimeoutExpired:
+            progress.at("gcaudit reads the trace", os.lseek(trace, 0, os.SEEK_CUR), size)
