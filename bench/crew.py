@@ -2,7 +2,7 @@
 """Times the crew: tasks that do nothing, scans of a heap, and the making of a crew.
 
 Usage: bench/crew.py
-It writes the program below into a temporary folder, beside copies of the crates that it stands on, lets `rt` prove and
+It writes the program below into a temporary folder, with copies of the crates that it uses, lets `rt` prove and
 build it there (some minutes at the first time on a machine), and runs it. Nothing here is part of the gate.
 
 - Tasks: a task puts those of other cells and does nothing else. The cells are a chain, a tree, or a chain of 10,000 that
