@@ -134,7 +134,7 @@ class Built:
 @contextlib.contextmanager
 def one_at_a_time(path):
     """Waits until no other process builds under this file's lock."""
-    lock = os.open(path, os.O_RDONLY | os.O_CREAT)
+    lock = os.open(path, os.O_RDONLY | os.O_CREAT, 0o644)
     try:
         fcntl.flock(lock, fcntl.LOCK_EX)
         yield
