@@ -1,15 +1,16 @@
 //! A collection: the heap is traced, the assertions are checked, and what was not reached is freed.
 ghost use Rattle.std.specs.Prelude.{◌≡◌, ◌<◌, ◌≤◌, ◌^◌, is_some, IfOk, IfSome, OnOk, OnErr};
 ghost use Rattle.heap_parts.specs.Parts.{AreDeadAndTraced};
-ghost use Rattle.heap_trace.specs.Traces.{IsTraceOf};
+ghost use Rattle.heap_marking.specs.Traces.{IsTraceOf};
 ghost use Rattle.audit_core.specs.Audit.{AreItsRoles, heap_in, audit_table, next_collection, next_counted, after_next};
 
 use crate::auditor::Auditor;
+use crate::verdict_lists::verdicts;
 use graph_meaning::{Collection, Roles};
-use heap_base::{Gate, OutOfMemory};
-use heap_trace::{Kit, Traced, trace};
+use heap_base::OutOfMemory;
+use heap_marking::{Kit, Traced, trace};
 use std::thread::Threads;
-use verdicts::verdicts;
+use steal_pool::Gate;
 
 // So many cells pay for a second worker, and as many more for each further one: for its memory, and for the thread that is started for
 // it. A new thread may share a processor with the one that started it for some milliseconds, in which one worker traces this many objects.

@@ -1,18 +1,18 @@
 //! The audit of a trace whose lines are read by all workers.
 ghost use Rattle.std.specs.Prelude.{◌<◌, ◌≤◌};
-ghost use Rattle.heap_base.specs.Streams.{stream_of};
+ghost use Rattle.streams.specs.Streams.{stream_of};
 ghost use Rattle.heap_base.specs.declared.limits.TheConstants.{LONGEST_TRACE, MOST_WORKERS};
 ghost use Rattle.trace_run.specs.Outcome.{outside_of};
-ghost use Rattle.trace_audit.specs.Auditors.{MakesCollections, MayCollect};
+ghost use Rattle.audit_run.specs.Auditors.{MakesCollections, MayCollect};
 ghost use Rattle.audit_run.specs.Outcome.{EndsAs, rules_in};
 
+use crate::auditing::{Audit, audit_trace};
 use audit_core::Auditor;
 use graph_meaning::Collection;
-use heap_base::{OutOfMemory, Sink, Source, Status};
-use parallel_reader::ParallelReader;
+use heap_base::{OutOfMemory, Status};
 use std::thread::Threads;
-use trace_audit::{Audit, audit_trace};
-use trace_reader::LineReader;
+use streams::{Sink, Source};
+use trace_reader::{LineReader, ParallelReader};
 
 /// Audits the trace that the source has left, as `audit_trace` does. One worker reads it line by line, and starts no thread; where there
 /// are more, they read many lines side by side, in threads that end before it returns.

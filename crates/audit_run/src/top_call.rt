@@ -1,24 +1,26 @@
 ghost use Rattle.std.specs.Prelude.{◌≡◌, ◌<◌, ◌≤◌, ℕ, List, None, Some, map};
 ghost use Rattle.heap_base.specs.declared.limits.TheConstants.{LONGEST_TRACE, MOST_WORKERS};
-ghost use Rattle.heap_base.specs.Streams.{Stream, stream_of};
+ghost use Rattle.streams.specs.Streams.{Stream, stream_of};
 ghost use Rattle.generator.specs.declared.plan.GenPlan.{GenPlan};
 ghost use Rattle.generator.specs.Plans.{IsPlan};
 ghost use Rattle.generator.specs.Text.{gen_text};
 ghost use Rattle.settings.specs.declared.settings.Settings.{Settings};
 ghost use Rattle.settings.specs.Settings.{settings_by};
 ghost use Rattle.trace_run.specs.Outcome.{reading, outside_of};
-ghost use Rattle.trace_audit.specs.Auditors.{IsCollected, MakesCollections, MayCollect};
+ghost use Rattle.audit_run.specs.Auditors.{IsCollected, MakesCollections, MayCollect};
 ghost use Rattle.audit_run.specs.Outcome.{EndsAs, RefusesWords, rules_in, rules_of};
 
+use crate::auditing::{Audit, Plan};
 use crate::reading::audit_lines;
 use audit_core::Auditor;
 use generator::{GenPlan, GenSource};
 use graph_meaning::Collection;
-use heap_base::{Gate, OutOfMemory, Sink, Source, Status};
+use heap_base::{OutOfMemory, Status};
 use settings::{SettingsError, settings_of};
 use std::alloc::Global;
 use std::thread::Threads;
-use trace_audit::{Audit, Plan};
+use steal_pool::Gate;
+use streams::{Sink, Source};
 use trace_run::refuse_words;
 
 const USAGE: &[u8] = b"usage: gcaudit [--workers N] [--paths P] [--react R] [--gen K --size N]\n";

@@ -6,8 +6,8 @@ mod options;
 use crate::options::{OPTIONS, PROGRAM};
 use audit_run::audit;
 use console::{Messages, run_program};
-use heap_base::OpenGate;
 use std::process::ExitCode;
+use steal_pool::OpenGate;
 
 fn main(rt: HostRuntime) -> ExitCode {
     run_program(

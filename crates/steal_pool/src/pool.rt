@@ -12,6 +12,7 @@ use crate::context::Context;
 use crate::crew::Crew;
 use crate::deque;
 use crate::first_tasks::FirstTasks;
+use crate::gate::Gate;
 use crate::job::Job;
 use crate::lane::Lane;
 use crate::lending::lend_all;
@@ -21,7 +22,7 @@ use crate::returning::take_back_all;
 use crate::running::{finish_all, run_all, threads_for};
 use crate::seating::{begin_all, seat_jobs, unseat_jobs};
 use crossbeam_utils::CachePadded;
-use heap_base::{Gate, OutOfMemory};
+use heap_base::OutOfMemory;
 use std::alloc::Global;
 use std::thread::Threads;
 

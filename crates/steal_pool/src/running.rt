@@ -9,11 +9,11 @@ ghost use Rattle.steal_pool.specs.Workers.{EndsWork};
 ghost use Rattle.steal_pool.specs.declared.working.TheConstants.{PATIENCE};
 
 use crate::context::Context;
+use crate::gate::Gate;
 use crate::job::Job;
 use crate::place::Place;
 use crate::working::{IdleLimit, PATIENCE};
 use crossbeam_utils::CachePadded;
-use heap_base::Gate;
 use std::sync::atomic::AtomicUsize;
 use std::thread;
 use std::thread::Threads;

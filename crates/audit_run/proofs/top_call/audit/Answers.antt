@@ -1,5 +1,5 @@
 use Rattle.std.proofs.Common.{ℕ, List, refl}
-use Rattle.heap_base.specs.Streams.{stream_of}
+use Rattle.streams.specs.Streams.{stream_of}
 use Rattle.generator.specs.declared.plan.GenPlan.{GenPlan}
 use Rattle.generator.specs.Text.{gen_text}
 use Rattle.settings.specs.declared.settings.Settings.{Settings}
