@@ -10,5 +10,6 @@ mod ownership;
 mod verdict_lists;
 
 pub use auditor::Auditor;
+pub use collecting::WorkerCost;
 pub use heap_marking::{Kit, Traced, trace};
 pub use verdict_list::OwnershipCheck;

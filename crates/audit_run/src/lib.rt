@@ -4,6 +4,7 @@
 
 mod auditing;
 mod collecting;
+mod costs;
 mod laws;
 mod program;
 mod reading;
@@ -11,7 +12,8 @@ mod taking;
 mod top_call;
 
 pub use auditing::{Audit, Plan, audit_trace};
+pub use costs::Costs;
 pub use generator::{GenPlan, GenSource};
 pub use laws::{no_read_of_a_generated_trace_fails, the_facts_of_a_run_follow};
 pub use settings::{Settings, SettingsError, settings_of};
-pub use top_call::audit;
+pub use top_call::{Setup, audit, audit_with};

@@ -4,7 +4,14 @@ ghost use Rattle.steal_pool.specs.Runs.{workers_of, room_of};
 
 use crate::memory::TraceMemory;
 use scan_job::ScanJob;
-use steal_pool::Crew;
+use steal_pool::{Crew, ThreadCost};
+
+/// How many workers mark a heap, and what their threads cost.
+#[derive(Clone, Copy, Debug)]
+pub struct Workers {
+    pub number: u32,
+    pub cost: ThreadCost,
+}
 
 /// All the memory of one trace: a header word for each cell, a job for each worker, the crew and its first tasks.
 /// Contracts see for how many cells and types it was made.

@@ -11,7 +11,7 @@ mod preparing;
 mod traced;
 
 pub use gathering::{merge_tallies, take_passes};
-pub use kit::Kit;
+pub use kit::{Kit, Workers};
 pub use laws::{what_is_traced_by_cells_is_traced_by_ids, what_the_phases_gain_traces_the_graph};
 pub use marking::trace;
 pub use memory::TraceMemory;

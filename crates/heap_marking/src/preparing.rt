@@ -7,14 +7,14 @@ ghost use Rattle.heap_marking.specs.Kits.{kit_cells, kit_kinds};
 ghost use Rattle.heap_marking.specs.TracedCells.{IsNewFor};
 ghost use Rattle.scan_job.specs.States.{passes_of};
 
-use crate::kit::Kit;
+use crate::kit::{Kit, Workers};
 use crate::memory::TraceMemory;
 use header_rule::{Headers, Pass};
 use heap_base::OutOfMemory;
 use instance_ledger::Tally;
 use scan_job::ScanJob;
 use std::alloc::Global;
-use steal_pool::{Crew, FirstTasks};
+use steal_pool::{Crew, FirstTasks, ThreadCost};
 
 // A job for each pass, in order.
 fn make_jobs(
@@ -73,9 +73,28 @@ impl Kit {
         ensures cells { IfOk result (λ k. kit_cells k ≡ cells) }
         ensures kinds { IfOk result (λ k. kit_kinds k ≡ kinds) }
     {
-        let memory = TraceMemory::take(alloc, cells, kinds, workers)?;
+        let workers = Workers {
+            number: workers,
+            cost: ThreadCost::usual(),
+        };
+        Kit::prepare_for(alloc, cells, kinds, workers)
+    }
+
+    /// The same by these workers, whose threads have this cost.
+    pub fn prepare_for(
+        alloc: Global,
+        cells: u32,
+        kinds: u32,
+        workers: Workers,
+    ) -> Result<Kit, OutOfMemory>
+        requires cells { cells ≤ MOST_OBJECTS }
+        requires workers { (0 < workers.number) × (workers.number ≤ MOST_WORKERS) }
+        ensures cells { IfOk result (λ k. kit_cells k ≡ cells) }
+        ensures kinds { IfOk result (λ k. kit_kinds k ≡ kinds) }
+    {
+        let memory = TraceMemory::take(alloc, cells, kinds, workers.number)?;
         // A worker has at most as many first tasks as there are cells, and puts each cell that it wins once.
-        let crew = Crew::make(alloc, workers, 2 * cells as u64 + 1)?;
+        let crew = Crew::with_cost(alloc, workers.number, 2 * cells as u64 + 1, workers.cost)?;
         let kept = Vec::with_capacity(alloc, cells as usize)?;
         Ok(Kit { memory, crew, kept })
     }

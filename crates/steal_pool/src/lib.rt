@@ -3,6 +3,7 @@
 #![tactic(auto)]
 
 mod context;
+mod cost;
 mod crew;
 mod deque;
 mod finding;
@@ -28,6 +29,7 @@ mod task;
 mod victim;
 mod working;
 
+pub use cost::ThreadCost;
 pub use crew::Crew;
 pub use first_tasks::FirstTasks;
 pub use gate::{Gate, OpenGate};

@@ -29,5 +29,5 @@ pub use field::spelling_of;
 pub use line::{LineReader, event_of};
 pub use line_ahead::LineAhead;
 pub use lines_ahead::LinesAhead;
-pub use parallel::ParallelReader;
+pub use parallel::{AheadCost, ParallelReader};
 pub use reader::{Ahead, EventReader, MOST_AHEAD};

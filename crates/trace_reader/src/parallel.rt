@@ -6,4 +6,4 @@ mod pieces;
 mod reader;
 mod seat;
 
-pub use reader::ParallelReader;
+pub use reader::{AheadCost, ParallelReader};

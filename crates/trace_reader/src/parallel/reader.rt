@@ -14,19 +14,36 @@ use std::thread::Threads;
 // are taken.
 const AHEAD: usize = 262_144;
 
-// With fewer bytes, none is read ahead: to wake threads for them takes as long as it spares. A pipe brings twice as many where its writer
-// is fast.
-const LEAST_AHEAD: usize = 32_768;
-
-// A piece has so many bytes at most, unless its first line has more. Of a larger one more lines would be read twice, where the caller
-// comes to it while a thread is at it.
-const PIECE: usize = 8_192;
-
 // Into so many pieces a text is cut at most.
 const MOST_PIECES: usize = 128;
 
 // Where nothing could be read ahead, as when out of memory, so many lines are read one by one before it is tried again.
 const PAUSE: u32 = 1_000;
+
+/// What it costs to read lines before their turn. No line's meaning depends on it.
+#[derive(Clone, Copy, Debug)]
+pub struct AheadCost {
+    /// Fewer bytes than these are not read ahead.
+    pub least: usize,
+    /// A piece, which one thread reads, has so many bytes at most, unless its first line has more.
+    pub piece: usize,
+}
+
+impl AheadCost {
+    /// What it costs on a machine of today. To wake threads for fewer bytes takes as long as it spares; a pipe brings twice as many where its
+    /// writer is fast. Of a larger piece more lines would be read twice, where the caller comes to it while a thread is at it.
+    pub fn usual() -> AheadCost {
+        AheadCost {
+            least: 32_768,
+            piece: 8_192,
+        }
+    }
+
+    /// Whatever stands behind a line is read ahead, each line a piece of its own, so that a short trace goes the way of a long one.
+    pub fn none() -> AheadCost {
+        AheadCost { least: 0, piece: 1 }
+    }
+}
 
 /// Reads lines by several workers: where many lines stand behind the one that was read last, they are cut into pieces, which threads
 /// read while the caller goes on. The caller never waits for a thread: it reads what no thread has read. A line's meaning doesn't depend
@@ -37,16 +54,28 @@ pub struct ParallelReader<'a, R: Threads> {
     own: LineReader,
     crew: Crew,
     pieces: Pieces,
+    cost: AheadCost,
     // so many lines are still to be read one by one
     pause: u32,
 }
 
 impl<'a, R: Threads> ParallelReader<'a, R> {
-    /// A reader with so many workers, the caller's thread among them. `end` ends the others.
+    /// A reader with so many workers, the caller's thread among them, for which reading ahead costs what it usually does. `end` ends the
+    /// other threads.
     pub fn make(
         rt: &'a R,
         alloc: Global,
         workers: u32,
+    ) -> Result<ParallelReader<'a, R>, OutOfMemory> {
+        ParallelReader::with_cost(rt, alloc, workers, AheadCost::usual())
+    }
+
+    /// The same with this cost.
+    pub fn with_cost(
+        rt: &'a R,
+        alloc: Global,
+        workers: u32,
+        cost: AheadCost,
     ) -> Result<ParallelReader<'a, R>, OutOfMemory> {
         let threads = workers.saturating_sub(1) as usize;
         Ok(ParallelReader {
@@ -54,6 +83,7 @@ impl<'a, R: Threads> ParallelReader<'a, R> {
             own: LineReader::make(alloc),
             crew: Crew::make(alloc, threads, MOST_PIECES)?,
             pieces: Pieces::none(alloc),
+            cost,
             pause: 0,
         })
     }
@@ -92,7 +122,7 @@ impl<'a, R: Threads> ParallelReader<'a, R> {
 
     // Has the lines of the text read where they are enough, unless it is to wait before it tries again.
     fn begin_if_enough(&mut self, behind: &[u8]) {
-        if behind.len() < LEAST_AHEAD {
+        if behind.len() < self.cost.least {
             return;
         }
         if self.pause > 0 {
@@ -117,7 +147,7 @@ impl<'a, R: Threads> ParallelReader<'a, R> {
     fn cut(&mut self, text: &[u8]) {
         let mut rest = text;
         for _ in 0..MOST_PIECES {
-            let end = piece_end(rest);
+            let end = piece_end(rest, self.cost.piece);
             if end == 0 {
                 return;
             }
@@ -131,11 +161,12 @@ impl<'a, R: Threads> ParallelReader<'a, R> {
     }
 }
 
-// Where the first piece of the text ends, which has whole lines, or 0 where there is no whole line.
-fn piece_end(text: &[u8]) -> usize
+// Where the first piece of the text ends, which has whole lines and at most so many bytes unless its first line has more, or 0 where there
+// is no whole line.
+fn piece_end(text: &[u8], most: usize) -> usize
     ensures { result ≤ length text.now }
 {
-    let front = &text[..text.len().min(PIECE)];
+    let front = &text[..text.len().min(most)];
     if let Some(n) = memrchr(b'\n', front) {
         return n + 1;
     }

@@ -3,7 +3,7 @@ use Rattle.tests_support.specs.declared.counters.Cells.{Cells}
 use Rattle.tests_support.specs.declared.counters.Counter.{Counter}
 use Rattle.tests_support.specs.CellTasks.{AreFirstTasks}
 use Rattle.tests_support.proofs.CellTaskLemmas.{enough_turns}
-use Rattle.tests_resident.proofs.tests.runs.run_cells.Goals as goal
+use Rattle.tests_audit.proofs.residents.runs.run_cells.Goals as goal
 
 pub run-requires-clause-turns : goal.run-requires-clause-turns
 run-requires-clause-turns g c κs within =

@@ -2,7 +2,7 @@ use Rattle.std.proofs.Common.{◌≡◌, ◌∙◌}
 use Rattle.std.proofs.lemmas.Result.{IfOk-weaker}
 use Rattle.audit_core.specs.Audit.{Audit, next_collection, next_counted}
 use Rattle.audit_core.proofs.Collected.{counted_as_defined}
-use Rattle.audit_core.proofs.auditor.Auditor.collect.Goals as goal
+use Rattle.audit_core.proofs.auditor.Auditor.collect_at.Goals as goal
 
 pub returns-clause-found : goal.returns-clause-found
 returns-clause-found g c =

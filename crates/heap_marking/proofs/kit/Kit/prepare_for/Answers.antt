@@ -1,5 +1,5 @@
 use Rattle.std.proofs.Common.{◌∙◌, sym, arith}
-use Rattle.heap_marking.proofs.kit.Kit.prepare.Goals as goal
+use Rattle.heap_marking.proofs.kit.Kit.prepare_for.Goals as goal
 
 pub invariant_of-result : goal.invariant_of-result
 invariant_of-result c =

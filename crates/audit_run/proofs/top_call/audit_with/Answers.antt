@@ -7,7 +7,7 @@ use Rattle.trace_run.specs.Outcome.{reading, outside_of}
 use Rattle.audit_run.specs.Outcome.{EndsAs, report_by_rules, rules_of}
 use Rattle.trace_run.proofs.Endings.{nothing_written}
 use Rattle.audit_run.proofs.Plans.{as_planned}
-use Rattle.audit_run.proofs.top_call.audit.Goals as goal
+use Rattle.audit_run.proofs.top_call.audit_with.Goals as goal
 
 pub returns-in-Err-Usage-clause-refused : goal.returns-in-Err-Usage-clause-refused
 returns-in-Err-Usage-clause-refused g c =

@@ -1,13 +1,11 @@
+use crate::numbers::{LEAST_WORKERS, MOST_PATHS};
 use console::{OptionRule, Options, Takes};
 use generator::{LEAST_SIZE, MOST_NUMBER, MOST_SIZE};
 use heap_base::MOST_WORKERS;
-use settings::{LEAST_WORKERS, MOST_PATHS};
 
-pub const PROGRAM: &str = "gcaudit";
-
-/// The options, for whoever wrote a word that is refused. Which words are taken is for `audit` to say.
-pub const OPTIONS: Options = Options {
-    program: PROGRAM,
+/// The options of an audit, for whoever wrote a word that is refused. Which words are taken is for `settings_of` to say.
+pub const AUDIT_OPTIONS: Options = Options {
+    program: "gcaudit",
     rules: &RULES,
     together: "--gen and --size go together",
 };

@@ -3,7 +3,7 @@ use Rattle.std.specs.List.{All}
 use Rattle.std.proofs.lemmas.List.Elements.{All-push}
 use Rattle.crossbeam_utils.specs.Padded.{padded_value}
 use Rattle.steal_pool.specs.Rests.{IsAtRest}
-use Rattle.steal_pool.proofs.crew.Crew.make.Goals as goal
+use Rattle.steal_pool.proofs.crew.Crew.with_cost.Goals as goal
 
 pub loop-preserved : goal.loop-preserved
 loop-preserved g c =
