@@ -2,7 +2,7 @@
 """Times the crew: tasks that do nothing, scans of a heap, and the making of a crew.
 
 Usage: bench/crew.py
-It writes the program below into a temporary folder, beside copies of the crates that it stands on, lets `rt` prove and
+It writes the program below into a temporary folder, with copies of the crates that it uses, lets `rt` prove and
 build it there (some minutes at the first time on a machine), and runs it. Nothing here is part of the gate.
 
 - Tasks: a task puts those of other cells and does nothing else. The cells are a chain, a tree, or a chain of 10,000 that
@@ -168,10 +168,10 @@ ghost use Rattle.std.specs.List.{All};
 ghost use Rattle.steal_pool.specs.Runs.{workers_of, room_of};
 ghost use Rattle.steal_pool.specs.CellTasks.{AreFirst};
 
-use heap_base::{OpenGate, OutOfMemory, Task};
+use heap_base::OutOfMemory;
 use std::alloc::Global;
 use std::thread::Threads;
-use steal_pool::{Crew, FirstTasks, Job, Outbox};
+use steal_pool::{Crew, FirstTasks, Job, OpenGate, Outbox, Task};
 
 /// The cells below `count`: a chain up to the cell `open`, from which on a tree grows.
 #[derive(Drop)]
@@ -298,12 +298,12 @@ ghost use Rattle.steal_pool.specs.Runs.{workers_of, room_of};
 
 use graph_meaning::{OwnerRole, Roles, Stop};
 use header_rule::Headers;
-use heap_base::{Name, ObjId, OpenGate, OutOfMemory, Task};
+use heap_base::{Name, ObjId, OutOfMemory};
 use object_table::ObjectTable;
 use scan_job::{ScanJob, ScanShared};
 use std::alloc::Global;
 use std::thread::Threads;
-use steal_pool::{Crew, FirstTasks};
+use steal_pool::{Crew, FirstTasks, OpenGate, Task};
 
 /// The slots of each object.
 const SLOTS: u32 = 3;
@@ -466,7 +466,7 @@ returns c =
 ''',
     "proofs/scans/scan/Answers.antt": '''use Rattle.std.proofs.Common.{◌≤◌, List, sym, subst, arith}
 use Rattle.std.specs.List.{All}
-use Rattle.heap_base.specs.declared.task.Task.{Task}
+use Rattle.steal_pool.specs.declared.task.Task.{Task}
 use Rattle.steal_pool.specs.Jobs.{AllFit}
 use Rattle.steal_pool.specs.Runs.{fit_tasks, HaveRoom, most_tasks, room_of}
 use Rattle.scan_job.specs.Jobs.{scan_meaning}
@@ -546,7 +546,7 @@ abbrev pub decreases-loop-pass : goal.decreases-loop-pass
 decreases-loop-pass l = vec_len l.passes
 ''',
     "proofs/walkers/WalkerJobCells/work/Answers.antt": '''use Rattle.std.proofs.Common.{arith, List, [], ◌∷◌, ◌++◌, ap, ◌∙◌, append_assoc, length-append}
-use Rattle.heap_base.specs.declared.task.Task.{Task}
+use Rattle.steal_pool.specs.declared.task.Task.{Task}
 use Rattle.steal_pool.proofs.CellTaskLemmas.{task_of, fit-append}
 use Rattle.crew_cost.proofs.walkers.WalkerJobCells.work.Goals as goal
 
@@ -572,7 +572,7 @@ loop-cell-preserved c =
     }
 ''',
     "proofs/walkers/WalkerJobCells/work/Invariants.antt": '''use Rattle.std.proofs.Common.{◌≡◌, ◌+◌, List, ◌++◌, length}
-use Rattle.heap_base.specs.declared.task.Task.{Task}
+use Rattle.steal_pool.specs.declared.task.Task.{Task}
 use Rattle.steal_pool.specs.Jobs.{AllFit}
 use Rattle.steal_pool.specs.CellTasks.{tasks_below}
 use Rattle.crew_cost.proofs.walkers.WalkerJobCells.work.Given as goal
@@ -589,7 +589,7 @@ invariant-loop-cell l = record {
 }
 ''',
     "proofs/walkers/add_first/Answers.antt": '''use Rattle.std.proofs.Common.{arith, List, length, ap, sym, subst}
-use Rattle.heap_base.specs.declared.task.Task.{Task}
+use Rattle.steal_pool.specs.declared.task.Task.{Task}
 use Rattle.steal_pool.specs.CellTasks.{AreFirst}
 use Rattle.steal_pool.proofs.CellTaskLemmas.{first_more}
 use Rattle.crew_cost.proofs.walkers.add_first.Goals as goal

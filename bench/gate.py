@@ -1,8 +1,8 @@
 #!/usr/bin/env python3
 """Times a whole `rt ci` from nothing: processor time by crate and by kind, and the dearest checks of each kind.
 
-Usage: bench/gate.py [--plot FILE] [WORDS OF rt ci]     (where no word is said: --anew, if the kit's rt ci keeps work from run to run and has it)
-What rt ci prints comes first, as it is. Then stands for each crate the processor time, user and system together, of its own proof, of the
+Usage: bench/gate.py [--plot FILE] [ARGUMENTS OF rt ci]     (without arguments: --anew, if this kit's rt ci has it)
+The output of rt ci comes first, unchanged. Then comes for each crate the processor time, user and system together, of its own proof, of the
 proof of it with its tests, and of its edits that must be refused. A check is a process `rattle` below rt ci, and is looked at five times a second,
 so what it does after the last look is missed. The whole time is that of the kernel: what it has more than the table is rt ci itself, programs and tests
 that ran, and what was missed. A picture of the dearest crates goes to FILE, as SVG. Linux only. Nothing here is part of the gate.

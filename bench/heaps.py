@@ -7,8 +7,8 @@ Tables in Markdown go to standard output. Both programs run each trace with each
 stands: by the clock, and of all processors together. Both must write the same report. "Without reading" is the time less that over as many
 lines with almost the same members, whose numbers and names are such that they change next to nothing.
 --growth       each trace at a quarter, a half and the whole of its size, with one worker
---only TRACE   these traces alone; the words before a colon in a row of the table are the name
---turns N      so many turns (5)
+--only TRACE   only these traces; the name is what comes before a colon in a row of the table
+--turns N      the number of turns (5)
 --scale F      all sizes times so much, for a quick look (1)
 --plot FILE    a picture of gcaudit's times beside those of plain Rust, as SVG
 gcaudit must be built, and cargo must be able to build bench/plain_rust. Nothing here is part of the gate.

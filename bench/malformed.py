@@ -8,10 +8,10 @@ Each trace is made from its seed alone and has some ten lines, of which mostly o
 taken out or swapped; lines cut off or run together; escapes, surrogates, UTF-8, numbers, nesting, keys, blanks and lengths are right or wrong.
 One trace in a hundred has up to 30,000 right lines between. `plain_lines` of bench/plain_rust reads the lines by serde_json's `Value`, and the heap
 of bench/random_traces.py takes the operations. The whole report and the status must be the same.
---count N         so many traces (20,000)
+--count N         the number of traces (20,000)
 --first SEED      from this seed on (1)
 --workers N ..    each trace with each of these numbers of workers (1)
---processes N     so many at a time (one for each processor)
+--processes N     how many run at a time (one for each processor)
 --program FILE    this program in place of the one that scripts/build_program built
 --show SEED       writes the trace of this seed and compares nothing
 gcaudit must be built, and cargo must be able to build bench/plain_rust. Nothing here is part of the gate.

@@ -23,6 +23,12 @@ PROGRAM, SNAPSHOTS = built("gcaudit"), built("gcsnap")
 needs_program = unittest.skipIf(PROGRAM is None, "gcaudit is not built")
 needs_snapshots = unittest.skipIf(PROGRAM is None or SNAPSHOTS is None, "gcaudit or gcsnap is not built")
 
+# The jars of JUnit 5 and of its console, as Debian's package junit5 has them.
+_JUNIT = "junit-jupiter-api junit-jupiter-engine junit-platform-commons junit-platform-engine junit-platform-launcher "
+_JUNIT += "junit-platform-console junit-platform-reporting opentest4j apiguardian-api opentest4j-reporting-events "
+_JUNIT += "opentest4j-reporting-schema picocli"
+JUNIT_JARS = [os.path.join("/usr/share/java", name + ".jar") for name in _JUNIT.split()]
+
 
 def needs_commands(*names):
     missing = [name for name in names if shutil.which(name) is None]

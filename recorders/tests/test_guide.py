@@ -8,6 +8,7 @@ import sys
 import unittest
 
 from tests.support import (
+    JUNIT_JARS,
     PROGRAM,
     RECORDERS,
     SNAPSHOTS,
@@ -64,17 +65,23 @@ class Guide(InFolder):
             file.write("#!/bin/sh\nexec %s\n" % words)
         os.chmod(os.path.join(self.path("bin"), name), 0o755)
 
-    def run_section(self, section):
-        """Writes the files, mends them, and runs the commands, in the order of the page."""
-        os.mkdir(self.path("work"))
+    def run_section(self, section, lacks=None, **variables):
+        """Writes the files, mends them, and runs the commands, in the order of the page, but for those that name what `lacks`."""
+        os.makedirs(self.path("work"), exist_ok=True)
         script, expected = [], []
+        is_left_out = False
         for language, lines in blocks_of(section):
             if language == "console":
                 for line in lines:
-                    if line.startswith("$ "):
+                    if line.startswith("$ ") and lacks is not None and lacks in line:
+                        expected.append([])
+                        script.append("echo; echo '%s'" % END)
+                        is_left_out = True
+                    elif line.startswith("$ "):
+                        is_left_out = False
                         script += [line[2:], "echo; echo '%s'" % END]
                         expected.append([])
-                    else:
+                    elif not is_left_out:
                         expected[-1].append(line)
             elif language == "diff":
                 script.append(self.mended(lines))
@@ -89,6 +96,7 @@ class Guide(InFolder):
             PATH=self.path("bin") + os.pathsep + os.environ["PATH"],
             PYTHONDONTWRITEBYTECODE="1",
             COLUMNS="80",
+            **variables,
             PYTEST_ADDOPTS="-p gcaudit_recorder.pytest_plugin -p no:cacheprovider --basetemp=" + self.path("temporary"),
         )
         with open(self.path("said"), "wb") as said:
@@ -132,19 +140,28 @@ class Guide(InFolder):
         self.command("python3", '%s -B "$@"' % PYTEST)
         self.run_section("A Python program")
 
-    @needs_commands("java", "javac", "jcmd", "bash")
+    @needs_commands("java", "javac", "jar", "jcmd", "bash")
     def test_jvm(self):
-        self.run_section("A program on the JVM")
+        os.mkdir(self.path("work"))
+        subprocess.run(
+            [os.path.join(RECORDERS, "jvm", "build"), self.path("built")], check=True, stderr=subprocess.DEVNULL
+        )
+        jar = next(name for name in os.listdir(self.path("built")) if name.endswith(".jar"))
+        os.rename(self.path(os.path.join("built", jar)), self.path(os.path.join("work", "gcaudit.jar")))
+        has_junit = all(map(os.path.exists, JUNIT_JARS))
+        self.run_section("A program on the JVM", None if has_junit else "$JUNIT", JUNIT=os.pathsep.join(JUNIT_JARS))
 
     @needs_commands("node", "bash")
     def test_node(self):
+        os.makedirs(self.path("work/node_modules"))
+        os.symlink(os.path.join(RECORDERS, "node"), self.path("work/node_modules/gcaudit"))
         self.run_section("A program on Node")
 
     @needs_snapshots
     @needs_commands("node", "bash")
     def test_snapshot(self):
         self.command("gcsnap", SNAPSHOTS + ' "$@"')
-        self.run_section("A heap to ask later")
+        self.run_section("A heap kept for later")
 
     def test_the_picture_is_there(self):
         with open(os.path.join(os.path.dirname(GUIDE), "view.png"), "rb") as file:

@@ -11,11 +11,11 @@ use Rattle.graph_meaning.specs.Collecting.{without_paths, all_verdicts, first_wi
 use Rattle.graph_meaning.specs.Roles.{RoleTable}
 use Rattle.object_table.specs.Placed.{PlacedTable, IsPlaced}
 use Rattle.assert_registry.specs.Laws.{StandFor}
-use Rattle.heap_trace.specs.Results.{TraceResult}
-use Rattle.heap_trace.specs.Traces.{CountsReferences}
+use Rattle.heap_marking.specs.Results.{TraceResult}
+use Rattle.heap_marking.specs.Traces.{CountsReferences}
 use Rattle.verdict_list.proofs.Collected.{verdicts_agree}
 use Rattle.verdict_list.specs.Counts.{counted_in}
-use Rattle.verdicts.specs.Verdicts.{counts_of}
+use Rattle.audit_core.specs.Verdicts.{counts_of}
 use Rattle.audit_core.specs.Audit.{Audit, AreItsRoles, audit_table, next_collection, next_counted, after_next}
 
 -- ---- how many verdicts there are

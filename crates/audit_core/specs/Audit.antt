@@ -7,9 +7,9 @@ use Rattle.graph_meaning.specs.Collecting.{Rules, after_collection, collection_c
 use Rattle.object_table.specs.Placed.{PlacedTable}
 use Rattle.assert_registry.specs.Laws.{StandFor}
 use Rattle.heap_parts.specs.Parts.{PlacedHeap}
-use Rattle.heap_trace.specs.Results.{TraceResult}
+use Rattle.heap_marking.specs.Results.{TraceResult}
 use Rattle.verdict_list.specs.Counts.{counted_in}
-use Rattle.verdicts.specs.Verdicts.{counts_of}
+use Rattle.audit_core.specs.Verdicts.{counts_of}
 
 -- The heap as it stands; for each cell of its table the id of the object that it holds, if it holds one; the rules of
 -- collections; how many were made, and how many verdicts they had together.

@@ -1,1 +1,3 @@
 pub mod Audit
+pub mod Cells
+pub mod Verdicts

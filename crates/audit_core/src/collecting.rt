@@ -1,26 +1,54 @@
 //! A collection: the heap is traced, the assertions are checked, and what was not reached is freed.
 ghost use Rattle.std.specs.Prelude.{◌≡◌, ◌<◌, ◌≤◌, ◌^◌, is_some, IfOk, IfSome, OnOk, OnErr};
 ghost use Rattle.heap_parts.specs.Parts.{AreDeadAndTraced};
-ghost use Rattle.heap_trace.specs.Traces.{IsTraceOf};
+ghost use Rattle.heap_marking.specs.Traces.{IsTraceOf};
 ghost use Rattle.audit_core.specs.Audit.{AreItsRoles, heap_in, audit_table, next_collection, next_counted, after_next};
 
 use crate::auditor::Auditor;
+use crate::verdict_lists::verdicts;
 use graph_meaning::{Collection, Roles};
-use heap_base::{Gate, OutOfMemory};
-use heap_trace::{Kit, Traced, trace};
+use heap_base::OutOfMemory;
+use heap_marking::{Kit, Traced, Workers, trace};
 use std::thread::Threads;
-use verdicts::verdicts;
+use steal_pool::{Gate, ThreadCost};
 
-// So many cells pay for a second worker, and as many more for each further one: for its memory, and for the thread that is started for
-// it. A new thread may share a processor with the one that started it for some milliseconds, in which one worker traces this many objects.
-const CELLS_A_WORKER: u32 = 131_072;
+/// What a worker that marks the heap costs. No collection depends on it, only how many workers and threads it is made by.
+#[derive(Clone, Copy, Debug)]
+pub struct WorkerCost {
+    /// So many cells pay for a second worker, and as many more for each further one. Where it is 0, all workers mark every heap.
+    pub cells: u32,
+    pub threads: ThreadCost,
+}
 
-// How many workers, at most so many, trace a table of so many cells.
-fn workers_for(cells: u32, most: u32) -> u32
-    requires { 0 < most }
-    ensures { (0 < result) × (result ≤ most) }
-{
-    (1 + cells / CELLS_A_WORKER).min(most)
+impl WorkerCost {
+    /// What a worker costs on a machine of today: its memory, and the thread that is started for it. A new thread may share a processor with
+    /// the one that started it for some milliseconds, in which one worker marks this many objects.
+    pub fn usual() -> WorkerCost {
+        WorkerCost {
+            cells: 131_072,
+            threads: ThreadCost::usual(),
+        }
+    }
+
+    /// All workers mark every heap, each in a thread of its own.
+    pub fn none() -> WorkerCost {
+        WorkerCost {
+            cells: 0,
+            threads: ThreadCost::none(),
+        }
+    }
+
+    // How many workers, at most so many, mark a table of so many cells.
+    fn workers_for(self, cells: u32, most: u32) -> u32
+        requires { 0 < most }
+        ensures { (0 < result) × (result ≤ most) }
+    {
+        if self.cells == 0 {
+            most
+        } else {
+            (cells / self.cells).saturating_add(1).min(most)
+        }
+    }
 }
 
 impl Auditor {
@@ -90,10 +118,28 @@ impl Auditor {
         ensures after { OnOk result (self.new ≡ record (after_next self.old) { cells = self.new.cells }) }
         ensures err { OnErr result (self.new ≡ self.old) }
     {
+        self.collect_at(rt, gate, WorkerCost::usual())
+    }
+
+    /// The same collection by workers of this cost.
+    pub fn collect_at<R: Threads + Sync, G: Gate>(
+        &mut self,
+        rt: &R,
+        gate: &G,
+        cost: WorkerCost,
+    ) -> Result<Collection, OutOfMemory>
+        requires few { self.old.collections < 2 ^ 40 }
+        ensures found { IfOk result (λ c. c ≡ next_collection self.old) }
+        ensures after { OnOk result (self.new ≡ record (after_next self.old) { cells = self.new.cells }) }
+        ensures err { OnErr result (self.new ≡ self.old) }
+    {
         let roles = self.start_collect()?;
         let table = self.table();
-        let workers = workers_for(table.cells(), self.workers);
-        let kit = Kit::prepare(self.alloc, table.cells(), table.kinds(), workers)?;
+        let workers = Workers {
+            number: cost.workers_for(table.cells(), self.workers),
+            cost: cost.threads,
+        };
+        let kit = Kit::prepare_for(self.alloc, table.cells(), table.kinds(), workers)?;
         let traced = trace(rt, kit, table, &roles, gate);
         self.finish_collect(&roles, &traced)
     }

@@ -2,7 +2,7 @@
 use Rattle.std.specs.Prelude.{◌≡◌, ℕ, List, Some}
 use Rattle.heap_base.specs.declared.status.Status.{Status}
 use Rattle.heap_base.specs.declared.status.Status.TheVariants.{ReadFault}
-use Rattle.run_meaning.specs.Run.{RunRules}
+use Rattle.report.specs.Run.{RunRules}
 use Rattle.trace_run.specs.Outcome.{Outside, reading, of_bytes, IsCutShort}
 use Rattle.trace_run.specs.Facts.{HasFacts}
 use Rattle.audit_run.specs.Outcome.{EndsAs, report_by_rules}

@@ -1,2 +1,4 @@
+pub mod Auditors
 pub mod Facts
 pub mod Outcome
+pub mod State

@@ -2,12 +2,12 @@
 use Rattle.std.specs.Prelude.{ℕ, List, codes}
 use Rattle.heap_base.specs.declared.limits.TheConstants.{LONGEST_TRACE}
 use Rattle.heap_base.specs.declared.status.Status.{Status}
-use Rattle.run_meaning.specs.Run.{RunRules}
+use Rattle.report.specs.Run.{RunRules}
 use Rattle.trace_run.specs.Outcome as outcome
 use Rattle.trace_run.specs.Outcome.{Outside, TraceReport, trace_report}
-use Rattle.audit_program.specs.Audits.{audit_report, rules_by}
+use Rattle.trace_run.specs.Audits.{audit_report, rules_by}
 use Rattle.settings.specs.declared.settings.Settings.{Settings}
-use Rattle.trace_audit.specs.declared.auditing.Plan.{Plan}
+use Rattle.audit_run.specs.declared.auditing.Plan.{Plan}
 
 -- what a run goes by with these settings; the number of workers is no part of it
 abbrev pub rules_of : Settings → RunRules

@@ -1,11 +1,19 @@
-//! The top call of the auditor: from the bytes of a trace to the bytes of its report.
+//! The audit of a trace by an auditor: from the bytes of a trace to the bytes of its report, as `audit` makes it and as
+//! whoever else marks the heap does.
 #![tactic(auto)]
 
+mod auditing;
+mod collecting;
+mod costs;
 mod laws;
+mod program;
 mod reading;
+mod taking;
 mod top_call;
 
+pub use auditing::{Audit, Plan, audit_trace};
+pub use costs::Costs;
 pub use generator::{GenPlan, GenSource};
 pub use laws::{no_read_of_a_generated_trace_fails, the_facts_of_a_run_follow};
 pub use settings::{Settings, SettingsError, settings_of};
-pub use top_call::audit;
+pub use top_call::{Setup, audit, audit_with};

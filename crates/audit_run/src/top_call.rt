@@ -1,24 +1,27 @@
 ghost use Rattle.std.specs.Prelude.{◌≡◌, ◌<◌, ◌≤◌, ℕ, List, None, Some, map};
 ghost use Rattle.heap_base.specs.declared.limits.TheConstants.{LONGEST_TRACE, MOST_WORKERS};
-ghost use Rattle.heap_base.specs.Streams.{Stream, stream_of};
+ghost use Rattle.streams.specs.Streams.{Stream, stream_of};
 ghost use Rattle.generator.specs.declared.plan.GenPlan.{GenPlan};
 ghost use Rattle.generator.specs.Plans.{IsPlan};
 ghost use Rattle.generator.specs.Text.{gen_text};
 ghost use Rattle.settings.specs.declared.settings.Settings.{Settings};
 ghost use Rattle.settings.specs.Settings.{settings_by};
 ghost use Rattle.trace_run.specs.Outcome.{reading, outside_of};
-ghost use Rattle.trace_audit.specs.Auditors.{IsCollected, MakesCollections, MayCollect};
+ghost use Rattle.audit_run.specs.Auditors.{IsCollected, MakesCollections, MayCollect};
 ghost use Rattle.audit_run.specs.Outcome.{EndsAs, RefusesWords, rules_in, rules_of};
 
-use crate::reading::audit_lines;
+use crate::auditing::{Audit, Plan};
+use crate::costs::Costs;
+use crate::reading::{Reading, audit_lines};
 use audit_core::Auditor;
 use generator::{GenPlan, GenSource};
 use graph_meaning::Collection;
-use heap_base::{Gate, OutOfMemory, Sink, Source, Status};
+use heap_base::{OutOfMemory, Status};
 use settings::{SettingsError, settings_of};
 use std::alloc::Global;
 use std::thread::Threads;
-use trace_audit::{Audit, Plan};
+use steal_pool::Gate;
+use streams::{Sink, Source};
 use trace_run::refuse_words;
 
 const USAGE: &[u8] = b"usage: gcaudit [--workers N] [--paths P] [--react R] [--gen K --size N]\n";
@@ -48,6 +51,48 @@ pub fn audit<S: Source, K: Sink, G: Gate, R: Threads + Sync>(
         let new = outside_of (stream_of S.left S.faults source.new) (stream_of K.held K.faults sink.new) in
         settings_by (map (λ w. w.now) words.now) ≡ None → (source.new ≡ source.old) × RefusesWords old new result }
 {
+    let setup = Setup {
+        rt,
+        alloc,
+        gate,
+        costs: Costs::usual(),
+    };
+    audit_with(setup, words, source, sink)
+}
+
+/// What an audit is made with, beside its command line and its streams.
+#[derive(Clone, Copy)]
+pub struct Setup<'a, R, G> {
+    pub rt: &'a R,
+    pub alloc: Global,
+    pub gate: &'a G,
+    pub costs: Costs,
+}
+
+/// The same audit with workers and threads of these costs.
+pub fn audit_with<'a, S: Source, K: Sink, G: Gate, R: Threads + Sync>(
+    setup: Setup<'a, R, G>,
+    words: &[&str],
+    source: &mut S,
+    sink: &mut K,
+) -> Status
+    ensures taken { let old = outside_of (stream_of S.left S.faults source.old) (stream_of K.held K.faults sink.old) in
+        let new = outside_of (stream_of S.left S.faults source.new) (stream_of K.held K.faults sink.new) in
+        (s : Settings) → settings_by (map (λ w. w.now) words.now) ≡ Some s → s.plan ≡ None → EndsAs (rules_of s) old new result }
+    ensures generated { let old = outside_of (stream_of S.left S.faults source.old) (stream_of K.held K.faults sink.old) in
+        let new = outside_of (stream_of S.left S.faults source.new) (stream_of K.held K.faults sink.new) in
+        (s : Settings) (plan : GenPlan) → settings_by (map (λ w. w.now) words.now) ≡ Some s → s.plan ≡ Some plan →
+        (source.new ≡ source.old) × ((left : List ℕ) × EndsAs (rules_of s) (reading (gen_text plan.number plan.size) old) (reading left new) result) }
+    ensures refused { let old = outside_of (stream_of S.left S.faults source.old) (stream_of K.held K.faults sink.old) in
+        let new = outside_of (stream_of S.left S.faults source.new) (stream_of K.held K.faults sink.new) in
+        settings_by (map (λ w. w.now) words.now) ≡ None → (source.new ≡ source.old) × RefusesWords old new result }
+{
+    let Setup {
+        rt,
+        alloc,
+        gate,
+        costs,
+    } = setup;
     let settings = match settings_of(alloc, words) {
         Ok(settings) => settings,
         Err(SettingsError::Usage) => return refuse_words(USAGE, sink),
@@ -62,20 +107,25 @@ pub fn audit<S: Source, K: Sink, G: Gate, R: Threads + Sync>(
     let collect = |auditor: &mut Auditor| -> Result<Collection, OutOfMemory>
         requires { auditor.now.collections < LONGEST_TRACE }
         ensures { IsCollected auditor.entry.now result auditor.exit.now }
-    { auditor.collect(rt, gate) };
+    { auditor.collect_at(rt, gate, costs.workers) };
     let audit = Audit { plan, collect };
+    let lines = Reading {
+        rt,
+        cost: costs.ahead,
+    };
     match settings.plan {
-        None => audit_lines(rt, audit, source, sink),
-        Some(trace) => audit_generated(rt, audit, trace, sink),
+        None => audit_lines(lines, audit, source, sink),
+        Some(trace) => audit_generated(lines, audit, trace, sink),
     }
 }
 
 /// Audits the trace that is generated from these numbers.
 fn audit_generated<
+    'a,
     C: FnMut(&mut Auditor) -> Result<Collection, OutOfMemory> + Drop,
     K: Sink,
     R: Threads + Sync,
->(rt: &R, audit: Audit<C>, trace: GenPlan, sink: &mut K) -> Status
+>(lines: Reading<'a, R>, audit: Audit<C>, trace: GenPlan, sink: &mut K) -> Status
     requires workers { (0 < audit.plan.workers) × (audit.plan.workers ≤ MOST_WORKERS) }
     requires trace { IsPlan trace }
     requires may_collect { MayCollect C.pre }
@@ -88,5 +138,5 @@ fn audit_generated<
     let Ok(mut source) = GenSource::make(audit.plan.alloc, trace) else {
         return Status::NoMemory;
     };
-    audit_lines(rt, audit, &mut source, sink)
+    audit_lines(lines, audit, &mut source, sink)
 }

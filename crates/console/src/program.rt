@@ -2,9 +2,10 @@ use crate::ending::Messages;
 use crate::memory::keep_freed_memory;
 use crate::stream::Remembering;
 use crate::words::{NoWords, borrowed_words, exit_code_of, program_words};
-use heap_base::{Status, StdSink, StdSource};
+use heap_base::Status;
 use std::io::{Stdin, Stdout};
 use std::process::ExitCode;
+use streams::{StdSink, StdSource};
 
 /// Standard input as a source.
 pub type Input<'a> = StdSource<&'a mut Remembering<Stdin>>;

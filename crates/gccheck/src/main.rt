@@ -7,9 +7,10 @@ mod telling;
 use crate::file::NamedFile;
 use crate::telling::{PROGRAM, tell_memory, tell_read, tell_words, tell_write};
 use console::{Remembering, answer_words};
-use heap_base::{Status, StdSink, StdSource};
+use heap_base::Status;
 use report_check::check_run;
 use std::process::ExitCode;
+use streams::{StdSink, StdSource};
 
 fn main(rt: HostRuntime) -> ExitCode {
     answer_words(&rt, PROGRAM, |words| check(&rt, words))

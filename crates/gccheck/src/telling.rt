@@ -1,5 +1,6 @@
 //! What is told a person on standard error, beside the line on standard output. Where standard error can't be written, the status still tells.
-use report_check::{MOST_DIGITS, MOST_PATHS};
+use report_check::MOST_DIGITS;
+use settings::MOST_PATHS;
 use std::io;
 
 pub const PROGRAM: &str = "gccheck";

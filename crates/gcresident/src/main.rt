@@ -2,11 +2,12 @@
 #![tactic(auto)]
 
 use console::{Messages, OptionRule, Options, Takes, run_program};
-use heap_base::{MOST_WORKERS, OpenGate, Status};
+use heap_base::{MOST_WORKERS, Status};
 use resident_crew::audit_resident;
 use settings::LEAST_WORKERS;
 use std::process::ExitCode;
 use std::sync::Arc;
+use steal_pool::OpenGate;
 
 const PROGRAM: &str = "gcresident";
 

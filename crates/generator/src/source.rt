@@ -1,15 +1,16 @@
 ghost use Rattle.std.specs.Prelude.{◌≡◌, ◌<◌, ◌≤◌, ◌++◌, [], length, min, take, drop, Some, Ok, IfOk};
 ghost use Rattle.std.specs.Io.KnownBytes.{ReadConsumes};
-ghost use Rattle.heap_base.specs.Causes.{HasCause};
+ghost use Rattle.streams.specs.Causes.{HasCause};
 ghost use Rattle.generator.specs.Plans.{IsPlan};
 ghost use Rattle.generator.specs.Text.{gen_text};
 
 use crate::piece::Piece;
 use crate::pieces::Pieces;
 use crate::plan::GenPlan;
-use heap_base::{Failed, OutOfMemory, Source};
+use heap_base::OutOfMemory;
 use std::alloc::Global;
 use std::marker::Model;
+use streams::{Failed, Source};
 
 /// A generated trace as a source, which tells the bytes that are left. No read fails, and each gives as many bytes as fit.
 /// The text is made an object at a time, so the source stays small whatever the trace. Contracts see it as the bytes that

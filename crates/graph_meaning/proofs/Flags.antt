@@ -21,7 +21,8 @@ owner_bit b = bit b.owner
 
 -- ---- one owner more
 
-module _ (borders : List Border) (ownees : List OwnerRole) (owners : List ℕ) (cell : ℕ) (have : HaveBorders borders ownees owners) (within : cell < length borders) (new : has_id owners cell ≡ false) where
+module _ (borders : List Border) (ownees : List OwnerRole) (owners : List ℕ) (cell : ℕ) (have : HaveBorders borders ownees owners)
+    (within : cell < length borders) (new : has_id owners cell ≡ false) where
   module _ (b : Border) (is : b ≡ record { owner = true; ownee = has_owner (get_or ownees cell NotOwned) }) where
     one_more : sum_by owner_bit (set borders cell b) ≡ sum_by owner_bit borders + 1
     one_more =

@@ -1,8 +1,8 @@
-pub mod Bits
-pub mod Moves
-pub mod WordSteps
 pub mod Adding
+pub mod Bits
 pub mod Marking
+pub mod Moves
+pub mod OwnWords
 pub mod Sharing
 pub mod Whole
-pub mod OwnWords
+pub mod WordSteps

@@ -46,7 +46,8 @@ module _ (views : List View) (id x : ℕ) (v : View) (at : get_elem? views id �
   has_mark-away y ne m = ap is_positive (marks-more m y ∙ (ap (λ k. marks_in m y views + cond (p m) k 0) (bit-away x y ne) ∙ (let z = cond_zero (p m) in omega arith)))
 
 -- The marks of x that pass the test p are set in its word, and stand in the view of the seat.
-pub marks_keep : (cells id x : ℕ) (v : View) (p : Mark → Bool) → x < cells → 0 < v.rights → length v.adds ≤ v.rights * 2 ^ 51 → (s : State (Unit {0}) View) → KeepsRule cells s → get_elem? s.views id ≡ some v
+pub marks_keep : (cells id x : ℕ) (v : View) (p : Mark → Bool) → x < cells → 0 < v.rights → length v.adds ≤ v.rights * 2 ^ 51
+    → (s : State (Unit {0}) View) → KeepsRule cells s → get_elem? s.views id ≡ some v
     → KeepsRule cells record { words = set s.words (x + 1) (bit_or (get_or s.words (x + 1) 0) (bits_of p)); homes = s.homes; views = set s.views id (with_marks (marks_passing p x) v) }
 marks_keep cells id x v p within some_right bounded s kept at =
     let n : ℕ = get_or s.words (x + 1) 0 in
@@ -69,6 +70,7 @@ sets_marks cells slots id x k v within k-is some_right bounded s kept _ at _ =
       w,
       keeps,
       tt,
-      subst (λ j. KeepsRule cells record { words = set s.words (x + 1) (bit_or n j); homes = s.homes; views = set s.views id w }) (sym k-is) (marks_keep cells id x v (has_bit k) within some_right bounded s kept at),
+      subst (λ j. KeepsRule cells record { words = set s.words (x + 1) (bit_or n j); homes = s.homes; views = set s.views id w })
+          (sym k-is) (marks_keep cells id x v (has_bit k) within some_right bounded s kept at),
       ap (λ y. (with_marks (marks_passing (has_bit k) y) v, [])) (omega arith),
     )

@@ -1,5 +1,6 @@
 -- The words of the only pass keep the rule as a table's do.
-use Rattle.std.proofs.Common.{◌≡◌, ℕ, ◌+◌, ◌-◌, ◌*◌, ◌^◌, ◌<◌, ◌≤◌, eqb, Bool, List, [], ◌∷◌, length, get_or, get_or-set_same, set, set-set, sym, refl, ap, ◌∙◌, subst, arith, length-set, length-append}
+use Rattle.std.proofs.Common.{◌≡◌, ℕ, ◌+◌, ◌-◌, ◌*◌, ◌^◌, ◌<◌, ◌≤◌, eqb, Bool, List, [], ◌∷◌, length, get_or, get_or-set_same, set, set-set, sym, refl, ap, ◌∙◌}
+use Rattle.std.proofs.Common.{subst, arith, length-set, length-append}
 use Rattle.std.specs.Prelude.{bit_or}
 use Rattle.heap_base.specs.Counting.{IsOnce}
 use Rattle.header_rule.specs.declared.mark.Mark.{Mark}

@@ -1,7 +1,7 @@
 ghost use Rattle.std.specs.Prelude.{◌≡◌, ◌<◌, ◌≤◌, ◌==◌, ◌^◌, Some, None, nat_lt, if◌then◌else◌};
 ghost use Rattle.heap_base.specs.declared.limits.TheConstants.{MOST_THREADS};
 
-use crate::MOST_THREADS;
+use crate::limits::MOST_THREADS;
 use std::marker::Model;
 
 /// The id of an object: 1 to 4,294,967,295. Contracts see it as that number.

@@ -2,7 +2,8 @@ ghost use Rattle.std.specs.Prelude.{◌≡◌, Some, None, IfOk, IsTrue, if◌th
 ghost use Rattle.std.specs.List.{list_all};
 ghost use Rattle.heap_base.specs.Names.{is_name, is_name_byte};
 
-use crate::{LONGEST_NAME, OutOfMemory};
+use crate::errors::OutOfMemory;
+use crate::limits::LONGEST_NAME;
 use std::alloc::Global;
 use std::marker::Model;
 use std::sync::ArcStr;

@@ -3,7 +3,6 @@ ghost use Rattle.graph_meaning.specs.declared.event.Event.TheVariants.{AssertDea
 ghost use Rattle.heap_parts.specs.Parts.{Steps};
 
 use crate::parts::HeapParts;
-use crate::refusals::{kind_refusal, not_live};
 use graph_meaning::Stop;
 use heap_base::{Name, ObjId};
 
@@ -12,7 +11,7 @@ impl HeapParts {
     pub(crate) fn assert_dead(&mut self, id: ObjId) -> Result<(), Stop>
         ensures { Steps self.old (AssertDead id) result self.new }
     {
-        if let Some(refusal) = not_live(&self.table, id) {
+        if let Some(refusal) = self.table.not_live(id) {
             return Err(Stop::Refused(refusal));
         }
         Ok(self.registry.assert_dead(id)?)
@@ -22,7 +21,7 @@ impl HeapParts {
     pub(crate) fn assert_unshared(&mut self, id: ObjId) -> Result<(), Stop>
         ensures { Steps self.old (AssertUnshared id) result self.new }
     {
-        if let Some(refusal) = not_live(&self.table, id) {
+        if let Some(refusal) = self.table.not_live(id) {
             return Err(Stop::Refused(refusal));
         }
         Ok(self.registry.assert_unshared(id)?)
@@ -32,10 +31,10 @@ impl HeapParts {
     pub(crate) fn assert_ownedby(&mut self, owner: ObjId, ownee: ObjId) -> Result<(), Stop>
         ensures { Steps self.old (AssertOwnedBy owner ownee) result self.new }
     {
-        if let Some(refusal) = not_live(&self.table, owner) {
+        if let Some(refusal) = self.table.not_live(owner) {
             return Err(Stop::Refused(refusal));
         }
-        if let Some(refusal) = not_live(&self.table, ownee) {
+        if let Some(refusal) = self.table.not_live(ownee) {
             return Err(Stop::Refused(refusal));
         }
         self.registry.assert_ownedby(owner, ownee)
@@ -45,7 +44,7 @@ impl HeapParts {
     pub(crate) fn assert_instances(&mut self, kind: &Name, limit: u32) -> Result<(), Stop>
         ensures { Steps self.old (AssertInstances kind.now limit) result self.new }
     {
-        if let Some(refusal) = kind_refusal(&self.table, kind) {
+        if let Some(refusal) = self.table.kind_refusal(kind) {
             return Err(Stop::Refused(refusal));
         }
         self.registry.reserve_kinds(self.table.kinds() + 1)?;

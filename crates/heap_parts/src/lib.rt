@@ -6,7 +6,6 @@ mod assertions;
 mod clearing;
 mod objects;
 mod parts;
-mod refusals;
 mod regions;
 mod sweeping;
 

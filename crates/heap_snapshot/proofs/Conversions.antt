@@ -4,14 +4,14 @@ use Rattle.std.proofs.lemmas.List.{take-append-le}
 use Rattle.std.specs.Io.KnownBytes.{Appends, Consumes, Keeps}
 use Rattle.std.proofs.KnownBytes.{Appends-nil}
 use Rattle.std.proofs.lemmas.Bool.{cases_lt, cond-true, lt-ltb}
-use Rattle.heap_base.specs.Sinks.{AppendsPart}
-use Rattle.heap_base.specs.Streams.{Stream}
+use Rattle.streams.specs.Sinks.{AppendsPart}
+use Rattle.streams.specs.Streams.{Stream}
 use Rattle.heap_base.specs.declared.status.Status.{Status}
 use Rattle.heap_base.specs.declared.status.Status.TheVariants.{Clean, TraceFault}
 use Rattle.graph_meaning.specs.declared.views.HeapView.{HeapView}
-use Rattle.snapshot_text.specs.declared.read.TheConstants.{LONGEST_SNAPSHOT}
-use Rattle.snapshot_text.specs.declared.refusal.SnapWhy.TheVariants.{TooLong}
-use Rattle.snapshot_text.specs.Reading.{Refusal, refusal_at, line_behind, snapshot_in}
+use Rattle.heap_snapshot.specs.declared.read.TheConstants.{LONGEST_SNAPSHOT}
+use Rattle.heap_snapshot.specs.declared.refusal.SnapWhy.TheVariants.{TooLong}
+use Rattle.heap_snapshot.specs.Reading.{Refusal, refusal_at, line_behind, snapshot_in}
 use Rattle.trace_run.specs.Outcome.{Outside, WritesOnce, sink_change}
 use Rattle.heap_snapshot.specs.ToTrace.{IsRead, WritesPart, ConversionEndsAs, view_status, snapshot_status, text_by, text_of}
 

@@ -2,7 +2,7 @@
 use Rattle.std.proofs.Common.{◌≡◌, ℕ, ◌<◌, List, [], length, Option, None, Some, IfSome, sym, subst, arith}
 use Rattle.std.specs.Io.KnownBytes.{Consumes, IsAtEnd}
 use Rattle.std.proofs.KnownBytes.{Consumes-nil, Consumes-trans}
-use Rattle.snapshot_text.specs.declared.read.TheConstants.{LONGEST_SNAPSHOT}
+use Rattle.heap_snapshot.specs.declared.read.TheConstants.{LONGEST_SNAPSHOT}
 use Rattle.trace_reader.specs.Windows.{Adds, held_and_left}
 use Rattle.heap_snapshot.specs.ToTrace.{IsRead}
 

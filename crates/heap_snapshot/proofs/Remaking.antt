@@ -30,10 +30,10 @@ use Rattle.graph_meaning.specs.Step.{root_refusal, with_kind, with_object, with_
 use Rattle.graph_meaning.specs.Views.{object_view, heap_view}
 use Rattle.graph_meaning.proofs.HeapLemmas.{has_id-ids}
 use Rattle.trace_reader.specs.Meaning.{event, ◌>>=◌}
-use Rattle.snapshot_text.specs.Dangling.{object_ids}
-use Rattle.snapshot_text.specs.Formed.{IsWellFormed, kind_names}
-use Rattle.snapshot_text.proofs.Formed.{slot_total}
-use Rattle.snapshot_text.proofs.Legal.{IsLegalObject}
+use Rattle.heap_snapshot.specs.Dangling.{object_ids}
+use Rattle.heap_snapshot.specs.Formed.{IsWellFormed, kind_names}
+use Rattle.heap_snapshot.proofs.Formed.{slot_total}
+use Rattle.heap_snapshot.proofs.Legal.{IsLegalObject}
 use Rattle.heap_snapshot.specs.FromTrace.{bare_heap}
 use Rattle.heap_snapshot.specs.HeapOfTrace.{alloc_of, stores_from, stores_of, root_of, events_of, heap_after}
 use Rattle.heap_snapshot.proofs.Making.{alloc_answers, store_answers}

@@ -18,11 +18,11 @@ use Rattle.trace_reader.specs.Items.{pieces, line_of, items_from}
 use Rattle.trace_reader.specs.Meaning.{Item, event, item_of_line}
 use Rattle.trace_reader.proofs.Pieces.{pieces-nil, pieces-line, line_of-line, items_from-cons, item_of-short}
 use Rattle.serde_json.specs.Written.{compact_text}
-use Rattle.snapshot_text.specs.Dangling.{object_ids}
-use Rattle.snapshot_text.specs.Formed.{IsWellFormed, IsId, IsName}
-use Rattle.snapshot_text.proofs.Formed.{slot_total, lawful_is_well_formed}
-use Rattle.snapshot_text.proofs.Legal.{IsLegalObject, IsLegalRoot}
-use Rattle.snapshot_trace.specs.Trace.{alloc_data, store_data, root_data, data_line, alloc_line, slot_lines, store_lines, root_line, trace_text}
+use Rattle.heap_snapshot.specs.Dangling.{object_ids}
+use Rattle.heap_snapshot.specs.Formed.{IsWellFormed, IsId, IsName}
+use Rattle.heap_snapshot.proofs.Formed.{slot_total, lawful_is_well_formed}
+use Rattle.heap_snapshot.proofs.Legal.{IsLegalObject, IsLegalRoot}
+use Rattle.heap_snapshot.specs.Trace.{alloc_data, store_data, root_data, data_line, alloc_line, slot_lines, store_lines, root_line, trace_text}
 use Rattle.heap_snapshot.specs.HeapOfTrace.{alloc_of, stores_from, stores_of, root_of, events_of, heap_after, TraceHasEvents, TraceIsShort, RemakesHeap}
 use Rattle.heap_snapshot.proofs.Remaking.{remakes_view}
 use Rattle.heap_snapshot.proofs.TraceLines.{IsFitStore, IsLineOf, alloc_is_line, store_is_line, root_is_line}

@@ -35,8 +35,8 @@ use Rattle.trace_reader.specs.Cuts.{HasNoNewline}
 use Rattle.trace_reader.specs.Meaning.{event, id_value, count_value, target_value, name_value, good_value, ◌>>=◌, event_in, operation, alloc_in}
 use Rattle.trace_reader.specs.Meaning.{store_in, root_in, event_of_json, item_from, item_of_line}
 use Rattle.trace_reader.proofs.Json.{json_of_text}
-use Rattle.snapshot_text.specs.Formed.{IsId, IsName}
-use Rattle.snapshot_trace.specs.Trace.{whole, alloc_data, store_data, root_data}
+use Rattle.heap_snapshot.specs.Formed.{IsId, IsName}
+use Rattle.heap_snapshot.specs.Trace.{whole, alloc_data, store_data, root_data}
 
 -- ---- what a line is made of
 

@@ -9,7 +9,7 @@ use Rattle.graph_meaning.specs.declared.refusal.Stop.TheVariants.{Refused, OutOf
 use Rattle.graph_meaning.specs.Heap.{Heap, Table, empty_heap}
 use Rattle.graph_meaning.specs.Step.{step}
 use Rattle.graph_meaning.specs.Views.{heap_view}
-use Rattle.snapshot_text.specs.Text.{snapshot_text}
+use Rattle.heap_snapshot.specs.Text.{snapshot_text}
 use Rattle.trace_run.specs.Program.{Effect, goes_on, refuses, ProgramMeaning}
 
 -- an operation makes no text due

@@ -12,8 +12,8 @@ use Rattle.graph_meaning.specs.Step.{step}
 use Rattle.graph_meaning.specs.Views.{heap_view}
 use Rattle.trace_reader.specs.Items.{items_of}
 use Rattle.trace_reader.specs.Meaning.{Item, blank, event, refused, ◌>>=◌}
-use Rattle.snapshot_text.specs.Reading.{IsLawful}
-use Rattle.snapshot_trace.specs.Trace.{trace_text}
+use Rattle.heap_snapshot.specs.Reading.{IsLawful}
+use Rattle.heap_snapshot.specs.Trace.{trace_text}
 
 -- ---- the operations of the trace of a view
 

@@ -1,5 +1,15 @@
+pub mod Bounds
+pub mod Dangling
+pub mod Formed
 pub mod FromTrace
 pub mod HeapOfTrace
 pub mod Laws
+pub mod Lines
+pub mod Reading
+pub mod Table
+pub mod Taken
+pub mod Text
+pub mod TextLaws
 pub mod ToTrace
+pub mod Trace
 pub mod Words

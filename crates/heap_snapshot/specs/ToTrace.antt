@@ -1,16 +1,16 @@
 -- The trace that makes the heap of a snapshot, and what a run over the bytes of a snapshot does, by its status.
 use Rattle.std.specs.Prelude.{◌≡◌, ℕ, ◌≤◌, List, [], ◌++◌, length, Result, Ok, Err, Option, IfSome, codes, decimal}
 use Rattle.std.specs.Io.KnownBytes.{Appends, Consumes, Keeps}
-use Rattle.heap_base.specs.Causes.{Rose}
-use Rattle.heap_base.specs.Sinks.{AppendsPart}
+use Rattle.streams.specs.Causes.{Rose}
+use Rattle.streams.specs.Sinks.{AppendsPart}
 use Rattle.heap_base.specs.declared.status.Status.{Status}
 use Rattle.heap_base.specs.declared.status.Status.TheVariants.{Clean, Violated, TraceFault, ReadFault, WriteFault, NoMemory, Usage}
 use Rattle.graph_meaning.specs.declared.views.HeapView.{HeapView}
-use Rattle.snapshot_text.specs.declared.read.TheConstants.{LONGEST_SNAPSHOT}
-use Rattle.snapshot_text.specs.declared.refusal.SnapWhy.{SnapWhy}
-use Rattle.snapshot_text.specs.declared.refusal.SnapWhy.TheVariants.{TooLong, BadLine, Unended, Dangling}
-use Rattle.snapshot_text.specs.Reading.{Refusal, snapshot_in}
-use Rattle.snapshot_trace.specs.Trace.{trace_text}
+use Rattle.heap_snapshot.specs.declared.read.TheConstants.{LONGEST_SNAPSHOT}
+use Rattle.heap_snapshot.specs.declared.refusal.SnapWhy.{SnapWhy}
+use Rattle.heap_snapshot.specs.declared.refusal.SnapWhy.TheVariants.{TooLong, BadLine, Unended, Dangling}
+use Rattle.heap_snapshot.specs.Reading.{Refusal, snapshot_in}
+use Rattle.heap_snapshot.specs.Trace.{trace_text}
 use Rattle.trace_run.specs.Outcome.{Outside, IsTrace}
 
 -- ---- what there is to write

@@ -1,10 +1,10 @@
 ghost use Rattle.std.specs.Prelude.{◌≡◌, ◌++◌, codes, decimal, IfOk, OnOk};
 ghost use Rattle.heap_snapshot.specs.ToTrace.{snapshot_fault_text, why_text};
 
+use crate::refusal::SnapWhy;
 use heap_base::OutOfMemory;
-use report::{put, put_number};
-use snapshot_text::SnapWhy;
 use std::alloc::Global;
+use streams::{put, put_number};
 
 /// The line that says why the bytes are no snapshot. Lines are numbered from 1.
 #[tactic(auto, unfolding(crate::specs::ToTrace::snapshot_fault_text))]

@@ -1,6 +1,6 @@
 //! A snapshot of the heap that a trace makes.
 ghost use Rattle.std.specs.Prelude.{ℕ, Result};
-ghost use Rattle.heap_base.specs.Streams.{stream_of};
+ghost use Rattle.streams.specs.Streams.{stream_of};
 ghost use Rattle.trace_run.specs.Program.{TakesEvent, report_by};
 ghost use Rattle.trace_run.specs.Outcome.{EndsAs, outside_of, trace_report};
 ghost use Rattle.graph_meaning.specs.Heap.{Heap, empty_heap};
@@ -10,11 +10,12 @@ ghost use Rattle.graph_meaning.specs.declared.refusal.Refusal.{Refusal};
 ghost use Rattle.heap_snapshot.specs.FromTrace.{Answers, effect_of_step, bare_heap, snapshot_meaning};
 ghost use Rattle.heap_snapshot.specs.declared.from_trace.TheConstants.{LONGEST_TRACE};
 
+use crate::write::write_snapshot;
 use graph_meaning::{Event, Refusal, Stop};
-use heap_base::{Name, ObjId, OutOfMemory, Sink, Source, Status};
+use heap_base::{Name, ObjId, OutOfMemory, Status};
 use object_table::ObjectTable;
-use snapshot_text::write_snapshot;
 use std::alloc::Global;
+use streams::{Sink, Source};
 use trace_reader::LineReader;
 use trace_run::{LastText, Program, Taken, TraceRun};
 

@@ -1,14 +1,32 @@
-//! Snapshots of a heap, from a trace and to a trace.
+//! Snapshots of a heap: their text, written and read; the snapshot of the heap that a trace makes, and a trace that makes
+//! the heap of a snapshot.
 #![tactic(auto)]
 
+mod assembly;
+mod dangling;
 mod fault;
 mod from_trace;
 mod laws;
+mod line;
+mod read;
+mod refusal;
 mod run;
+mod stage;
+mod text_laws;
 mod to_trace;
+mod trace_lines;
+mod trace_of_heap;
+mod types;
 mod whole;
+mod write;
 
 pub use laws::a_snapshot_is_written_at_the_end;
+pub use read::{LONGEST_SNAPSHOT, read_snapshot};
+pub use refusal::{SnapError, SnapWhy};
 pub use run::{Command, snap_run};
-pub use snapshot_text::{LONGEST_SNAPSHOT, SnapError, SnapWhy, read_snapshot, write_snapshot};
-pub use snapshot_trace::trace_text;
+pub use text_laws::{
+    a_dangling_id_stands_in_its_line, a_lawful_view_is_read_back, a_lawful_view_is_well_formed,
+    a_text_stands_for_one_view, bytes_that_stand_for_a_view_are_its_text,
+};
+pub use trace_of_heap::trace_text;
+pub use write::write_snapshot;

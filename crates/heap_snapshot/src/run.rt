@@ -1,6 +1,6 @@
 ghost use Rattle.std.specs.Prelude.{◌≡◌, Some, None, map};
 ghost use Rattle.std.specs.Io.KnownBytes.{Keeps};
-ghost use Rattle.heap_base.specs.Streams.{stream_of};
+ghost use Rattle.streams.specs.Streams.{stream_of};
 ghost use Rattle.trace_run.specs.Program.{report_by};
 ghost use Rattle.trace_run.specs.Outcome.{EndsAs, RefusesWords, outside_of, trace_report};
 ghost use Rattle.graph_meaning.specs.Heap.{empty_heap};
@@ -10,8 +10,9 @@ ghost use Rattle.heap_snapshot.specs.ToTrace.{ConversionEndsAs};
 
 use crate::from_trace::{LONGEST_TRACE, from_trace};
 use crate::to_trace::to_trace;
-use heap_base::{Sink, Source, Status};
+use heap_base::Status;
 use std::alloc::Global;
+use streams::{Sink, Source};
 use trace_run::refuse_words;
 
 const USAGE: &[u8] = b"usage: gcsnap from-trace|to-trace\n";

@@ -1,15 +1,17 @@
 //! The trace that makes the heap of a snapshot.
 ghost use Rattle.std.specs.Prelude.{◌≡◌, IfOk};
-ghost use Rattle.heap_base.specs.Streams.{stream_of};
+ghost use Rattle.streams.specs.Streams.{stream_of};
 ghost use Rattle.trace_run.specs.Outcome.{outside_of};
 ghost use Rattle.heap_snapshot.specs.ToTrace.{ConversionEndsAs, snapshot_status, text_of};
 
 use crate::fault::snapshot_fault_text;
+use crate::read::read_snapshot;
+use crate::refusal::SnapError;
+use crate::trace_of_heap::trace_text;
 use crate::whole::{ReadStop, read_whole};
-use heap_base::{OutOfMemory, Sink, Source, Status};
-use snapshot_text::{SnapError, read_snapshot};
-use snapshot_trace::trace_text;
+use heap_base::{OutOfMemory, Status};
 use std::alloc::Global;
+use streams::{Sink, Source};
 use trace_run::write_once;
 
 /// Writes the trace that makes the heap of a snapshot, or why the bytes are none.

@@ -1,12 +1,13 @@
 //! Reads a source whole.
 ghost use Rattle.std.specs.Prelude.{◌≤◌, ◌<◌, ◌≡◌, ℕ, List, [], length, Err, IfOk, OnOk};
 ghost use Rattle.trace_reader.specs.Windows.{Adds, held_and_left};
-ghost use Rattle.heap_base.specs.Causes.{Rose};
+ghost use Rattle.streams.specs.Causes.{Rose};
 ghost use Rattle.heap_snapshot.specs.ToTrace.{IsRead};
 
-use heap_base::{OutOfMemory, Source};
-use snapshot_text::LONGEST_SNAPSHOT;
+use crate::read::LONGEST_SNAPSHOT;
+use heap_base::OutOfMemory;
 use std::alloc::Global;
+use streams::Source;
 
 /// So many bytes are asked for at a time.
 const PIECE: usize = 65_536;

@@ -1,6 +1,6 @@
 //! The run over a trace.
 ghost use Rattle.std.specs.Prelude.{◌≡◌, ◌≢◌, ◌+◌, ◌<◌, ◌≤◌, length, IfOk};
-ghost use Rattle.heap_base.specs.Streams.{stream_of};
+ghost use Rattle.streams.specs.Streams.{stream_of};
 ghost use Rattle.heap_base.specs.declared.limits.TheConstants.{LONGEST_TRACE};
 ghost use Rattle.trace_run.specs.Outcome.{EndsAs, RefusesWords, outside_of, trace_report};
 ghost use Rattle.trace_run.specs.Program.{TakesEvent, goes_on, report_by};
@@ -11,8 +11,9 @@ use crate::nursery::Nursery;
 use crate::program::MinorProgram;
 use crate::texts::{full_text, minor_text};
 use graph_meaning::{Event, Refusal, Stop};
-use heap_base::{LONGEST_TRACE, OutOfMemory, Sink, Source, Status};
+use heap_base::{LONGEST_TRACE, OutOfMemory, Status};
 use std::alloc::Global;
+use streams::{Sink, Source};
 use trace_reader::LineReader;
 use trace_run::{Due, Taken, TraceRun, refuse_words};
 

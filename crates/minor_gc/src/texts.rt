@@ -4,8 +4,8 @@ ghost use Rattle.minor_gc.specs.MinorRuns.{minor_end_text, full_text, minor_text
 
 use crate::minor::Minor;
 use heap_base::OutOfMemory;
-use report::{put, put_number};
 use std::alloc::Global;
+use streams::{put, put_number};
 
 /// The line of a minor collection.
 #[tactic(auto, unfolding(crate::specs::MinorRuns::minor_text))]

@@ -1,1 +1,4 @@
+pub mod Listing
+pub mod Places
 pub mod PlainWays
+pub mod Puts

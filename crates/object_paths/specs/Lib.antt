@@ -1,1 +1,4 @@
+pub mod Findings
 pub mod PlainPaths
+pub mod Prefixes
+pub mod References

@@ -7,15 +7,15 @@ ghost use Rattle.graph_meaning.specs.Views.{heap_view, is_path};
 ghost use Rattle.heap_base.specs.declared.limits.TheConstants.{END_STEPS};
 ghost use Rattle.object_paths.specs.PlainPaths.{ArePlainLevels, WhereLevelsOf};
 ghost use Rattle.object_table.specs.Placed.{id_in, slots_in, slot_in};
-ghost use Rattle.reference_search.specs.References.{reference_of, RefersTo};
+ghost use Rattle.object_paths.specs.References.{reference_of, RefersTo};
 ghost use Rattle.std.specs.Option.{option_map};
 ghost use Rattle.std.specs.Prelude.{◌≡◌, ◌<◌, ◌≤◌, ◌*◌, ℕ, length, Some, IsTrue, IfOk, IsSome, IfSome};
 
+use crate::cell_reference::CellReference;
 use graph_meaning::{PathView, Roles};
 use heap_base::OutOfMemory;
 use object_table::ObjectTable;
 use path_cert::{Levels, Start, levels, owner_step, root_path};
-use reference_search::CellReference;
 use std::alloc::Global;
 use std::marker::Model;
 

@@ -25,7 +25,8 @@ module _ (p : TableParts) (laid : IsLaidOut p) (kept : List Bool) (all : All (λ
   -- an object whose slots hold taken cells stays as it is
   same_resident : (o : Resident) → All (HoldsTaken p.cells) o.slots → resident_after kept o ≡ o
   same_resident o leads =
-      ap (λ l. record o { slots = l }) (same_slots kept o.slots (All-weaker (HoldsTaken p.cells) (λ s. IfSome s.held (λ c. IsTrue (is_flagged kept c))) (λ s taken. flagged s.held taken) o.slots leads))
+      ap (λ l. record o { slots = l })
+      (same_slots kept o.slots (All-weaker (HoldsTaken p.cells) (λ s. IfSome s.held (λ c. IsTrue (is_flagged kept c))) (λ s taken. flagged s.held taken) o.slots leads))
     where
       flagged : (h : Option ℕ) → IfSome h (λ c. IsTrue (is_taken p.cells c)) → IfSome h (λ c. IsTrue (is_flagged kept c))
       flagged None taken = tt

@@ -27,7 +27,8 @@ module _ {X : Type 0} where
   start_is runs k d laid h = omega (arith, start-at 0 runs k d laid h)
 
   -- the runs up to the end of the k-th
-  pub length-more : (runs : List (EntryBlock X)) (k : ℕ) (d : EntryBlock X) → k < length runs → length (all_entries (take (k + 1) runs)) ≡ length (all_entries (take k runs)) + length (get_or runs k d).entries
+  pub length-more : (runs : List (EntryBlock X)) (k : ℕ) (d : EntryBlock X) → k < length runs
+      → length (all_entries (take (k + 1) runs)) ≡ length (all_entries (take k runs)) + length (get_or runs k d).entries
   length-more runs k d h =
       ap (λ l. length (all_entries l)) (take_more runs k d h) ∙ ap length (all_entries-append (take k runs) (get_or runs k d ∷ []))
       ∙ omega (arith, length-append (all_entries (take k runs)) ((get_or runs k d).entries ++ []), length-append (get_or runs k d).entries [])

@@ -62,7 +62,8 @@ IsOrdered-remove entries i ordered h = record {
   few = omega (arith, length-remove entries i h, ordered.few);
 }
 
-pub remove_is : (entries : Entries) (name : List ℕ) (i : ℕ) → EntriesAreOrdered entries → i < length entries → IsNamedAt name entries i → remove entries i ≡ remove_entry (is_at (name_cmp name)) entries
+pub remove_is : (entries : Entries) (name : List ℕ) (i : ℕ) → EntriesAreOrdered entries → i < length entries
+    → IsNamedAt name entries i → remove entries i ≡ remove_entry (is_at (name_cmp name)) entries
 remove_is entries name i ordered h named = sym (remove_at_place total name entries i ordered.rising h named)
 
 -- ---- where the name would go

@@ -26,7 +26,8 @@ module _ {X : Type 0} where
       plus_none n = omega arith
   laid_push n (q ∷ runs) r =
       let further : (n + length q.entries) + length (all_entries runs) ≡ n + length (all_entries (q ∷ runs)) = omega (arith, length-append q.entries (all_entries runs)) in
-      ap (λ l. record { start = n; entries = q.entries } ∷ l) (laid_push (n + length q.entries) runs r ∙ ap (λ m. laid_from (n + length q.entries) runs ++ record { start = m; entries = r.entries } ∷ []) further)
+      ap (λ l. record { start = n; entries = q.entries } ∷ l)
+      (laid_push (n + length q.entries) runs r ∙ ap (λ m. laid_from (n + length q.entries) runs ++ record { start = m; entries = r.entries } ∷ []) further)
 
   -- The runs before place i are numbered, and the next one is to start here.
   pub record IsNumbered (old now : List (EntryBlock X)) (i start : ℕ) : Type 0 where

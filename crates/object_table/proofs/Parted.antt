@@ -53,7 +53,8 @@ module _ {X : Type 0} where
   -- the list's length
   pub length_is : (runs : List (EntryBlock X)) (k : ℕ) (r : EntryBlock X) → IsParted runs k r →
       length (all_entries runs) ≡ length (all_entries (take k runs)) + length r.entries + length (all_entries (drop (k + 1) runs))
-  length_is runs k r p = omega (arith, ap length p.list, length-append (all_entries (take k runs)) (r.entries ++ all_entries (drop (k + 1) runs)), length-append r.entries (all_entries (drop (k + 1) runs)))
+  length_is runs k r p = omega
+      (arith, ap length p.list, length-append (all_entries (take k runs)) (r.entries ++ all_entries (drop (k + 1) runs)), length-append r.entries (all_entries (drop (k + 1) runs)))
 
   -- ---- a place of the run
 
@@ -279,7 +280,8 @@ module _ {X : Type 0} where
     next_there : next ≡ get_or runs (suc k) this
     next_there = is_next ∙ ap (λ j. get_or runs j next) (add-one k) ∙ get_or_default runs (suc k) next this (omega arith)
 
-    pub merge_is : s.entries ≡ this.entries ++ next.entries → (all_entries (remove (set (set runs (k + 1) e) k s) (k + 1)) ≡ all_entries runs) × NoneEmpty (remove (set (set runs (k + 1) e) k s) (k + 1))
+    pub merge_is : s.entries ≡ this.entries ++ next.entries
+        → (all_entries (remove (set (set runs (k + 1) e) k s) (k + 1)) ≡ all_entries runs) × NoneEmpty (remove (set (set runs (k + 1) e) k s) (k + 1))
     merge_is is =
         let long : 0 < length s.entries = omega (arith, ap length is, length-append this.entries next.entries, this_some) in
         subst (λ j. (all_entries (remove (set (set runs j e) k s) j) ≡ all_entries runs) × NoneEmpty (remove (set (set runs j e) k s) j)) (sym (add-one k)) (

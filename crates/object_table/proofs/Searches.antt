@@ -141,7 +141,8 @@ in_list runs k i r p h = omega (arith, p.start, length_is runs k r p)
 pub in_list_below : (runs : Runs) (k i : ℕ) (r : EntryBlock (List ℕ × ℕ)) → IsParted runs k r → i < length r.entries → r.start + i < length (all_entries runs)
 in_list_below runs k i r p h = omega (arith, p.start, length_is runs k r p)
 
-pub named_in : (runs : Runs) (name : List ℕ) (k i : ℕ) (r : EntryBlock (List ℕ × ℕ)) → IsParted runs k r → i < length r.entries → IsNamedAt name r.entries i → IsNamedAt name (all_entries runs) (r.start + i)
+pub named_in : (runs : Runs) (name : List ℕ) (k i : ℕ) (r : EntryBlock (List ℕ × ℕ)) → IsParted runs k r
+    → i < length r.entries → IsNamedAt name r.entries i → IsNamedAt name (all_entries runs) (r.start + i)
 named_in runs name k i r p h named d = rw (entry_in runs k i r d p h) (named d)
 
 -- the name goes after the first of its run

@@ -165,6 +165,23 @@ impl ObjectTable {
         self.kinds.find(name)
     }
 
+    /// Why a type may not be named: `TooManyTypes` where it is new and `MOST_KINDS` were seen, else `None`.
+    pub fn kind_refusal(&self, kind: &Name) -> Option<Refusal>
+        ensures { result ≡ kind_refusal self.now.table kind.now }
+    {
+        self.refusal_by_kind(kind, self.kinds.find(kind))
+    }
+
+    /// Why nothing may be said of this id, or lead to it: `NotLive` where it is no object's, else `None`.
+    pub fn not_live(&self, id: ObjId) -> Option<Refusal>
+        ensures { result ≡ not_live self.now.table id }
+    {
+        match self.ids.find(id) {
+            Some(_) => None,
+            None => Some(Refusal::NotLive(id.number())),
+        }
+    }
+
     /// The number of a type, which is seen from now on. It refuses a new type where
     /// `MOST_KINDS` were seen (`TooManyTypes`).
     pub fn kind_of(&mut self, name: &Name) -> Result<u32, Stop>
@@ -175,7 +192,7 @@ impl ObjectTable {
         ensures err { OnErr result (self.new ≡ self.old) }
     {
         let found = self.kinds.find(name);
-        if let Some(refusal) = self.kind_refusal(name, found) {
+        if let Some(refusal) = self.refusal_by_kind(name, found) {
             return Err(Stop::Refused(refusal));
         }
         Ok(self.kinds.learn(name, found)?)
@@ -398,12 +415,12 @@ impl ObjectTable {
         } else if slots > MOST_SLOTS - self.slots {
             Some(Refusal::TooManySlots)
         } else {
-            self.kind_refusal(kind, found)
+            self.refusal_by_kind(kind, found)
         }
     }
 
     // Why a new object may not have this type, which was looked for.
-    fn kind_refusal(&self, kind: &Name, found: Option<u32>) -> Option<Refusal>
+    fn refusal_by_kind(&self, kind: &Name, found: Option<u32>) -> Option<Refusal>
         requires { found ≡ position (bytes_eq kind.now) self.now.table.kinds }
         ensures { result ≡ kind_refusal self.now.table kind.now }
     {
@@ -411,16 +428,6 @@ impl ObjectTable {
             Some(Refusal::TooManyTypes)
         } else {
             None
-        }
-    }
-
-    // Why nothing may lead to this id.
-    fn not_live(&self, id: ObjId) -> Option<Refusal>
-        ensures { result ≡ not_live self.now.table id }
-    {
-        match self.ids.find(id) {
-            Some(_) => None,
-            None => Some(Refusal::NotLive(id.number())),
         }
     }
 

@@ -1,7 +1,7 @@
 -- What was dealt, in the words of a phase's contract.
 use Rattle.std.proofs.Common.{◌≡◌, ℕ, ◌*◌, ◌≤◌, List, length, map, sym, ◌∙◌, subst}
 use Rattle.std.specs.List.{All}
-use Rattle.heap_base.specs.declared.task.Task.{Task}
+use Rattle.steal_pool.specs.declared.task.Task.{Task}
 use Rattle.graph_meaning.specs.Roles.{RoleTable}
 use Rattle.scan_job.specs.Phases.{all_held, task_lists, owner_firsts, held_firsts}
 use Rattle.scan_job.specs.Scans.{task_at}

@@ -5,7 +5,7 @@ use Rattle.std.proofs.Math.Nat.{mul-le-mul_left}
 use Rattle.std.proofs.Math.Seq.{take-length}
 use Rattle.std.proofs.lemmas.Grind.{flat_map-append}
 use Rattle.std.proofs.lemmas.List.{length-map, map-append, take_more}
-use Rattle.heap_base.specs.declared.task.Task.{Task}
+use Rattle.steal_pool.specs.declared.task.Task.{Task}
 use Rattle.scan_job.specs.Phases.{all_held, put_last, task_lists}
 use Rattle.scan_job.specs.Scans.{task_at}
 use Rattle.scan_job.specs.States.{ScanState}

@@ -1,2 +1,2 @@
-pub mod HeldCells
 pub mod Dealt
+pub mod HeldCells

@@ -7,10 +7,9 @@ ghost use Rattle.scan_job.specs.Phases.{CanBeginPhase, CanScan, HasBegun, IsDone
 ghost use Rattle.scan_job.specs.Shared.{shared_behind};
 ghost use Rattle.steal_pool.specs.Runs.{workers_of, room_of};
 
-use heap_base::{Gate, Task};
 use scan_job::{Mode, ScanContext, ScanJob, ScanShared, begin_phase, run_scans};
 use std::thread::Threads;
-use steal_pool::{Crew, FirstTasks};
+use steal_pool::{Crew, FirstTasks, Gate, Task};
 
 // Deals a task of each held cell to the workers in turn.
 fn add_held(jobs: &[ScanJob], first: &mut FirstTasks, workers: u32)

@@ -1,4 +1,8 @@
-pub mod Turns
+pub mod Each
 pub mod Holds
+pub mod RoundsOfTasks
 pub mod Sendable
+pub mod Tasks
+pub mod Turns
+pub mod Whole
 pub mod Zips

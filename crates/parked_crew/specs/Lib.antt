@@ -1,4 +1,7 @@
+pub mod Crews
 pub mod Errands
+pub mod Progress
 pub mod Rounds
 pub mod Seats
-pub mod Crews
+pub mod Shares
+pub mod TaskCrews

@@ -1,11 +1,11 @@
-pub mod Cells
-pub mod Steps
-pub mod Levels
 pub mod Ancestors
+pub mod Cells
+pub mod Finds
 pub mod Frontiers
 pub mod Fronts
-pub mod Trails
-pub mod Skips
-pub mod Finds
+pub mod Levels
 pub mod Quests
 pub mod Searches
+pub mod Skips
+pub mod Steps
+pub mod Trails

@@ -5,9 +5,9 @@ use Rattle.graph_meaning.specs.Heap.{Heap}
 use Rattle.graph_meaning.specs.Roles.{RoleTable, owner_in, has_owner}
 use Rattle.object_table.specs.Placed.{PlacedTable}
 use Rattle.assert_registry.specs.Laws.{StandFor}
-use Rattle.ownee_check.specs.Cells.{cells_by_id}
-use Rattle.ownee_check.specs.Ownership.{AreDoubts}
-use Rattle.ownee_check.proofs.OwnersOf.{ownee-found, owned-by_role}
+use Rattle.verdict_list.specs.Cells.{cells_by_id}
+use Rattle.verdict_list.specs.Ownership.{AreDoubts}
+use Rattle.verdict_list.proofs.OwnersOf.{ownee-found, owned-by_role}
 
 module _ (p : PlacedTable) (r : RoleTable) (h : Heap) (stand : StandFor p r h) where
   pub ownees-doubted : (ownees : List ℕ) → ownees ≡ filter (λ cell. has_owner (owner_in r cell)) (cells_by_id p) → AreDoubts p h ownees

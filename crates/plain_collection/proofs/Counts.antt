@@ -13,8 +13,8 @@ use Rattle.graph_meaning.specs.Heap.{Table, Heap, ids, kind_at}
 use Rattle.graph_meaning.specs.Roles.{RoleTable}
 use Rattle.object_table.specs.Placed.{PlacedTable, IsPlaced, id_in}
 use Rattle.assert_registry.proofs.Marking.{get_or-replicate_same}
-use Rattle.reference_search.specs.Prefixes.{IsOneMore, scanned_slots}
-use Rattle.reference_search.proofs.Listing.{references-are}
+use Rattle.object_paths.specs.Prefixes.{IsOneMore, scanned_slots}
+use Rattle.object_paths.proofs.Listing.{references-are}
 use Rattle.verdict_list.proofs.Counting.{AreCounted, seen}
 use Rattle.plain_collection.specs.Counting.{CountsLists, AtMost}
 

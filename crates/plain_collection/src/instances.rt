@@ -1,6 +1,6 @@
 //! How many objects of each type are traced.
 ghost use Rattle.graph_meaning.specs.Heap.{Heap};
-ghost use Rattle.reference_search.specs.References.{KeptAreTraced};
+ghost use Rattle.object_paths.specs.References.{KeptAreTraced};
 ghost use Rattle.std.specs.Prelude.{◌≡◌, ◌+◌, ◌-◌, ◌^◌, ◌<◌, length, replicate, slice_index, slice_set, IfOk};
 ghost use Rattle.verdict_list.specs.Counts.{CountsInstances};
 

@@ -3,7 +3,7 @@ ghost use Rattle.assert_registry.specs.Laws.{StandFor};
 ghost use Rattle.graph_meaning.specs.Heap.{Heap};
 ghost use Rattle.graph_meaning.specs.Roles.{AreRolesOf};
 ghost use Rattle.plain_collection.specs.Counting.{is_reached_in};
-ghost use Rattle.reference_search.specs.References.{KeptAreTraced};
+ghost use Rattle.object_paths.specs.References.{KeptAreTraced};
 ghost use Rattle.std.specs.Prelude.{◌≡◌, ◌<◌, ℕ, false, length, slice_index_or, IfOk};
 
 use graph_meaning::Roles;

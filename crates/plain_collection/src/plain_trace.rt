@@ -10,8 +10,8 @@ use crate::kept::traced_cells;
 use crate::references::count_references;
 use graph_meaning::Roles;
 use heap_base::OutOfMemory;
+use object_paths::TracedTable;
 use object_table::ObjectTable;
-use reference_search::TracedTable;
 use std::alloc::Global;
 use verdict_list::HeapCounts;
 

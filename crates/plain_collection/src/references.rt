@@ -4,14 +4,14 @@ ghost use Rattle.graph_meaning.specs.Heap.{Heap};
 ghost use Rattle.graph_meaning.specs.Roles.{AreRolesOf, cells_of, id_at};
 ghost use Rattle.object_table.specs.Placed.{id_in, IsPlaced, IsSound};
 ghost use Rattle.plain_collection.specs.Counting.{AtMost, CountsLists, CountsMore};
-ghost use Rattle.reference_search.specs.Prefixes.{ScannedByCell, scanned_slots};
-ghost use Rattle.reference_search.specs.References.{IsTracedTableOf};
+ghost use Rattle.object_paths.specs.Prefixes.{ScannedByCell, scanned_slots};
+ghost use Rattle.object_paths.specs.References.{IsTracedTableOf};
 ghost use Rattle.std.specs.Prelude.{◌≡◌, ◌+◌, ◌-◌, ◌*◌, ◌^◌, ◌<◌, ◌≤◌, ℕ, Bool, [], length, Some, IsSome, IfOk, replicate, slice_index, slice_set};
 
 use graph_meaning::Roles;
 use heap_base::OutOfMemory;
+use object_paths::{TracedTable, is_scanned};
 use object_table::ObjectTable;
-use reference_search::{TracedTable, is_scanned};
 use std::alloc::Global;
 
 /// For each cell how many references there are to its object: by roots, and by slots of traced objects and of owners. It goes once over

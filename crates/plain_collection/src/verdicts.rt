@@ -11,9 +11,8 @@ use crate::plain_trace::PlainTrace;
 use graph_meaning::{Roles, VerdictList};
 use heap_base::OutOfMemory;
 use object_table::ObjectTable;
-use ownee_check::{check_ownees, ownees_of};
 use std::alloc::Global;
-use verdict_list::{CountedHeap, all_verdicts};
+use verdict_list::{CountedHeap, all_verdicts, check_ownees, ownees_of};
 
 impl PlainTrace {
     /// The violated assertions of the heap that was traced, in order: what is asserted dead, by id; the types over their limit, by

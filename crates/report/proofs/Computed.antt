@@ -4,16 +4,21 @@ use Rattle.std.specs.Fmt.{digits}
 use Rattle.graph_meaning.specs.Reach.{within, reached_nodes, level, distance, predecessor}
 use Rattle.graph_meaning.specs.Assertions.{found_from, under_owners, root_traced, traced_ids, is_met, references}
 use Rattle.graph_meaning.specs.Paths.{way_at, canonical_way, plain_way, unowned_way, view_of}
-use Rattle.graph_meaning.specs.Collecting.{violating_dead, instances, violating_kinds, violating_unshared, violating_ownees, all_verdicts, first_with_paths, with_only, after_sweep, after_collection, collection_counted}
+use Rattle.graph_meaning.specs.Collecting.{violating_dead, instances, violating_kinds, violating_unshared, violating_ownees, all_verdicts, first_with_paths}
+use Rattle.graph_meaning.specs.Collecting.{with_only, after_sweep, after_collection, collection_counted}
 use Rattle.graph_meaning.specs.Step.{alloc_refusal, store_refusal, root_refusal, with_object, with_changed_slot, with_root, step}
 use Rattle.report.specs.Text.{path_text, verdict_line, summary_line, cleared_line, collection_text, fault_text, halt_text, end_text}
-use Rattle.run_meaning.specs.Run.{turn, run, run_status}
+use Rattle.report.specs.Run.{turn, run, run_status}
 use Rattle.report.specs.Report.{report_text}
-use Rattle.report.specs.Examples.{Nothing, OneCollection, DeadAndNamed, CycleIsFreed, RegionsNest, OwnershipIsLost, ArrayIsLetGo, FreedIsNotLive, LeastPredecessor, PathsFromAnOwner, OnePathIsShown, DeadIsCutOff, ViolationHalts, LaterViolationsHalt, NothingHalts}
+use Rattle.report.specs.Examples.{Nothing, OneCollection, DeadAndNamed, CycleIsFreed, RegionsNest, OwnershipIsLost, ArrayIsLetGo, FreedIsNotLive}
+use Rattle.report.specs.Examples.{LeastPredecessor, PathsFromAnOwner, OnePathIsShown, DeadIsCutOff, ViolationHalts, LaterViolationsHalt, NothingHalts}
 
 -- opens the definitions that the examples compute with
 all_definitions : ℕ
-unfolding within reached_nodes level distance predecessor found_from under_owners root_traced traced_ids is_met references way_at canonical_way plain_way unowned_way view_of violating_dead instances violating_kinds violating_unshared violating_ownees all_verdicts first_with_paths with_only after_sweep after_collection collection_counted alloc_refusal store_refusal root_refusal with_object with_changed_slot with_root step path_text verdict_line summary_line cleared_line collection_text fault_text halt_text end_text turn run report_text run_status digits
+unfolding within reached_nodes level distance predecessor found_from under_owners root_traced traced_ids is_met references way_at canonical_way plain_way
+    unowned_way view_of violating_dead instances violating_kinds violating_unshared violating_ownees all_verdicts first_with_paths with_only after_sweep
+    after_collection collection_counted alloc_refusal store_refusal root_refusal with_object with_changed_slot with_root step path_text verdict_line
+    summary_line cleared_line collection_text fault_text halt_text end_text turn run report_text run_status digits
 all_definitions = 0
 
 pub nothing : Nothing

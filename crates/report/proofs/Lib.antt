@@ -1,4 +1,5 @@
 mod Computed
 pub mod Pieces
 mod Ranges
+pub mod RunTexts
 pub mod Runs

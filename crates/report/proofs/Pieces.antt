@@ -6,7 +6,7 @@ use Rattle.std.specs.List.{flat_map}
 use Rattle.std.proofs.Math.Seq.{take-append-add}
 use Rattle.std.specs.Io.KnownBytes.{Appends}
 use Rattle.std.proofs.KnownBytes.{Appends-nil, Appends-trans}
-use Rattle.heap_base.specs.Sinks.{AppendsPart}
+use Rattle.streams.specs.Sinks.{AppendsPart}
 use Rattle.graph_meaning.specs.declared.collection.Collection.{Collection}
 use Rattle.report.specs.Text.{cleared_line, collection_text, summary_line, verdict_line}
 use Rattle.report.specs.Pieces.{IsWritten}

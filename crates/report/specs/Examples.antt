@@ -7,7 +7,7 @@ use Rattle.graph_meaning.specs.declared.event.Event.TheVariants.{Store, StartReg
 use Rattle.graph_meaning.specs.declared.reaction.React.TheVariants as react
 use Rattle.graph_meaning.specs.Examples.{alloc, root, store, order, cycle, cart, cached_entry, pools}
 use Rattle.trace_reader.specs.Meaning.{event}
-use Rattle.run_meaning.specs.Run.{RunRules, status_of}
+use Rattle.report.specs.Run.{RunRules, status_of}
 use Rattle.report.specs.Report.{report_of}
 
 -- These operations have this report by these rules, and end with this status.

@@ -1,4 +1,5 @@
 pub mod Examples
-pub mod Report
-pub mod Text
 pub mod Pieces
+pub mod Report
+pub mod Run
+pub mod Text

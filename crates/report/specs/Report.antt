@@ -3,7 +3,7 @@ use Rattle.std.specs.Prelude.{ℕ, List, ◌++◌}
 use Rattle.std.specs.List.{flat_map}
 use Rattle.graph_meaning.specs.declared.collection.Collection.{Collection}
 use Rattle.trace_reader.specs.Meaning.{Item}
-use Rattle.run_meaning.specs.Run.{RunRules, Totals, no_totals, with_collections, first_state, Ending, end_of_trace, refused_line, halted, RunResult, run}
+use Rattle.report.specs.Run.{RunRules, Totals, no_totals, with_collections, first_state, Ending, end_of_trace, refused_line, halted, RunResult, run}
 use Rattle.report.specs.Text.{collection_text, fault_text, halt_text, end_text}
 
 -- the texts of the collections alone

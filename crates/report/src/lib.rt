@@ -1,5 +1,5 @@
-//! The report on the run of a trace: its definition (in `specs/`), and the texts of a collection, a fault line, a halt
-//! line and the end line.
+//! The report on the run of a trace: what a run is and how it ends, its report (both defined in `specs/`), and the texts
+//! of a collection, a fault line, a halt line and the end line.
 #![tactic(auto)]
 
 mod examples;
@@ -20,6 +20,5 @@ pub use examples::{
     each_collection_has_its_lines, paths_past_the_number_shown_are_left_out,
     what_force_cleared_has_a_line,
 };
-pub use parts::{put, put_number};
 pub use texts::{collection_text, end_text, fault_text, halt_text};
 pub use writing::{WriteError, write_collection};

@@ -2,9 +2,10 @@ ghost use Rattle.std.specs.Prelude.{◌≡◌, ◌≤◌, ◌++◌, length, slic
 ghost use Rattle.std.specs.List.{flat_map};
 ghost use Rattle.report.specs.Text.{both_text, left_out_text, path_text, shown_text, start_text, step_text, steps_text};
 
-use crate::parts::{put, put_name, put_number, put_object};
+use crate::parts::put_object;
 use graph_meaning::{PathFrom, PathStep, PathView, Shown, StepList};
 use heap_base::{END_STEPS, OutOfMemory};
+use streams::{put, put_name, put_number};
 
 /// Appends the path that a verdict shows, or that it is left out.
 pub(crate) fn put_shown(text: &mut Vec<u8>, shown: &Shown) -> Result<(), OutOfMemory>

@@ -2,9 +2,9 @@ ghost use Rattle.std.specs.Prelude.{◌≡◌, ◌++◌, codes, decimal, OnOk};
 ghost use Rattle.report.specs.Text.{refusal_text};
 ghost use Rattle.trace_reader.specs.Meaning.{field_text};
 
-use crate::parts::{put, put_number};
 use graph_meaning::{FieldName, Refusal};
 use heap_base::OutOfMemory;
+use streams::{put, put_number};
 use trace_reader::spelling_of;
 
 /// Appends the name of a refusal, and its detail where it has one.

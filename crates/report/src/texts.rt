@@ -1,12 +1,12 @@
 ghost use Rattle.std.specs.Prelude.{◌≡◌, IfOk};
 ghost use Rattle.report.specs.Text.{collection_text, end_text, fault_text, halt_text};
 
-use crate::parts::{put, put_number};
 use crate::refusals::put_refusal;
 use crate::verdicts::{put_cleared, put_summary, put_verdicts};
 use graph_meaning::{Collection, Refusal};
 use heap_base::OutOfMemory;
 use std::alloc::Global;
+use streams::{put, put_number};
 
 /// The lines of a collection: one that sums it up, one for each verdict, and where slots or roots were cleared one that
 /// says how many.

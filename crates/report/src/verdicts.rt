@@ -2,10 +2,11 @@ ghost use Rattle.std.specs.Prelude.{◌≡◌, ◌++◌, OnOk, codes, decimal};
 ghost use Rattle.std.specs.List.{flat_map};
 ghost use Rattle.report.specs.Text.{cleared_line, gc_text, gone_text, object_text, paths_text, summary_line, verdict_head, verdict_line, verdict_text};
 
-use crate::parts::{put, put_name, put_number, put_object};
+use crate::parts::put_object;
 use crate::paths::{put_both, put_shown};
 use graph_meaning::{Collection, Verdict, VerdictList};
 use heap_base::{Name, OutOfMemory};
+use streams::{put, put_name, put_number};
 
 /// Appends the line that sums a collection up.
 #[tactic(auto, unfolding(crate::specs::Text::summary_line))]

@@ -2,8 +2,8 @@
 ghost use Rattle.std.specs.Prelude.{◌≡◌, ◌≤◌, ◌++◌, ℕ, List, Option, Err, OnOk, OnErr};
 ghost use Rattle.std.specs.List.{flat_map};
 ghost use Rattle.std.specs.Io.KnownBytes.{Appends};
-ghost use Rattle.heap_base.specs.Causes.{HasCause, Rose};
-ghost use Rattle.heap_base.specs.Sinks.{AppendsPart};
+ghost use Rattle.streams.specs.Causes.{HasCause, Rose};
+ghost use Rattle.streams.specs.Sinks.{AppendsPart};
 ghost use Rattle.report.specs.Text.{collection_text, verdict_line};
 ghost use Rattle.report.specs.Pieces.{IsWritten};
 ghost use Rattle.report.specs.declared.writing.WriteError.{WriteError};
@@ -11,8 +11,9 @@ ghost use Rattle.report.specs.declared.writing.WriteError.TheVariants.{WriteFail
 
 use crate::verdicts::{put_cleared, put_line, put_summary};
 use graph_meaning::Collection;
-use heap_base::{Failed, OutOfMemory, Sink, put_all};
+use heap_base::OutOfMemory;
 use std::alloc::Global;
+use streams::{Failed, Sink, put_all};
 
 /// Why a text was not written whole.
 #[derive(Clone, Copy, Debug, PartialEq, Eq)]

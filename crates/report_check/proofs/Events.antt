@@ -6,13 +6,13 @@ use Rattle.graph_meaning.specs.declared.event.Event.TheVariants.{Collect}
 use Rattle.graph_meaning.specs.declared.refusal.Refusal.{Refusal}
 use Rattle.graph_meaning.specs.Heap.{Heap}
 use Rattle.graph_meaning.specs.Step.{step}
-use Rattle.run_meaning.specs.Run as meant
+use Rattle.report.specs.Run as meant
 use Rattle.report.specs.Text.{collection_text}
 use Rattle.trace_run.specs.declared.taken.Due.TheVariants.{Text}
 use Rattle.trace_run.specs.declared.taken.Taken.TheVariants.{GoesOn}
 use Rattle.trace_run.specs.Program.{goes_on, refuses}
-use Rattle.audit_program.specs.Audits.{AuditState, audit_meaning, behind_next, next_of}
-use Rattle.audit_program.proofs.Effects.{takes-applied, takes-due, takes-refused}
+use Rattle.trace_run.specs.Audits.{AuditState, audit_meaning, behind_next, next_of}
+use Rattle.trace_run.proofs.Effects.{takes-applied, takes-due, takes-refused}
 
 -- a collection, where the run doesn't halt behind it
 pub collect-due : (s s' : AuditState) (e : Event) (text : Vec ℕ Global) → meant.halts s.rules.react (next_of s ∷ []) ≡ false → e ≡ Collect →

@@ -1,3 +1,4 @@
+pub mod Comparisons
 pub mod Events
 pub mod Lines
 pub mod Running

@@ -3,8 +3,8 @@ use Rattle.std.proofs.Common.{◌≡◌, inl, inr, ℕ, List, Option, None, Some
 use Rattle.std.specs.Io.KnownBytes.{Keeps}
 use Rattle.heap_base.specs.declared.status.Status.{Status}
 use Rattle.heap_base.specs.declared.status.Status.TheVariants.{Clean, Violated, TraceFault, ReadFault, WriteFault, NoMemory, Usage}
-use Rattle.text_comparison.specs.declared.outcome.Compared.{Compared}
-use Rattle.text_comparison.specs.declared.outcome.Compared.TheVariants.{Equal, Differs}
+use Rattle.report_check.specs.declared.compared.Compared.{Compared}
+use Rattle.report_check.specs.declared.compared.Compared.TheVariants.{Equal, Differs}
 use Rattle.report_check.specs.Checked.{World, IsChecked, ChecksEnd}
 use Rattle.report_check.specs.Reports.{TellsOfReports, Writes, comparison_status}
 

@@ -5,8 +5,8 @@ use Rattle.std.proofs.Common.{sym, ◌∙◌, ap, subst, arith, take_all, ⊎_el
 use Rattle.std.specs.Option.{IfSome}
 use Rattle.std.proofs.KnownBytes.{Consumes-nil}
 use Rattle.std.proofs.lemmas.List.{take-append-drop}
-use Rattle.heap_base.specs.Sinks.{AppendsPart}
-use Rattle.heap_base.specs.Streams.{Stream}
+use Rattle.streams.specs.Sinks.{AppendsPart}
+use Rattle.streams.specs.Streams.{Stream}
 use Rattle.heap_base.specs.declared.limits.TheConstants.{LONGEST_TRACE}
 use Rattle.heap_base.specs.declared.status.Status.TheVariants.{TraceFault, NoMemory}
 use Rattle.graph_meaning.specs.declared.refusal.Refusal.{Refusal}
@@ -25,18 +25,18 @@ use Rattle.trace_run.proofs.Endings.{finished, line_ends, line_too_long, trace_t
 use Rattle.trace_run.specs.Progress.{InProgress}
 use Rattle.trace_run.proofs.Progress.{begins_at, line_leaves_fewer, line_taken, line_within}
 use Rattle.trace_run.proofs.Runs.{report_on-text}
-use Rattle.audit_program.specs.Audits.{AuditState, audit_meaning, first_audit_state, rules_by}
-use Rattle.audit_program.proofs.Reports.{audit_is_reported}
+use Rattle.trace_run.specs.Audits.{AuditState, audit_meaning, first_audit_state, rules_by}
+use Rattle.trace_run.proofs.Reports.{audit_is_reported}
 use Rattle.graph_meaning.specs.declared.reaction.React.TheVariants as react
 use Rattle.report_check.specs.Flows.{ComparesLine, checked_line}
 use Rattle.report_check.specs.Reports.{TellsOfReports, TellsOfRun}
 use Rattle.report_check.specs.States.{checked_state}
 use Rattle.report_check.specs.declared.line.Check.{Check}
 use Rattle.report_check.specs.declared.line.Flow.TheVariants.{GoesOn, Ends}
-use Rattle.text_comparison.specs.Comparing.{ComparisonState, DiffersWithin, IsEqualSoFar, TellsDifference, comparison_of, fresh_comparison}
-use Rattle.text_comparison.specs.Differences.{IsFirstDifference}
-use Rattle.text_comparison.specs.declared.outcome.Compared.{Compared}
-use Rattle.text_comparison.specs.declared.outcome.Compared.TheVariants.{Differs}
+use Rattle.report_check.specs.Comparing.{ComparisonState, DiffersWithin, IsEqualSoFar, TellsDifference, comparison_of, fresh_comparison}
+use Rattle.report_check.specs.Differences.{IsFirstDifference}
+use Rattle.report_check.specs.declared.compared.Compared.{Compared}
+use Rattle.report_check.specs.declared.compared.Compared.TheVariants.{Differs}
 
 -- a sink that holds these bytes
 abbrev pub held : List ℕ → Stream

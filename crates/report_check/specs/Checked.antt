@@ -1,13 +1,13 @@
 -- What stands when a check has returned, by the status that it answers.
 use Rattle.std.specs.Prelude.{◌⊎◌, ◌≡◌, ℕ, List, codes}
 use Rattle.std.specs.Io.KnownBytes.{Appends, Keeps}
-use Rattle.heap_base.specs.Causes.{Rose}
-use Rattle.heap_base.specs.Sinks.{AppendsPart}
-use Rattle.heap_base.specs.Streams.{Stream}
+use Rattle.streams.specs.Causes.{Rose}
+use Rattle.streams.specs.Sinks.{AppendsPart}
+use Rattle.streams.specs.Streams.{Stream}
 use Rattle.heap_base.specs.declared.status.Status.{Status}
 use Rattle.heap_base.specs.declared.status.Status.TheVariants.{Clean, Violated, TraceFault, ReadFault, WriteFault, NoMemory, Usage}
-use Rattle.text_comparison.specs.declared.outcome.Compared.{Compared}
-use Rattle.text_comparison.specs.declared.outcome.Compared.TheVariants.{Equal, Differs}
+use Rattle.report_check.specs.declared.compared.Compared.{Compared}
+use Rattle.report_check.specs.declared.compared.Compared.TheVariants.{Equal, Differs}
 use Rattle.report_check.specs.Reports.{TellsOfReports, comparison_line}
 
 -- What can be seen of the trace, of the report and of the sink at a moment.

@@ -3,7 +3,7 @@ use Rattle.std.specs.Prelude.{◌≡◌, ℕ}
 use Rattle.graph_meaning.specs.declared.refusal.Refusal.{Refusal}
 use Rattle.report.specs.Text.{fault_text}
 use Rattle.trace_run.specs.Program.{Effect, goes_on, refuses}
-use Rattle.audit_program.specs.Audits.{AuditState}
+use Rattle.trace_run.specs.Audits.{AuditState}
 use Rattle.report_check.specs.declared.due.Due.{Due}
 use Rattle.report_check.specs.declared.due.Due.TheVariants.{GoesOn, Ends}
 

@@ -3,12 +3,12 @@ use Rattle.std.specs.Prelude.{◌≡◌, ◌⊎◌, ℕ, ◌++◌, List, Option}
 use Rattle.graph_meaning.specs.declared.refusal.Refusal.{Refusal}
 use Rattle.report.specs.Text.{fault_text}
 use Rattle.trace_run.specs.Program.{Effect, goes_on, refuses}
-use Rattle.audit_program.specs.Audits.{AuditState}
-use Rattle.text_comparison.specs.Comparing.{ComparisonWithSource, DiffersWithin, IsEqualSoFar, TellsDifference}
-use Rattle.text_comparison.specs.declared.outcome.Compared.TheVariants.{Differs}
+use Rattle.trace_run.specs.Audits.{AuditState}
+use Rattle.report_check.specs.Comparing.{ComparisonWithSource, DiffersWithin, IsEqualSoFar, TellsDifference}
+use Rattle.report_check.specs.declared.compared.Compared.TheVariants.{Differs}
 use Rattle.report_check.specs.declared.line.Flow.{Flow}
 use Rattle.report_check.specs.declared.line.Flow.TheVariants.{GoesOn, Ends}
-use Rattle.text_comparison.specs.declared.outcome.Compared.{Compared}
+use Rattle.report_check.specs.declared.compared.Compared.{Compared}
 
 -- these reports differ in the text so far
 abbrev pub Differ : Option (List ℕ) → List ℕ → Compared → Type 0

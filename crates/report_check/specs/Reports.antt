@@ -1,7 +1,7 @@
 -- How a report compares with the one that is defined for a trace.
 use Rattle.std.specs.Prelude.{ℕ, List, Option, IfSome, codes, ◌++◌, decimal}
 use Rattle.std.specs.Io.KnownBytes.{Keeps}
-use Rattle.heap_base.specs.Streams.{Stream}
+use Rattle.streams.specs.Streams.{Stream}
 use Rattle.heap_base.specs.declared.status.Status.{Status}
 use Rattle.heap_base.specs.declared.status.Status.TheVariants.{Clean, Violated, NoMemory}
 use Rattle.heap_base.specs.declared.limits.TheConstants.{LONGEST_TRACE}
@@ -10,10 +10,10 @@ use Rattle.trace_reader.specs.Items.{items_of}
 use Rattle.report.specs.Report.{report_of}
 use Rattle.trace_run.specs.Outcome.{WritesOnce, sink_change}
 use Rattle.trace_run.specs.Program.{report_by}
-use Rattle.audit_program.specs.Audits.{AuditState, audit_meaning, rules_by}
-use Rattle.text_comparison.specs.Comparing.{TellsDifference}
-use Rattle.text_comparison.specs.declared.outcome.Compared.{Compared}
-use Rattle.text_comparison.specs.declared.outcome.Compared.TheVariants.{Equal, Differs}
+use Rattle.trace_run.specs.Audits.{AuditState, audit_meaning, rules_by}
+use Rattle.report_check.specs.Comparing.{TellsDifference}
+use Rattle.report_check.specs.declared.compared.Compared.{Compared}
+use Rattle.report_check.specs.declared.compared.Compared.TheVariants.{Equal, Differs}
 
 -- the report on these bytes of a trace that shows so many paths of each collection
 abbrev pub report_with_paths : ℕ → List ℕ → List ℕ

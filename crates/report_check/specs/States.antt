@@ -1,6 +1,6 @@
 -- Where the run of a check stands.
 use Rattle.graph_meaning.specs.declared.reaction.React.TheVariants.{Report}
-use Rattle.audit_program.specs.Audits.{AuditState, rules_by}
+use Rattle.trace_run.specs.Audits.{AuditState, rules_by}
 use Rattle.report_check.specs.declared.checking.Checking.{Checking}
 
 -- its rules, its heap, and the totals of its collections

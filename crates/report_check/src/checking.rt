@@ -30,7 +30,7 @@ impl Checking {
     ghost use Rattle.report.specs.Text.{collection_text, end_text};
     ghost use Rattle.trace_reader.specs.Meaning.{item_of_line};
     ghost use Rattle.trace_run.specs.Program.{takes_item};
-    ghost use Rattle.audit_program.specs.Audits.{audit_meaning, behind_next, end_of, first_audit_state, next_of, rules_by};
+    ghost use Rattle.trace_run.specs.Audits.{audit_meaning, behind_next, end_of, first_audit_state, next_of, rules_by};
     ghost use Rattle.report_check.specs.Due.{MakesDue};
     ghost use Rattle.report_check.specs.States.{checked_state};
 

@@ -1,20 +1,22 @@
 //! The comparison of two reports: the one on a trace, as it is made, and the one that is to be checked.
 ghost use Rattle.std.specs.Prelude.{◌≡◌, ◌⊎◌, Err, IfOk};
-ghost use Rattle.heap_base.specs.Causes.{Rose};
+ghost use Rattle.streams.specs.Causes.{Rose};
 ghost use Rattle.report_check.specs.declared.outcome.CheckError.TheVariants.{ReadFault};
 ghost use Rattle.report_check.specs.Reports.{TellsOfReports, TellsOfRun};
 ghost use Rattle.report_check.specs.States.{checked_state};
 ghost use Rattle.heap_base.specs.declared.limits.TheConstants.{LONGEST_TRACE};
 ghost use Rattle.trace_reader.specs.Cutter.{fresh_cutter};
-ghost use Rattle.text_comparison.specs.Comparing.{fresh_comparison};
+ghost use Rattle.report_check.specs.Comparing.{fresh_comparison};
 
 use crate::checking::Checking;
+use crate::compared::Compared;
+use crate::comparison::Comparison;
 use crate::line::{Check, Flow};
 use crate::outcome::CheckError;
 use graph_meaning::Refusal;
-use heap_base::{LONGEST_TRACE, Source};
+use heap_base::LONGEST_TRACE;
 use std::alloc::Global;
-use text_comparison::{Compared, Comparison};
+use streams::Source;
 use trace_reader::{CutError, LineCutter};
 
 /// Runs the trace, and compares what the report on it is with the bytes of `report`. A text is compared before the next line of the trace is cut,

@@ -1,13 +1,16 @@
-//! The checker of reports: whether a report is the one that is defined for a trace. It runs the trace on one thread, by collections that know no
-//! crew, and compares text by text.
+//! The checker of reports: whether a report is the one that is defined for a trace. It runs the trace on one thread, by
+//! collections that know no crew, and compares text by text, so that neither is held whole.
 #![tactic(auto)]
 
 mod checking;
+mod compared;
 mod comparing;
+mod comparison;
 mod due;
 mod laws;
 mod line;
 mod outcome;
+mod pending;
 mod top_call;
 mod words;
 

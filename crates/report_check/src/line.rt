@@ -1,23 +1,24 @@
 //! What one step of the run makes due, compared.
 ghost use Rattle.std.specs.Prelude.{◌≡◌, ◌<◌, ◌≤◌, ◌+◌, ◌++◌, ℕ, List, Option, Err, IfOk};
-ghost use Rattle.heap_base.specs.Causes.{Rose};
+ghost use Rattle.streams.specs.Causes.{Rose};
 ghost use Rattle.heap_base.specs.declared.limits.TheConstants.{LONGEST_TRACE};
 ghost use Rattle.report.specs.Text.{fault_text};
 ghost use Rattle.trace_reader.specs.Meaning.{item_of_line};
 ghost use Rattle.trace_run.specs.Program.{takes_item};
-ghost use Rattle.audit_program.specs.Audits.{audit_meaning, end_of};
-ghost use Rattle.text_comparison.specs.Comparing.{IsEqualSoFar, TellsDifference, comparison_of};
+ghost use Rattle.trace_run.specs.Audits.{audit_meaning, end_of};
+ghost use Rattle.report_check.specs.Comparing.{IsEqualSoFar, TellsDifference, comparison_of};
 ghost use Rattle.report_check.specs.declared.outcome.CheckError.TheVariants.{ReadFault};
 ghost use Rattle.report_check.specs.Flows.{ComparesLine, ComparesText, checked_line};
 ghost use Rattle.report_check.specs.States.{checked_state};
 
 use crate::checking::Checking;
+use crate::compared::Compared;
+use crate::comparison::Comparison;
 use crate::due::Due;
 use crate::outcome::CheckError;
 use graph_meaning::Refusal;
-use heap_base::Source;
 use report::fault_text;
-use text_comparison::{Compared, Comparison};
+use streams::Source;
 use trace_reader::LineCutter;
 
 /// Whether a check goes on behind a line, or how the reports compare.

@@ -1,9 +1,9 @@
 ghost use Rattle.std.specs.Prelude.{◌≡◌};
 ghost use Rattle.report_check.specs.declared.outcome.CheckError.{CheckError};
-ghost use Rattle.text_comparison.specs.declared.outcome.CompareError.{CompareError};
+ghost use Rattle.report_check.specs.declared.compared.CompareError.{CompareError};
 
+use crate::compared::CompareError;
 use heap_base::OutOfMemory;
-use text_comparison::CompareError;
 
 /// Why a report could not be checked.
 #[derive(Clone, Copy)]

@@ -1,17 +1,18 @@
 ghost use Rattle.std.specs.Prelude.{◌≡◌, ℕ, None, Some, map, IfOk};
-ghost use Rattle.heap_base.specs.Streams.{stream_of};
+ghost use Rattle.streams.specs.Streams.{stream_of};
 ghost use Rattle.trace_run.specs.Outcome.{RefusesWords, outside_of};
 ghost use Rattle.report_check.specs.Checked.{IsChecked, usage_line, world_of};
 ghost use Rattle.report_check.specs.Reports.{Writes, comparison_line, comparison_status};
 ghost use Rattle.report_check.specs.Words.{paths_by};
 
+use crate::compared::Compared;
 use crate::comparing::compare_reports;
 use crate::outcome::CheckError;
 use crate::words::paths_of;
-use heap_base::{OutOfMemory, Sink, Source, Status};
+use heap_base::{OutOfMemory, Status};
 use itoa::Buffer;
 use std::alloc::Global;
-use text_comparison::Compared;
+use streams::{Sink, Source};
 use trace_run::{refuse_words, write_once};
 
 const USAGE: &[u8] = b"usage: gccheck TRACE REPORT [P]\n";

@@ -1,0 +1,3 @@
+pub mod OwnedRuns
+pub mod Tallies
+pub mod Went

@@ -1,2 +1,3 @@
 pub mod Outcome
+pub mod Scans
 pub mod Words

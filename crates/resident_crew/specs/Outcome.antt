@@ -3,10 +3,10 @@ use Rattle.std.specs.Prelude.{ℕ, List, codes}
 use Rattle.heap_base.specs.declared.limits.TheConstants.{LONGEST_TRACE, USUAL_PATHS}
 use Rattle.heap_base.specs.declared.status.Status.{Status}
 use Rattle.graph_meaning.specs.declared.reaction.React.TheVariants.{Report}
-use Rattle.run_meaning.specs.Run.{RunRules}
+use Rattle.report.specs.Run.{RunRules}
 use Rattle.trace_run.specs.Outcome as outcome
 use Rattle.trace_run.specs.Outcome.{Outside, trace_report}
-use Rattle.audit_program.specs.Audits.{audit_report, rules_by}
+use Rattle.trace_run.specs.Audits.{audit_report, rules_by}
 
 -- what every run goes by: violations are reported, and the usual number of paths is shown
 abbrev pub rules : RunRules

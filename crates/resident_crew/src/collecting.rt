@@ -1,14 +1,16 @@
 //! A collection by workers that stay.
 ghost use Rattle.std.specs.Prelude.{◌<◌};
 ghost use Rattle.heap_base.specs.declared.limits.TheConstants.{LONGEST_TRACE};
-ghost use Rattle.trace_audit.specs.Auditors.{IsCollected};
+ghost use Rattle.audit_run.specs.Auditors.{IsCollected};
 
+use crate::marking::trace_resident;
+use crate::phases::TraceCrew;
 use audit_core::Auditor;
 use graph_meaning::Collection;
-use heap_base::{Gate, OutOfMemory};
-use resident_trace::{TraceCrew, trace_resident};
+use heap_base::OutOfMemory;
 use std::alloc::Global;
 use std::sync::Wait;
+use steal_pool::Gate;
 
 /// Makes the auditor's next collection, whose heap the crew traces. When out of memory the auditor is as it was, and the crew can trace
 /// again.

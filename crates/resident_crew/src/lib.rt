@@ -1,10 +1,18 @@
-//! The audit of a trace by workers that stay parked between collections: from the bytes of a trace to the bytes of its report.
+//! The audit of a trace by workers that stay parked between collections: from the bytes of a trace to the bytes of its
+//! report. The workers outlive the table whose objects they mark, so they share a copy.
 #![tactic(auto)]
 
 mod collecting;
+mod job;
+mod marking;
+mod phases;
+mod scan;
 mod top_call;
 mod words;
 
-pub use resident_rounds::Residents;
-pub use resident_trace::{ResidentJob, ResidentScan, trace_resident};
+pub use job::ResidentJob;
+pub use marking::trace_resident;
+pub use parked_crew::Residents;
+pub use phases::TraceCrew;
+pub use scan::ResidentScan;
 pub use top_call::audit_resident;

@@ -1,21 +1,23 @@
 ghost use Rattle.std.specs.Prelude.{◌≡◌, ◌<◌, ℕ, None, Some, map};
 ghost use Rattle.heap_base.specs.declared.limits.TheConstants.{LONGEST_TRACE};
-ghost use Rattle.heap_base.specs.Streams.{stream_of};
+ghost use Rattle.streams.specs.Streams.{stream_of};
 ghost use Rattle.trace_run.specs.Outcome.{outside_of};
-ghost use Rattle.trace_audit.specs.Auditors.{IsCollected};
+ghost use Rattle.audit_run.specs.Auditors.{IsCollected};
 ghost use Rattle.resident_crew.specs.Outcome.{EndsAs, RefusesWords};
 ghost use Rattle.resident_crew.specs.Words.{workers_by};
 
 use crate::collecting::collect_resident;
 use crate::words::workers_by;
 use audit_core::Auditor;
+use audit_run::{Audit, Plan, audit_trace};
 use graph_meaning::{Collection, React};
-use heap_base::{Gate, OutOfMemory, Sink, Source, Status, USUAL_PATHS};
-use resident_rounds::Residents;
+use heap_base::{OutOfMemory, Status, USUAL_PATHS};
+use parked_crew::Residents;
 use std::alloc::Global;
 use std::sync::{Arc, Wait};
 use std::thread::Threads;
-use trace_audit::{Audit, Plan, audit_trace};
+use steal_pool::Gate;
+use streams::{Sink, Source};
 use trace_reader::LineReader;
 use trace_run::refuse_words;
 

@@ -6,7 +6,7 @@ use Rattle.std.specs.List.{filter_map, cons_option}
 use Rattle.std.proofs.lemmas.List.{length-map, length-replicate, map-append}
 use Rattle.std.proofs.lemmas.List.Elements.{filter-append}
 use Rattle.heap_base.specs.declared.limits.TheConstants.{MOST_ROOTS}
-use Rattle.heap_base.specs.declared.task.Task.{Task}
+use Rattle.steal_pool.specs.declared.task.Task.{Task}
 use Rattle.graph_meaning.proofs.Membership.{length-filter_le}
 use Rattle.object_table.specs.Placed.{id_in, cell_of}
 use Rattle.header_rule.specs.Passes.{adds, wins}

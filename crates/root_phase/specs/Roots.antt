@@ -1,7 +1,7 @@
 -- How the first job meets what the roots name.
 use Rattle.std.specs.Prelude.{◌≡◌, ℕ, ◌≤◌, List, length, Bool, not, ◌&&◌, take}
 use Rattle.std.specs.List.{filter_map}
-use Rattle.heap_base.specs.declared.task.Task.{Task}
+use Rattle.steal_pool.specs.declared.task.Task.{Task}
 use Rattle.object_table.specs.Placed.{PlacedTable, cell_of}
 use Rattle.scan_job.specs.Shared.{SharedHeap}
 use Rattle.scan_job.specs.Jobs.{graph_in}

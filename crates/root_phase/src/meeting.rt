@@ -8,9 +8,8 @@ ghost use Rattle.scan_job.specs.Shared.{shared_behind};
 ghost use Rattle.scan_job.specs.States.{IsWithinWins, turns_of};
 ghost use Rattle.root_phase.specs.Roots.{MeetsRoot, MeetsRoots};
 
-use heap_base::Task;
 use scan_job::{ScanJob, ScanShared};
-use steal_pool::FirstTasks;
+use steal_pool::{FirstTasks, Task};
 
 // Meets a cell that a root names, and says whether the scan goes on from it.
 fn meet_one(shared: &ScanShared<'_>, job: &mut ScanJob, cell: u32) -> bool

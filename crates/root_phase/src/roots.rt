@@ -6,10 +6,9 @@ ghost use Rattle.scan_job.specs.Shared.{shared_behind};
 ghost use Rattle.steal_pool.specs.Runs.{workers_of, room_of};
 
 use crate::meeting::meet_roots;
-use heap_base::Gate;
 use scan_job::{Mode, ScanContext, ScanJob, ScanShared, begin_phase, run_scans};
 use std::thread::Threads;
-use steal_pool::{Crew, FirstTasks};
+use steal_pool::{Crew, FirstTasks, Gate};
 
 /// Begins the root phase, whoever runs the jobs: the first job meets every root once, in order, and each of its wins that
 /// is no owner is a first task. Such a win number k, from 0, goes first to worker k modulo the number of workers. What the

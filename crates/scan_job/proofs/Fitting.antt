@@ -3,7 +3,7 @@ use Rattle.std.proofs.Common.{◌≡◌, ℕ, zero, suc, ◌<◌, Bool, true, fa
 use Rattle.std.proofs.Common.{filter, map, sym, refl, ap, ◌∙◌, subst, arith, ◌↔◌, eqb-true, eq-eqb, eqb}
 use Rattle.std.specs.List.{flat_map, AllByRecursion, Contains}
 use Rattle.std.proofs.lemmas.Bool.{false≢true, or_cases, or_left, or_right, cases_Bool}
-use Rattle.heap_base.specs.declared.task.Task.{Task}
+use Rattle.steal_pool.specs.declared.task.Task.{Task}
 use Rattle.heap_base.specs.Counting.{bit, times}
 use Rattle.graph_meaning.specs.Reach.{has_id, reached_nodes}
 use Rattle.graph_meaning.proofs.Membership.{has_id-head}

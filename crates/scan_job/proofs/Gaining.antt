@@ -2,7 +2,7 @@
 use Rattle.std.proofs.Common.{◌≡◌, ℕ, ◌<◌, true, not, ◌&&◌, inl, List, [], ◌∷◌, ◌++◌, length, filter, get_or, set, map, sym, refl, ap, ◌∙◌, subst, arith, eqb}
 use Rattle.std.specs.List.{AllByRecursion, Contains}
 use Rattle.std.proofs.lemmas.Bool.{or_right, and_parts}
-use Rattle.heap_base.specs.declared.task.Task.{Task}
+use Rattle.steal_pool.specs.declared.task.Task.{Task}
 use Rattle.heap_base.specs.Counting.{bit, total, AsOften}
 use Rattle.heap_base.proofs.Counting.{total-map}
 use Rattle.graph_meaning.specs.Reach.{has_id}

@@ -1,7 +1,7 @@
 -- A run without a task.
 use Rattle.std.proofs.Common.{◌≡◌, ℕ, zero, suc, List, [], ◌∷◌, ◌++◌, map, sym, refl, ap, ◌∙◌, arith}
 use Rattle.std.specs.List.{All}
-use Rattle.heap_base.specs.declared.task.Task.{Task}
+use Rattle.steal_pool.specs.declared.task.Task.{Task}
 use Rattle.heap_base.specs.Counting.{total}
 use Rattle.steal_pool.specs.Jobs.{Meaning, AllFit, Does}
 use Rattle.steal_pool.specs.Lists.{Each}

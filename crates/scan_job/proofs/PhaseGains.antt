@@ -4,7 +4,7 @@ use Rattle.std.specs.List.{flat_map, AllByRecursion, Contains}
 use Rattle.std.proofs.lemmas.Bool.{cases_Bool, false≢true, or_cases, or_right, and_from, ne_eqb, cases_eq}
 use Rattle.std.proofs.lemmas.List.{map-append}
 use Rattle.std.proofs.lemmas.List.Elements.{filter-append}
-use Rattle.heap_base.specs.declared.task.Task.{Task}
+use Rattle.steal_pool.specs.declared.task.Task.{Task}
 use Rattle.heap_base.specs.Counting.{bit, is_positive, total, AsOften}
 use Rattle.heap_base.proofs.Counting.{is_positive-from, is_positive-true, is_positive-false, total-append, total-same, total-zero, total-le, total-map, total-flat_map}
 use Rattle.graph_meaning.specs.Reach.{has_id}

@@ -4,7 +4,7 @@ use Rattle.std.proofs.Common.{append_assoc, append-nil, length-append, length-ta
 use Rattle.std.specs.List.{cons_option}
 use Rattle.std.proofs.Math.Seq.{take-length}
 use Rattle.heap_base.specs.declared.limits.TheConstants.{MOST_SLOTS}
-use Rattle.heap_base.specs.declared.task.Task.{Task}
+use Rattle.steal_pool.specs.declared.task.Task.{Task}
 use Rattle.object_table.specs.Edges.{AreEdgesAt}
 use Rattle.object_table.specs.Placed.{slots_in}
 use Rattle.object_table.proofs.ObjectsByCell.{edge-within, edge-leads, edge-in_a_cell}

@@ -1,7 +1,7 @@
 -- Which tasks are fit for a scan.
 use Rattle.std.specs.Prelude.{◌≡◌, ℕ, List, ◌∷◌, filter, map, not, ◌⊎◌, IsTrue}
 use Rattle.std.specs.List.{flat_map}
-use Rattle.heap_base.specs.declared.task.Task.{Task}
+use Rattle.steal_pool.specs.declared.task.Task.{Task}
 use Rattle.graph_meaning.specs.Reach.{reached_nodes}
 use Rattle.scan_job.specs.declared.mode.Mode.{Mode}
 use Rattle.scan_job.specs.declared.mode.Mode.TheVariants.{Owner, TakeUp, Root}

@@ -1,7 +1,7 @@
 -- Laws of the graph of a table, and of the fit tasks.
 use Rattle.std.specs.Prelude.{ℕ, List, ◌∷◌, length, ◌↔◌, IsTrue}
 use Rattle.std.specs.List.{Contains}
-use Rattle.heap_base.specs.declared.task.Task.{Task}
+use Rattle.steal_pool.specs.declared.task.Task.{Task}
 use Rattle.graph_meaning.specs.Reach.{HasEdge, IsPath}
 use Rattle.graph_meaning.specs.Roles.{RoleTable, AreRolesOf}
 use Rattle.object_table.specs.Placed.{PlacedTable}

@@ -1,10 +1,10 @@
-pub mod Graphs
 pub mod Cells
-pub mod States
-pub mod Scans
 pub mod Fit
-pub mod Shared
-pub mod Jobs
 pub mod Gains
-pub mod Phases
+pub mod Graphs
+pub mod Jobs
 pub mod Laws
+pub mod Phases
+pub mod Scans
+pub mod Shared
+pub mod States

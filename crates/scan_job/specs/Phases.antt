@@ -1,7 +1,7 @@
 -- The three phases of a trace: what each asks, and what its jobs gain together.
 use Rattle.std.specs.Prelude.{◌≡◌, ℕ, ◌+◌, ◌*◌, ◌^◌, ◌%◌, ◌<◌, ◌≤◌, List, [], ◌∷◌, ◌++◌, length, filter, map, replicate, slice_index_or, slice_set, false, not, ◌&&◌, IsTrue}
 use Rattle.std.specs.List.{All, flat_map}
-use Rattle.heap_base.specs.declared.task.Task.{Task}
+use Rattle.steal_pool.specs.declared.task.Task.{Task}
 use Rattle.heap_base.specs.declared.limits.TheConstants.{MOST_WORKERS}
 use Rattle.heap_base.specs.Counting.{AsOften}
 use Rattle.graph_meaning.specs.Reach.{has_id}

@@ -1,7 +1,7 @@
 -- What a scan does to a job, by the job's mode.
 use Rattle.std.specs.Prelude.{◌≡◌, ℕ, ◌+◌, ◌≤◌, ◌==◌, List, [], ◌∷◌, ◌++◌, length, filter, map, Bool, false, if◌then◌else◌, not, ◌&&◌, slice_index}
 use Rattle.std.specs.List.{flat_map}
-use Rattle.heap_base.specs.declared.task.Task.{Task}
+use Rattle.steal_pool.specs.declared.task.Task.{Task}
 use Rattle.heap_base.specs.Counting.{bit, total}
 use Rattle.header_rule.specs.declared.mark.Mark.{Mark}
 use Rattle.header_rule.specs.declared.mark.Mark.TheVariants.{Found, Disputed, MetByRoots}

@@ -1,5 +1,5 @@
 //! A scan: a job that meets what the slots of an object lead to, and counts, holds or puts what it wins, in three
-//! modes, one for each phase of a trace.
+//! modes, one for each phase of marking.
 #![tactic(auto)]
 
 mod job;

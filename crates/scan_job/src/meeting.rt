@@ -14,8 +14,7 @@ use crate::mode::Mode;
 use crate::shared::ScanShared;
 use graph_meaning::OwnerRole;
 use header_rule::Marks;
-use heap_base::Task;
-use steal_pool::Outbox;
+use steal_pool::{Outbox, Task};
 
 // Whether the role is that of an ownee whose owner is in this cell.
 fn is_owned_by(cell: u32, role: OwnerRole) -> bool

@@ -9,9 +9,8 @@ ghost use Rattle.steal_pool.specs.Runs.{workers_of, room_of};
 use crate::job::ScanJob;
 use crate::mode::Mode;
 use crate::shared::ScanShared;
-use heap_base::Gate;
 use std::thread::Threads;
-use steal_pool::{Crew, FirstTasks};
+use steal_pool::{Crew, FirstTasks, Gate};
 
 /// What all workers of a phase see.
 #[derive(Clone, Copy)]

@@ -7,9 +7,9 @@ ghost use Rattle.scan_job.specs.States.{IsSameJob, wins_left, turns_of};
 
 use crate::job::ScanJob;
 use crate::shared::ScanShared;
-use heap_base::{MOST_SLOTS, Task};
+use heap_base::MOST_SLOTS;
 use object_table::Edges;
-use steal_pool::{Job, Outbox};
+use steal_pool::{Job, Outbox, Task};
 
 /// The words of so many cells are near at hand in any case: 64 KiB, which a processor's cache holds.
 const NEAR_CELLS: u32 = 8_192;

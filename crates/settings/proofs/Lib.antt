@@ -1,4 +1,4 @@
 pub mod Digits
-pub mod Words
 pub mod Ranges
 pub mod Taken
+pub mod Words

@@ -1,7 +1,7 @@
 -- What a task that was found tells of the sources.
 use Rattle.std.proofs.Common.{◌≡◌, List, [], ◌∷◌, sym, refl, ap, ◌∙◌, subst, ⊎_elim, arith}
 use Rattle.std.specs.List.{Contains}
-use Rattle.heap_base.specs.declared.task.Task.{Task}
+use Rattle.steal_pool.specs.declared.task.Task.{Task}
 use Rattle.heap_base.specs.Counting.{total}
 use Rattle.heap_base.proofs.Counting.{total-append}
 use Rattle.crossbeam_deque.specs.Handles.{view, worker_deque}

@@ -1,10 +1,10 @@
-pub mod ListLemmas
 pub mod Elements
-pub mod RuleSteps
-pub mod VictimLists
 pub mod FoundTasks
-pub mod TurnLemmas
-pub mod PlaceTurns
+pub mod ListLemmas
 pub mod LoanLemmas
+pub mod PlaceTurns
 pub mod ReturnLemmas
+pub mod RuleSteps
+pub mod TurnLemmas
+pub mod VictimLists
 pub mod WholeRun

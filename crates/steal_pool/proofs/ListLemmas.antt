@@ -1,6 +1,6 @@
 -- Lists that go together.
 use Rattle.std.proofs.Common.{◌≡◌, ℕ, ◌<◌, List, [], ◌∷◌, ◌++◌, length, map, take, sym, refl, ap, ◌∙◌, subst, arith, append_assoc}
-use Rattle.heap_base.specs.declared.task.Task.{Task}
+use Rattle.steal_pool.specs.declared.task.Task.{Task}
 use Rattle.steal_pool.specs.Jobs.{JobAfter, Does}
 use Rattle.steal_pool.specs.Lists.{Each}
 

@@ -1,6 +1,6 @@
 -- The turns of the worker of a place.
 use Rattle.std.proofs.Common.{◌≡◌, ◌+◌, ◌-◌, ◌<◌, ◌≤◌, List, [], sym, refl, ap, ◌∙◌, subst, arith, append-nil, Option, Some, None, vec_capacity}
-use Rattle.heap_base.specs.declared.task.Task.{Task}
+use Rattle.steal_pool.specs.declared.task.Task.{Task}
 use Rattle.crossbeam_deque.specs.Handles.{worker_deque}
 use Rattle.steal_pool.specs.declared.lane.Lane.{Lane}
 use Rattle.steal_pool.specs.declared.place.Place.{Place}

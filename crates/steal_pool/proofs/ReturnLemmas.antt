@@ -2,7 +2,7 @@
 use Rattle.std.proofs.Common.{◌≡◌, ℕ, ◌+◌, ◌<◌, ◌≤◌, true, List, [], ◌∷◌, ◌++◌, length, map, get_or, sym, refl, ap, ◌∙◌, subst, arith, append-nil, vec_len, vec_capacity}
 use Rattle.std.proofs.lemmas.List.{same_from_push, append_cancel_right, map-append}
 use Rattle.std.specs.List.{AllByRecursion}
-use Rattle.heap_base.specs.declared.task.Task.{Task}
+use Rattle.steal_pool.specs.declared.task.Task.{Task}
 use Rattle.crossbeam_deque.specs.Handles.{view, worker_deque, stealer_deque}
 use Rattle.crossbeam_utils.specs.Padded.{padded_value}
 use Rattle.crossbeam_utils.specs.declared.cache_padded.CachePadded.{CachePadded}

@@ -3,7 +3,7 @@ use Rattle.std.proofs.Common.{◌≡◌, ◌≢◌, ℕ, zero, suc, ◌+◌, ◌
 use Rattle.std.specs.List.{Contains, AllByRecursion}
 use mathlib.Core.Option.{some, some-injective, some-ne-none}
 use lib.ListN.{get_elem?}
-use Rattle.heap_base.specs.declared.task.Task.{Task}
+use Rattle.steal_pool.specs.declared.task.Task.{Task}
 use Rattle.crossbeam_deque.specs.Tasks as Tasks
 use Rattle.atomic_table.proofs.Lists.{at_set, at_snoc, set_else}
 use Rattle.steal_pool.specs.declared.hand.Hand.{Hand}

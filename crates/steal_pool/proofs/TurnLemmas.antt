@@ -1,7 +1,7 @@
 -- What a turn leaves, and one turn after another.
 use Rattle.std.proofs.Common.{◌≡◌, ℕ, ◌+◌, ◌-◌, ◌<◌, ◌≤◌, List, [], ◌∷◌, ◌++◌, length, sym, refl, ap, ◌∙◌, subst, arith, append-nil, length-append}
 use Rattle.std.specs.List.{Contains, AllByRecursion}
-use Rattle.heap_base.specs.declared.task.Task.{Task}
+use Rattle.steal_pool.specs.declared.task.Task.{Task}
 use Rattle.heap_base.specs.Counting.{total}
 use Rattle.heap_base.proofs.Counting.{total-append, total-ones}
 use Rattle.crossbeam_deque.specs.Handles.{view, worker_deque}

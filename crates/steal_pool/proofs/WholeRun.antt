@@ -4,7 +4,7 @@ use Rattle.std.proofs.Common.{length, map, drop, get_or, sym, refl, ap, subst, a
 use Rattle.std.specs.List.{All, AllByRecursion, Contains}
 use Rattle.std.specs.Global.{Vec}
 use Rattle.std.specs.declared.alloc.Global.{Global}
-use Rattle.heap_base.specs.declared.task.Task.{Task}
+use Rattle.steal_pool.specs.declared.task.Task.{Task}
 use Rattle.heap_base.specs.Counting.{total}
 use Rattle.heap_base.proofs.Counting.{total-append, total-flat_map, total-ones, total-same}
 use Rattle.crossbeam_deque.specs.Handles.{view, worker_deque}

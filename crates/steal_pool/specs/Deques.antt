@@ -1,7 +1,7 @@
 -- What stays of a deque.
 use Rattle.std.specs.Prelude.{◌≡◌}
 use Rattle.std.specs.declared.alloc.Global.{Global}
-use Rattle.heap_base.specs.declared.task.Task.{Task}
+use Rattle.steal_pool.specs.declared.task.Task.{Task}
 use Rattle.crossbeam_deque.specs.Handles.{worker_deque, worker_flavor}
 use Rattle.crossbeam_deque.specs.declared.handles.Worker.{Worker}
 use Rattle.steal_pool.specs.declared.hand.DequeRule.{DequeRule}

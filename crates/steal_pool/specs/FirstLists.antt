@@ -1,6 +1,6 @@
 -- What contracts see of first tasks.
 use Rattle.std.specs.Prelude.{ℕ, List}
-use Rattle.heap_base.specs.declared.task.Task.{Task}
+use Rattle.steal_pool.specs.declared.task.Task.{Task}
 
 -- a list for each worker, by its number, and how many tasks each has room for
 pub record FirstLists : Type 0 where

@@ -1,7 +1,7 @@
 -- What a job means, and what it did with a list of tasks.
 use Rattle.std.specs.Prelude.{◌≡◌, ℕ, ◌+◌, ◌≤◌, List, [], ◌∷◌, ◌++◌, length}
 use Rattle.std.specs.List.{Contains, AllByRecursion}
-use Rattle.heap_base.specs.declared.task.Task.{Task}
+use Rattle.steal_pool.specs.declared.task.Task.{Task}
 
 -- A job after it did one task or more, and the tasks that it put meanwhile, in order.
 pub record JobAfter (J : Type 0) : Type 0 where

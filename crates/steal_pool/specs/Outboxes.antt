@@ -1,6 +1,6 @@
 -- What contracts see of an outbox.
 use Rattle.std.specs.Prelude.{ℕ, List, []}
-use Rattle.heap_base.specs.declared.task.Task.{Task}
+use Rattle.steal_pool.specs.declared.task.Task.{Task}
 
 -- the tasks that it holds, in order, and how many it has room for in all
 pub record HeldTasks : Type 0 where

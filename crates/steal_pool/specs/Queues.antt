@@ -1,6 +1,6 @@
 -- What contracts see of a worker's queue.
 use Rattle.std.specs.Prelude.{ℕ, List, []}
-use Rattle.heap_base.specs.declared.task.Task.{Task}
+use Rattle.steal_pool.specs.declared.task.Task.{Task}
 
 -- the tasks that wait, in order, how many more may come, and how many may come in all between two times that it is
 -- cleared

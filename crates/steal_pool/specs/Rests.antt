@@ -1,7 +1,7 @@
 -- A place between two runs.
 use Rattle.std.specs.Prelude.{◌≡◌, ℕ, ◌+◌, ◌≤◌, false, is_some, length, vec_len, vec_capacity}
 use Rattle.std.specs.List.{All}
-use Rattle.heap_base.specs.declared.task.Task.{Task}
+use Rattle.steal_pool.specs.declared.task.Task.{Task}
 use Rattle.crossbeam_deque.specs.Handles.{worker_deque}
 use Rattle.steal_pool.specs.declared.place.Place.{Place}
 use Rattle.heap_base.specs.Counting.{total}

@@ -1,7 +1,7 @@
 -- What a run asks of the jobs and the first tasks, and what it leaves.
 use Rattle.std.specs.Prelude.{◌≡◌, ℕ, ◌+◌, ◌<◌, ◌≤◌, List, [], ◌∷◌, ◌++◌, length, vec_len}
 use Rattle.std.specs.List.{All, flat_map}
-use Rattle.heap_base.specs.declared.task.Task.{Task}
+use Rattle.steal_pool.specs.declared.task.Task.{Task}
 use Rattle.heap_base.specs.Counting.{total, AsOften}
 use Rattle.crossbeam_utils.specs.Padded.{padded_value}
 use Rattle.steal_pool.specs.declared.crew.Crew.{Crew}

@@ -1,6 +1,6 @@
 -- What each step on a deque does to the hand that makes it.
 use Rattle.std.specs.Prelude.{◌≡◌, ℕ, ◌+◌, ◌-◌, ◌≤◌, true, false, cond, List, [], ◌++◌}
-use Rattle.heap_base.specs.declared.task.Task.{Task}
+use Rattle.steal_pool.specs.declared.task.Task.{Task}
 use Rattle.heap_base.specs.Counting.{total}
 use Rattle.steal_pool.specs.declared.hand.Hand.{Hand}
 use Rattle.steal_pool.specs.Hands.{one}

@@ -1,6 +1,6 @@
 -- What a worker needs to go on, and what its turns do.
 use Rattle.std.specs.Prelude.{◌≡◌, ℕ, ◌+◌, ◌-◌, ◌≤◌, List, [], length, Option, Some, None, vec_capacity}
-use Rattle.heap_base.specs.declared.task.Task.{Task}
+use Rattle.steal_pool.specs.declared.task.Task.{Task}
 use Rattle.heap_base.specs.Counting.{total}
 use Rattle.crossbeam_deque.specs.Handles.{worker_deque}
 use Rattle.steal_pool.specs.declared.place.Place.{Place}

@@ -1,3 +1,5 @@
+use crate::cost::ThreadCost;
+
 /// What all workers of a run see.
 #[derive(Clone, Copy)]
 pub struct Context<'a, R, S, G> {
@@ -6,4 +8,5 @@ pub struct Context<'a, R, S, G> {
     pub gate: &'a G,
     /// How many tasks each worker has room for.
     pub room: u64,
+    pub cost: ThreadCost,
 }

@@ -9,8 +9,9 @@ ghost use Rattle.steal_pool.specs.Deques.{IsSameDeque};
 
 use crate::hand::{DequeRule, Hand};
 use crate::outcomes::{LendOne, Put, Settle, Take, Together};
+use crate::task::Task;
 use crossbeam_deque::{Pass, Steal, Stealer, Worker};
-use heap_base::{OutOfMemory, Task};
+use heap_base::OutOfMemory;
 use std::alloc::Global;
 
 /// The worker's end of its own deque.

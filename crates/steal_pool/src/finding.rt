@@ -5,8 +5,8 @@ ghost use Rattle.steal_pool.specs.Searches.{sources, FindsTask, FindsNone};
 use crate::lane::Lane;
 use crate::queue::Queue;
 use crate::stealing::try_others;
+use crate::task::Task;
 use crate::victim::Victim;
-use heap_base::Task;
 
 /// A task that waits, or else one of the own deque, or else of another, beginning with the one at `from`.
 #[inline(always)]

@@ -1,6 +1,7 @@
 ghost use Rattle.std.specs.Prelude.{◌≡◌, ◌<◌, [], ◌∷◌, ◌++◌, length, replicate, slice_index_or, slice_set, IfOk};
 
-use heap_base::{OutOfMemory, Task};
+use crate::task::Task;
+use heap_base::OutOfMemory;
 use std::alloc::Global;
 use std::marker::Model;
 

@@ -1,6 +1,6 @@
 //! What a hand on a deque knows, and the rule that all hands on it keep. No value of a hand is ever made.
+use crate::task::Task;
 use crossbeam_deque::protocol::Protocol;
-use heap_base::Task;
 use std::collections::LinkedList;
 
 /// One worker's share in a deque.

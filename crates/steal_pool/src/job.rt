@@ -1,10 +1,10 @@
 ghost use Rattle.std.specs.Prelude.{◌≡◌, ◌+◌, ◌<◌, ◌≤◌, length};
 ghost use Rattle.std.specs.List.{Contains};
-ghost use Rattle.heap_base.specs.declared.task.Task.{Task};
+ghost use Rattle.steal_pool.specs.declared.task.Task.{Task};
 ghost use Rattle.steal_pool.specs.Jobs.{Meaning, Puts};
 
 use crate::outbox::Outbox;
-use heap_base::Task;
+use crate::task::Task;
 
 /// What one worker does with its tasks. All jobs of a run see one shared value.
 pub trait Job<S: Sync> {

@@ -9,7 +9,7 @@ ghost use Rattle.steal_pool.specs.Lanes.{own_hand, HasTakenFew};
 
 use crate::deque::{HandPass, join, len, push, split, take};
 use crate::lane::Lane;
-use heap_base::Task;
+use crate::task::Task;
 
 impl Lane {
     /// Puts the task last. It answers whether it did.

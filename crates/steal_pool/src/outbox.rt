@@ -1,7 +1,8 @@
 ghost use Rattle.std.specs.Prelude.{◌≡◌, ◌+◌, ◌<◌, [], ◌∷◌, ◌++◌, length, IfOk};
 ghost use Rattle.steal_pool.specs.Outboxes.{HeldTasks, empty_outbox};
 
-use heap_base::{OutOfMemory, Task};
+use crate::task::Task;
+use heap_base::OutOfMemory;
 use std::alloc::Global;
 use std::marker::Model;
 

@@ -1,12 +1,12 @@
 //! What each step on a deque does to the hand that makes it.
 ghost use Rattle.std.specs.Prelude.{ℕ, List};
-ghost use Rattle.heap_base.specs.declared.task.Task.{Task};
+ghost use Rattle.steal_pool.specs.declared.task.Task.{Task};
 ghost use Rattle.steal_pool.specs.Hands.{spent_hand};
 ghost use Rattle.steal_pool.specs.Steps.{Puts, Takes, IsEmptied, HasSettled, renewed_hand, one_less, lent_hand, joined_hand};
 
 use crate::hand::Hand;
+use crate::task::Task;
 use crossbeam_deque::protocol::{Join, Lesson, Outcome, Split};
-use heap_base::Task;
 use std::marker::{Brand, PhantomData};
 
 /// The terms of a run, which each call picks.

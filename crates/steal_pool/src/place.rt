@@ -1,9 +1,9 @@
 //! A worker's place in the crew.
 use crate::deque::Thief;
+use crate::gate::Gate;
 use crate::lane::Lane;
 use crate::queue::Queue;
 use crate::victim::Victim;
-use heap_base::Gate;
 
 /// Who works, and how many tasks it began in this run.
 #[derive(Drop)]

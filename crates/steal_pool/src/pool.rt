@@ -9,9 +9,11 @@ ghost use Rattle.steal_pool.specs.Rests.{IsAtRest};
 ghost use Rattle.steal_pool.specs.Runs.{workers_of, room_of, fit_tasks, most_tasks, AreReady, ShareFit, HaveRoom, HaveTurns, TurnsLast, Run, HasNoTasks};
 
 use crate::context::Context;
+use crate::cost::ThreadCost;
 use crate::crew::Crew;
 use crate::deque;
 use crate::first_tasks::FirstTasks;
+use crate::gate::Gate;
 use crate::job::Job;
 use crate::lane::Lane;
 use crate::lending::lend_all;
@@ -21,32 +23,36 @@ use crate::returning::take_back_all;
 use crate::running::{finish_all, run_all, threads_for};
 use crate::seating::{begin_all, seat_jobs, unseat_jobs};
 use crossbeam_utils::CachePadded;
-use heap_base::{Gate, OutOfMemory};
+use heap_base::OutOfMemory;
 use std::alloc::Global;
 use std::thread::Threads;
 
 /// How many tasks a worker offers the others in one run, at most.
 const MOST_OFFERS: u64 = 65_536;
 
-// How many tasks a worker with room for so many offers in one run: one for each 32 of them, since every slot of its deque is written when
-// it is made, and one stolen task mostly leads on to many; and none where one thread does the whole run.
-fn offers_for(workers: u32, room: u64) -> u64
+// How many tasks a worker with room for so many offers in one run: none where one thread does the whole run.
+fn offers_for(workers: u32, room: u64, cost: ThreadCost) -> u64
     requires { 0 < workers }
 {
-    if threads_for(workers as usize, room) == 1 {
+    if threads_for(workers as usize, room, cost) == 1 {
         0
     } else {
-        (room / 32).min(MOST_OFFERS)
+        (room / cost.offer.max(1)).min(MOST_OFFERS)
     }
 }
 
 // A place with room for so many tasks, and a thief's end of its deque for each of the other workers.
-fn make_place<J: Drop>(alloc: Global, workers: u32, room: u64) -> Result<Place<J>, OutOfMemory>
+fn make_place<J: Drop>(
+    alloc: Global,
+    workers: u32,
+    room: u64,
+    cost: ThreadCost,
+) -> Result<Place<J>, OutOfMemory>
     requires some { 0 < workers }
     requires few { workers ≤ MOST_WORKERS }
     ensures { IfOk result (λ p. IsAtRest workers room p) }
 {
-    let slots = offers_for(workers, room);
+    let slots = offers_for(workers, room, cost);
     let owner = deque::make(alloc, slots as usize)?;
     let mut spare = Vec::with_capacity(alloc, workers as usize)?;
     for _ in 1..workers {
@@ -70,8 +76,24 @@ fn make_place<J: Drop>(alloc: Global, workers: u32, room: u64) -> Result<Place<J
 }
 
 impl<J: Send + Drop> Crew<J> {
-    /// A crew of `workers` workers, each with room for `room` tasks in a run.
+    /// A crew of `workers` workers, each with room for `room` tasks in a run, whose threads cost what they usually do.
     pub fn make(alloc: Global, workers: u32, room: u64) -> Result<Crew<J>, OutOfMemory>
+        requires some { 0 < workers }
+        requires few { workers ≤ MOST_WORKERS }
+        requires room { room ≤ 2 ^ 36 }
+        ensures workers { IfOk result (λ c. workers_of c ≡ workers) }
+        ensures room { IfOk result (λ c. room_of c ≡ room) }
+    {
+        Crew::with_cost(alloc, workers, room, ThreadCost::usual())
+    }
+
+    /// The same with threads of this cost.
+    pub fn with_cost(
+        alloc: Global,
+        workers: u32,
+        room: u64,
+        cost: ThreadCost,
+    ) -> Result<Crew<J>, OutOfMemory>
         requires some { 0 < workers }
         requires few { workers ≤ MOST_WORKERS }
         requires room { room ≤ 2 ^ 36 }
@@ -80,9 +102,9 @@ impl<J: Send + Drop> Crew<J> {
     {
         let mut places = Vec::with_capacity(alloc, workers as usize)?;
         for _ in 0..workers {
-            places.push_reserved(CachePadded::new(make_place(alloc, workers, room)?));
+            places.push_reserved(CachePadded::new(make_place(alloc, workers, room, cost)?));
         }
-        Ok(Crew { places, room })
+        Ok(Crew { places, room, cost })
     }
 
     /// How many workers it has.
@@ -131,6 +153,7 @@ impl<J: Send + Drop> Crew<J> {
             shared,
             gate,
             room: self.room,
+            cost: self.cost,
         };
         run_on(&context, self.places.as_mut_slice(), jobs, first);
     }
@@ -146,7 +169,7 @@ fn run_on<R: Threads + Sync, S: Sync, J: Job<S> + Send + Drop, G: Gate>(
     requires { CanRun J.meaning context.now.shared.now (record { places = places.old; room = context.now.room; load = record { jobs = jobs.old.items; first = first.now.lists } }) }
     ensures { HasRun J.meaning context.now.shared.now (record { places = places.old; room = context.now.room; load = record { jobs = jobs.old.items; first = first.now.lists } }) (jobs.new.items, places.new) }
 {
-    let threads = threads_for(places.len(), context.room);
+    let threads = threads_for(places.len(), context.room, context.cost);
     seat_jobs(jobs, places);
     begin_all(places, context.shared, first, 0);
     lend_all(places);

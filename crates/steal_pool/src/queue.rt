@@ -1,12 +1,13 @@
 ghost use Rattle.std.specs.List.{Contains};
 ghost use Rattle.std.specs.Prelude.{◌≡◌, ◌+◌, ◌<◌, ◌≤◌, [], ◌∷◌, ◌++◌, List, length, IfOk, MatchOption};
-ghost use Rattle.heap_base.specs.declared.task.Task.{Task};
+ghost use Rattle.steal_pool.specs.declared.task.Task.{Task};
 ghost use Rattle.steal_pool.specs.Jobs.{Puts};
 ghost use Rattle.steal_pool.specs.Queues.{empty_queue};
 
 use crate::job::Job;
 use crate::outbox::Outbox;
-use heap_base::{OutOfMemory, Task};
+use crate::task::Task;
+use heap_base::OutOfMemory;
 use std::alloc::Global;
 use std::marker::Model;
 

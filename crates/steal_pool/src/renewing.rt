@@ -2,7 +2,7 @@
 ghost use Rattle.std.specs.Prelude.{◌≡◌, ℕ, ◌+◌, true, length};
 ghost use Rattle.crossbeam_deque.specs.Handles.{worker_view, worker_deque};
 ghost use Rattle.heap_base.specs.Counting.{total};
-ghost use Rattle.heap_base.specs.declared.task.Task.{Task};
+ghost use Rattle.steal_pool.specs.declared.task.Task.{Task};
 ghost use Rattle.steal_pool.specs.Deques.{IsSameDeque};
 ghost use Rattle.steal_pool.specs.Lanes.{own_hand};
 ghost use Rattle.steal_pool.specs.Steps.{renewed_hand};
@@ -11,7 +11,7 @@ use crate::deque::Owner;
 use crate::job::Job;
 use crate::lane::Lane;
 use crate::outcomes::{Renew, Terms};
-use heap_base::Task;
+use crate::task::Task;
 use std::marker::Brand;
 
 // The arguments but the owner are there for the terms alone, which no code computes.

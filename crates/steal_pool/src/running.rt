@@ -9,32 +9,29 @@ ghost use Rattle.steal_pool.specs.Workers.{EndsWork};
 ghost use Rattle.steal_pool.specs.declared.working.TheConstants.{PATIENCE};
 
 use crate::context::Context;
+use crate::cost::ThreadCost;
+use crate::gate::Gate;
 use crate::job::Job;
 use crate::place::Place;
 use crate::working::{IdleLimit, PATIENCE};
 use crossbeam_utils::CachePadded;
-use heap_base::Gate;
 use std::sync::atomic::AtomicUsize;
 use std::thread;
 use std::thread::Threads;
 
-/// Two threads pay for a run that may have so many tasks at a worker.
-const TASKS_OF_TWO_THREADS: u64 = 1_000;
-
-/// Each further thread pays for so many more: to start one and to wait for it costs little beside them, also where other programs keep the
-/// processors busy.
-const TASKS_A_THREAD: u64 = 16_384;
-
 /// How many threads pay for a run that has at most `room` tasks at a worker, at most one for each worker. Workers that share a thread take
 /// their turns one after another.
-pub fn threads_for(workers: usize, room: u64) -> usize
+pub fn threads_for(workers: usize, room: u64, cost: ThreadCost) -> usize
     requires { 0 < workers }
     ensures { 0 < result }
 {
-    if room < TASKS_OF_TWO_THREADS {
+    if room < cost.second {
         1
+    } else if cost.further == 0 {
+        workers
     } else {
-        (2 + (room / TASKS_A_THREAD) as usize).clamp(1, workers)
+        let further = (room / cost.further).min(workers as u64) as usize;
+        further.saturating_add(2).clamp(1, workers)
     }
 }
 

@@ -2,7 +2,7 @@
 ghost use Rattle.std.specs.Prelude.{◌≡◌, ℕ, ◌+◌, ◌<◌, ◌≤◌, List, [], ◌∷◌, ◌++◌, length, drop, vec_len, vec_capacity};
 ghost use Rattle.std.specs.List.{AllByRecursion};
 ghost use Rattle.heap_base.specs.declared.limits.TheConstants.{MOST_WORKERS};
-ghost use Rattle.heap_base.specs.declared.task.Task.{Task};
+ghost use Rattle.steal_pool.specs.declared.task.Task.{Task};
 ghost use Rattle.crossbeam_utils.specs.Padded.{padded_value};
 ghost use Rattle.steal_pool.specs.Lists.{Each};
 ghost use Rattle.steal_pool.specs.Seats.{TakesJob, GivesJob, HasSomeJob, opening, CanBegin, Begins};
@@ -10,8 +10,8 @@ ghost use Rattle.steal_pool.specs.Seats.{TakesJob, GivesJob, HasSomeJob, opening
 use crate::first_tasks::FirstTasks;
 use crate::job::Job;
 use crate::place::Place;
+use crate::task::Task;
 use crossbeam_utils::CachePadded;
-use heap_base::Task;
 
 /// The last jobs go to these places, in order.
 pub fn seat_jobs<J: Drop>(jobs: &mut Vec<J>, places: &mut [CachePadded<Place<J>>])

@@ -1,13 +1,13 @@
 //! Steals from the others' deques.
 ghost use Rattle.std.specs.Prelude.{◌≡◌, ℕ, ◌+◌, ◌<◌, [], ◌∷◌, List, length, slice_index_or, MatchOption, IfSome};
-ghost use Rattle.heap_base.specs.declared.task.Task.{Task};
+ghost use Rattle.steal_pool.specs.declared.task.Task.{Task};
 ghost use Rattle.crossbeam_deque.specs.Handles.{view};
 ghost use Rattle.steal_pool.specs.Victims.{StealsFrom, IsUntouched, AreUntouched, total_took, StealsFromOne};
 
 use crate::deque::steal;
 use crate::hand::Hand;
+use crate::task::Task;
 use crate::victim::Victim;
-use heap_base::Task;
 
 impl Victim {
     /// Takes the first task of the deque, where one is there.

@@ -5,10 +5,10 @@ ghost use Rattle.steal_pool.specs.declared.working.TheConstants.{PATIENCE};
 ghost use Rattle.steal_pool.specs.Workers.{CanStart, EndsWork, HasNone, tasks_left};
 
 use crate::finding::find_task;
+use crate::gate::Gate;
 use crate::job::Job;
 use crate::offering::offer;
 use crate::place::Place;
-use heap_base::Gate;
 use std::sync::atomic::{AtomicBool, AtomicUsize, Ordering};
 use std::thread;
 

@@ -5,7 +5,7 @@ use Rattle.std.proofs.Math.Seq.{split_at}
 use Rattle.std.specs.Option.{MatchOption}
 use Rattle.std.proofs.KnownBytes.{Consumes-nil}
 use Rattle.std.proofs.lemmas.List.{append-nil}
-use Rattle.heap_base.specs.Streams.{Stream}
+use Rattle.streams.specs.Streams.{Stream}
 use Rattle.trace_reader.specs.declared.error.CutError.{CutError}
 use Rattle.trace_reader.specs.Cutter.{CutterState, CutterWithSource, Cuts, StepsOn, MayRead, GivesLine}
 use Rattle.trace_reader.specs.Cuts.{HasNoNewline, IsLine, IsFirstNewline}

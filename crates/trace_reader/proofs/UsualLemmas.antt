@@ -73,7 +73,8 @@ unfolding event_in operation alloc_in
 alloc_meant id kind slots i s k is_id is_kind is_slots = rw (is_id, is_kind, is_slots) refl
 
 pub thread_alloc_meant : (id kind slots thread : Data) (i s t : ℕ) (k : List ℕ) → id_value id ≡ Some i → name_value kind ≡ Some k → count_value slots ≡ Some s → thread_value thread ≡ Some t
-    → event_in (object (put (codes "thread") thread (put (codes "slots") slots (put (codes "type") kind (put (codes "id") id (put (codes "op") (string (codes "alloc")) no_members)))))) ≡ Ok (Alloc i k s t)
+    → event_in (object (put (codes "thread") thread
+    (put (codes "slots") slots (put (codes "type") kind (put (codes "id") id (put (codes "op") (string (codes "alloc")) no_members)))))) ≡ Ok (Alloc i k s t)
 unfolding event_in operation alloc_in
 thread_alloc_meant id kind slots thread i s t k is_id is_kind is_slots is_thread = rw (is_id, is_kind, is_slots, is_thread) refl
 

@@ -1,6 +1,6 @@
 -- Lines that were read before their turn.
 use Rattle.std.specs.Prelude.{◌≡◌, ℕ, ◌+◌, List, [], take, drop, Some, Ok}
-use Rattle.heap_base.specs.Streams.{Stream}
+use Rattle.streams.specs.Streams.{Stream}
 use Rattle.trace_reader.specs.declared.line_ahead.LineAhead.{LineAhead}
 use Rattle.trace_reader.specs.Cuts.{IsFirstNewline}
 use Rattle.trace_reader.specs.Cutter.{CutterState, StepsOn, TellsItem, with_source}

@@ -1,8 +1,8 @@
 -- What a cutter of lines has done so far, and what its next step is.
 use Rattle.std.specs.Prelude.{◌≡◌, ℕ, ◌+◌, ◌-◌, ◌<◌, ◌≤◌, ◌⊎◌, List, [], ◌∷◌, ◌++◌, length, Bool, false, IsTrue, Option, None, Some, MatchOption, Result, Ok, Err, ⊤}
 use Rattle.std.specs.Io.KnownBytes.{Consumes, IsAtEnd}
-use Rattle.heap_base.specs.Causes.{Rose}
-use Rattle.heap_base.specs.Streams.{Stream}
+use Rattle.streams.specs.Causes.{Rose}
+use Rattle.streams.specs.Streams.{Stream}
 use Rattle.heap_base.specs.declared.limits.TheConstants.{LONGEST_LINE}
 use Rattle.graph_meaning.specs.declared.event.Event.{Event}
 use Rattle.graph_meaning.specs.declared.refusal.Stop.{Stop}

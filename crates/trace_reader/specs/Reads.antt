@@ -1,9 +1,9 @@
 -- What a cutter does to its source while it reads on until the bytes that it holds have a cut.
 use Rattle.std.specs.Prelude.{◌≡◌, ℕ, ◌≤◌, ◌⊎◌, List, [], ◌++◌, length, take, drop, Bool, false, IsTrue, Result, MatchResult}
 use Rattle.std.specs.Io.KnownBytes.{Consumes, IsAtEnd}
-use Rattle.heap_base.specs.Causes.{Rose}
-use Rattle.heap_base.specs.Streams.{Stream}
-use Rattle.heap_base.specs.declared.errors.Failed.{Failed}
+use Rattle.streams.specs.Causes.{Rose}
+use Rattle.streams.specs.Streams.{Stream}
+use Rattle.streams.specs.declared.failed.Failed.{Failed}
 use Rattle.trace_reader.specs.declared.cut.Cut.{Cut}
 use Rattle.trace_reader.specs.Cuts.{HasNoNewline, IsCut, IsLineFront}
 

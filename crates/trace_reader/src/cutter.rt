@@ -1,18 +1,19 @@
 ghost use Rattle.std.specs.Prelude.{◌≡◌, ◌≤◌, ◌<◌, ◌+◌, ℕ, List, length, take, drop, IfOk, MatchOption, None, Some};
-ghost use Rattle.heap_base.specs.Streams.{stream_of};
+ghost use Rattle.streams.specs.Streams.{stream_of};
 ghost use Rattle.trace_reader.specs.Ahead.{GivesKnown};
 ghost use Rattle.trace_reader.specs.Cuts.{IsFirstNewline};
 ghost use Rattle.trace_reader.specs.Cutter.{fresh_cutter, StepsOn, with_source};
 ghost use Rattle.trace_reader.specs.declared.reader.TheConstants.{MOST_AHEAD};
 
-use crate::CutError;
 use crate::cut::Cut;
+use crate::error::CutError;
 use crate::held::Held;
 use crate::reader::MOST_AHEAD;
 use crate::window::Window;
-use heap_base::{Failed, LONGEST_LINE, OutOfMemory, Source};
+use heap_base::{LONGEST_LINE, OutOfMemory};
 use std::alloc::Global;
 use std::marker::Model;
+use streams::{Failed, Source};
 
 /// Cuts a trace into lines, in whatever pieces its bytes are read.
 #[derive(Drop)]

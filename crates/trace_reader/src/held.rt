@@ -1,11 +1,11 @@
 ghost use Rattle.std.specs.Prelude.{◌≤◌, ℕ, List, length, take};
-ghost use Rattle.heap_base.specs.Streams.{stream_of};
+ghost use Rattle.streams.specs.Streams.{stream_of};
 ghost use Rattle.trace_reader.specs.Cuts.{HasNoNewline};
 ghost use Rattle.trace_reader.specs.Reads.{ReadState, ReadsOn, Settles, read_state};
 
 use crate::cut::{Cut, cut_of};
 use crate::window::Window;
-use heap_base::{Failed, Source};
+use streams::{Failed, Source};
 
 /// The bytes that were read and are still held, and whether the source's end was read.
 #[derive(Drop)]

@@ -1,4 +1,5 @@
-//! Reads a trace: cuts its bytes into lines, and reads each line as an operation.
+//! Reads a trace: cuts its bytes into lines, and reads each line as an operation, in its turn or before it by several
+//! workers.
 #![tactic(auto)]
 
 mod cut;
@@ -14,6 +15,7 @@ mod lines_ahead;
 mod names;
 mod object;
 mod operation;
+mod parallel;
 mod plain;
 mod reader;
 mod skip;
@@ -27,4 +29,5 @@ pub use field::spelling_of;
 pub use line::{LineReader, event_of};
 pub use line_ahead::LineAhead;
 pub use lines_ahead::LinesAhead;
+pub use parallel::{AheadCost, ParallelReader};
 pub use reader::{Ahead, EventReader, MOST_AHEAD};

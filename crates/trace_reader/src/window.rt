@@ -1,12 +1,13 @@
 ghost use Rattle.std.specs.Prelude.{◌≡◌, ◌+◌, ◌-◌, ◌≤◌, ℕ, [], length, drop, slice_range, IfOk};
-ghost use Rattle.heap_base.specs.Causes.{HasCause};
+ghost use Rattle.streams.specs.Causes.{HasCause};
 ghost use Rattle.trace_reader.specs.declared.reader.TheConstants.{MOST_AHEAD};
 ghost use Rattle.trace_reader.specs.Windows.{ReadsInto, held_and_left};
 
 use crate::reader::MOST_AHEAD;
-use heap_base::{Failed, LONGEST_LINE, OutOfMemory, Source};
+use heap_base::{LONGEST_LINE, OutOfMemory};
 use std::alloc::Global;
 use std::marker::Model;
+use streams::{Failed, Source};
 
 // Each read is asked for at least this many bytes.
 const LEAST_READ: usize = 64;

@@ -6,9 +6,9 @@ use Rattle.std.specs.Io.KnownBytes.{Appends, Consumes, IsAtEnd}
 use Rattle.std.proofs.KnownBytes.{Consumes-trans, Appends-nil, Appends-trans}
 use Rattle.std.proofs.lemmas.List.{append_assoc, append-nil, length-append}
 use Rattle.std.proofs.lemmas.Bool.{false≢true}
-use Rattle.heap_base.specs.Causes.{Rose}
-use Rattle.heap_base.specs.Sinks.{AppendsPart}
-use Rattle.heap_base.specs.Streams.{Stream}
+use Rattle.streams.specs.Causes.{Rose}
+use Rattle.streams.specs.Sinks.{AppendsPart}
+use Rattle.streams.specs.Streams.{Stream}
 use Rattle.heap_base.specs.declared.status.Status.{Status}
 use Rattle.heap_base.specs.declared.status.Status.TheVariants.{Clean, Violated, TraceFault, ReadFault, WriteFault, NoMemory, Usage}
 use Rattle.graph_meaning.specs.declared.refusal.Refusal.{Refusal}

@@ -5,7 +5,7 @@ use Rattle.std.specs.Prelude.{nat_eq}
 use Rattle.std.proofs.lemmas.Bool.Decides.{Decides-eqb}
 use Rattle.std.proofs.lemmas.List.{drop-append-le, drop-drop, get_or_append_left, length-append, length-drop, take-append-le}
 use Rattle.std.proofs.lemmas.Slice.Eq.{starts_is}
-use Rattle.heap_base.specs.Streams.{Stream}
+use Rattle.streams.specs.Streams.{Stream}
 use Rattle.heap_base.specs.declared.limits.TheConstants.{LONGEST_TRACE}
 use Rattle.trace_reader.specs.Ahead.{GivesKnown, IsReadAt, IsReadOf}
 use Rattle.trace_reader.specs.Cuts.{HasNoNewline}

@@ -7,7 +7,7 @@ use Rattle.std.specs.Io.KnownBytes.{Appends, Consumes, IsAtEnd}
 use Rattle.std.proofs.KnownBytes.{Consumes-nil, Consumes-trans, Appends-nil, Appends-trans}
 use Rattle.std.proofs.lemmas.List.{append_assoc, append-nil, length-append}
 use Rattle.std.proofs.lemmas.Bool.{false≢true, true≢false}
-use Rattle.heap_base.specs.Streams.{Stream}
+use Rattle.streams.specs.Streams.{Stream}
 use Rattle.trace_reader.specs.declared.error.CutError.{CutError}
 use Rattle.trace_reader.specs.Meaning.{Item, item_of_line}
 use Rattle.trace_reader.specs.Items.{pieces, items_from, item_of}

@@ -1,9 +1,9 @@
 -- What stands when a run over a trace has returned, by the status that it answers.
 use Rattle.std.specs.Prelude.{◌≡◌, ◌⊎◌, ℕ, ◌+◌, ◌≤◌, List, length, IsTrue, Some, IfSome}
 use Rattle.std.specs.Io.KnownBytes.{Appends, Consumes, Keeps}
-use Rattle.heap_base.specs.Causes.{Rose}
-use Rattle.heap_base.specs.Sinks.{AppendsPart}
-use Rattle.heap_base.specs.Streams.{Stream}
+use Rattle.streams.specs.Causes.{Rose}
+use Rattle.streams.specs.Sinks.{AppendsPart}
+use Rattle.streams.specs.Streams.{Stream}
 use Rattle.heap_base.specs.declared.limits.TheConstants.{LONGEST_LINE}
 use Rattle.heap_base.specs.declared.status.Status.{Status}
 use Rattle.heap_base.specs.declared.status.Status.TheVariants.{Clean, Violated, TraceFault, ReadFault, WriteFault, NoMemory, Usage}

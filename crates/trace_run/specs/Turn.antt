@@ -1,8 +1,8 @@
 -- What one line of a trace does to a run that is under way, for the proof of the whole run.
 use Rattle.std.specs.Prelude.{◌≡◌, ℕ, ◌+◌, List, Bool, false, ◌||◌, IsTrue}
 use Rattle.std.specs.Io.KnownBytes.{Appends}
-use Rattle.heap_base.specs.Causes.{Rose}
-use Rattle.heap_base.specs.Sinks.{AppendsPart}
+use Rattle.streams.specs.Causes.{Rose}
+use Rattle.streams.specs.Sinks.{AppendsPart}
 use Rattle.heap_base.specs.declared.status.Status.{Status}
 use Rattle.heap_base.specs.declared.status.Status.TheVariants.{Clean, Violated, TraceFault, ReadFault, WriteFault, NoMemory, Usage}
 use Rattle.report.specs.declared.writing.WriteError.{WriteError}

@@ -1,6 +1,6 @@
 //! Lines that were read before their turn.
 ghost use Rattle.std.specs.Prelude.{◌≤◌, ℕ, IfOk};
-ghost use Rattle.heap_base.specs.Streams.{Stream, stream_of};
+ghost use Rattle.streams.specs.Streams.{Stream, stream_of};
 ghost use Rattle.trace_run.specs.Outcome.{Outside, outside_of};
 ghost use Rattle.trace_run.specs.Program.{CountsEvents, MayTake, TakesEvents};
 ghost use Rattle.trace_run.specs.Progress.{HasGiven, InProgress, StandsAs};
@@ -10,7 +10,8 @@ use crate::running::TraceRun;
 use crate::taken::Taken;
 use crate::turn::Flow;
 use graph_meaning::{Event, Stop};
-use heap_base::{Sink, Status};
+use heap_base::Status;
+use streams::Sink;
 use trace_reader::{EventReader, LineCutter};
 
 impl<P: Program + Drop, T: FnMut(&mut P, &Event) -> Result<Taken, Stop>> TraceRun<P, T> {

@@ -1,16 +1,17 @@
 //! What is due is written.
 ghost use Rattle.std.specs.Prelude.{◌≡◌, ◌≤◌, Err, OnOk, OnErr};
 ghost use Rattle.std.specs.Io.KnownBytes.{Appends};
-ghost use Rattle.heap_base.specs.Causes.{Rose};
-ghost use Rattle.heap_base.specs.Sinks.{AppendsPart};
+ghost use Rattle.streams.specs.Causes.{Rose};
+ghost use Rattle.streams.specs.Sinks.{AppendsPart};
 ghost use Rattle.report.specs.declared.writing.WriteError.TheVariants.{WriteFailed};
 ghost use Rattle.trace_run.specs.Program.{due_text};
 ghost use Rattle.trace_run.specs.Turn.{status_of_error};
 
 use crate::taken::Due;
-use heap_base::{Sink, Status, put_all};
+use heap_base::Status;
 use report::{WriteError, write_collection};
 use std::alloc::Global;
+use streams::{Sink, put_all};
 
 /// Writes a text that is due. Where a write fails or memory runs out, a beginning of it was appended.
 pub(crate) fn write_due<K: Sink>(alloc: Global, due: &Due, sink: &mut K) -> Result<(), WriteError>

@@ -1,6 +1,6 @@
 //! How a report ends.
 ghost use Rattle.std.specs.Prelude.{◌≤◌, true, false};
-ghost use Rattle.heap_base.specs.Streams.{stream_of};
+ghost use Rattle.streams.specs.Streams.{stream_of};
 ghost use Rattle.trace_run.specs.Program.{IsLast, Last, end_of_trace, ends_so, halted, refused_line, report_on};
 ghost use Rattle.trace_run.specs.Outcome.{sink_change};
 ghost use Rattle.trace_run.specs.Turn.{EndsRun};
@@ -9,9 +9,10 @@ use crate::once::write_once;
 use crate::program::Program;
 use crate::taken::LastText;
 use graph_meaning::Refusal;
-use heap_base::{Sink, Status};
+use heap_base::Status;
 use report::fault_text;
 use std::alloc::Global;
+use streams::Sink;
 
 /// Ends the report at a line that is refused.
 pub fn refuse<K: Sink>(alloc: Global, line: u64, refusal: Refusal, sink: &mut K) -> Status

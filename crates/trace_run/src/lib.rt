@@ -1,8 +1,10 @@
 //! A run over a trace, whatever a program makes of it: lines are cut and read one after another, what they make due is
-//! written, a refused line ends the report with its fault line, and the status says what stands.
+//! written, a refused line ends the report with its fault line, and the status says what stands. And an audit as such a
+//! program, whoever keeps the heap and marks it.
 #![tactic(auto)]
 
 mod ahead;
+mod audit_texts;
 mod due;
 mod ending;
 mod laws;
@@ -12,6 +14,7 @@ mod running;
 mod taken;
 mod turn;
 
+pub use audit_texts::{due_behind, end_text_of};
 pub use laws::{
     equal_reports_have_equal_runs, no_read_without_faults_fails, the_facts_of_a_run_follow,
 };

@@ -1,9 +1,10 @@
 //! Programs that write one text.
 ghost use Rattle.std.specs.Prelude.{◌≤◌};
-ghost use Rattle.heap_base.specs.Streams.{Stream, stream_of};
+ghost use Rattle.streams.specs.Streams.{Stream, stream_of};
 ghost use Rattle.trace_run.specs.Outcome.{RefusesWords, WritesOnce, outside_of, sink_change};
 
-use heap_base::{Sink, Status, put_all};
+use heap_base::Status;
+use streams::{Sink, put_all};
 
 /// Writes a text, and then answers this status.
 pub fn write_once<K: Sink>(text: &[u8], status: Status, sink: &mut K) -> Status

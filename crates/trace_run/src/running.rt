@@ -1,6 +1,6 @@
 ghost use Rattle.std.specs.Prelude.{◌≡◌, ◌≤◌};
 ghost use Rattle.heap_base.specs.declared.limits.TheConstants.{LONGEST_TRACE};
-ghost use Rattle.heap_base.specs.Streams.{stream_of};
+ghost use Rattle.streams.specs.Streams.{stream_of};
 ghost use Rattle.trace_run.specs.Program.{CountsEvents, MayTake, TakesEvents, report_by};
 ghost use Rattle.trace_run.specs.Outcome.{EndsAs, outside_of, trace_report};
 
@@ -9,8 +9,9 @@ use crate::program::Program;
 use crate::taken::Taken;
 use crate::turn::Flow;
 use graph_meaning::{Event, Refusal, Stop};
-use heap_base::{LONGEST_TRACE, Sink, Source, Status};
+use heap_base::{LONGEST_TRACE, Status};
 use std::alloc::Global;
+use streams::{Sink, Source};
 use trace_reader::{CutError, EventReader, LineCutter};
 
 /// A run over a trace: its program, what takes the program's events, and how many bytes the trace may have at most. What takes

@@ -1,6 +1,6 @@
 ghost use Rattle.std.specs.Prelude.{◌<◌, ◌≤◌, ◌+◌};
 ghost use Rattle.heap_base.specs.declared.limits.TheConstants.{LONGEST_TRACE};
-ghost use Rattle.heap_base.specs.Streams.{stream_of};
+ghost use Rattle.streams.specs.Streams.{stream_of};
 ghost use Rattle.trace_reader.specs.Cutter.{TellsItem};
 ghost use Rattle.trace_reader.specs.Meaning.{Item, item_of_line};
 ghost use Rattle.trace_run.specs.Program.{CountsEvents, MayTake, TakesEvents, takes_item};
@@ -13,7 +13,8 @@ use crate::program::Program;
 use crate::running::TraceRun;
 use crate::taken::Taken;
 use graph_meaning::{Event, Stop};
-use heap_base::{LONGEST_TRACE, Sink, Status};
+use heap_base::{LONGEST_TRACE, Status};
+use streams::Sink;
 use trace_reader::EventReader;
 
 /// Whether a run goes on after a line, or how it ends.
@@ -62,7 +63,9 @@ impl<P: Program + Drop, T: FnMut(&mut P, &Event) -> Result<Taken, Stop>> TraceRu
         requires may_take { MayTake P.events T.pre }
         requires takes { TakesEvents P.meaning P.state T.step }
         requires counts { CountsEvents P.events T.step }
-        ensures takes { (item : Item) → TellsItem told.now item → TakesLine (line_effect (takes_item P.meaning (P.state self.old.program) item) lines (P.state self.new.program)) (sink_change (stream_of K.held K.faults sink.old) (stream_of K.held K.faults sink.new)) result }
+        ensures takes { let change = sink_change (stream_of K.held K.faults sink.old) (stream_of K.held K.faults sink.new) in
+            (item : Item) → TellsItem told.now item →
+            TakesLine (line_effect (takes_item P.meaning (P.state self.old.program) item) lines (P.state self.new.program)) change result }
         ensures few { P.events self.new.program ≤ P.events self.old.program + 1 }
         ensures later { K.faults sink.old ≤ K.faults sink.new }
     {

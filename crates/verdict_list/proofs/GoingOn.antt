@@ -12,8 +12,8 @@ use Rattle.graph_meaning.specs.Collecting.{without_paths, first_with_paths}
 use Rattle.graph_meaning.specs.Heap.{Heap}
 use Rattle.graph_meaning.specs.Roles.{id_at}
 use Rattle.object_table.specs.Placed.{PlacedTable}
-use Rattle.reference_search.specs.declared.cell_reference.FirstReferences.{FirstReferences}
-use Rattle.reference_search.specs.References.{AreFirstReferences, AreFirstOf}
+use Rattle.object_paths.specs.declared.cell_reference.FirstReferences.{FirstReferences}
+use Rattle.object_paths.specs.References.{AreFirstReferences, AreFirstOf}
 use Rattle.verdict_list.specs.Listed.{verdict_if, GoesOn}
 use Rattle.verdict_list.proofs.ByIds.{drop_next}
 

@@ -19,7 +19,7 @@ use Rattle.assert_registry.specs.ByCell.{owner_at, IsRoleBy}
 use Rattle.assert_registry.specs.Laws.{StandFor}
 use Rattle.assert_registry.proofs.Owners.{is_at-itself, is_at-other}
 use Rattle.assert_registry.proofs.Rising.{Rise, Rise-sorted, Rise-head, Rise-tail}
-use Rattle.ownee_check.specs.Ownership.{OwnershipTable, AreViolating}
+use Rattle.verdict_list.specs.Ownership.{OwnershipTable, AreViolating}
 use Rattle.verdict_list.specs.Listed.{owned_pair}
 
 -- ---- pairs of an ownee and its owner

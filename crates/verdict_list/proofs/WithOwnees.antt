@@ -19,7 +19,7 @@ use Rattle.graph_meaning.proofs.Membership.{has_id-filter, has_id-Contains, leng
 use Rattle.object_table.specs.Placed.{PlacedTable, IsSound, id_in}
 use Rattle.assert_registry.specs.Laws.{StandFor}
 use Rattle.assert_registry.proofs.Rising.{Rise-sorted, same_rising}
-use Rattle.ownee_check.specs.Ownership.{OwnershipTable, AreViolating}
+use Rattle.verdict_list.specs.Ownership.{OwnershipTable, AreViolating}
 use Rattle.verdict_list.specs.Listed.{GoesOn, first_verdicts, path_if, verdict_if}
 
 -- the verdict on an ownee, put together from its parts

@@ -14,11 +14,11 @@ use Rattle.object_table.specs.Placed.{PlacedTable, id_in}
 use Rattle.assert_registry.specs.Assertions.{owner_of}
 use Rattle.assert_registry.specs.Laws.{StandFor}
 use Rattle.object_paths.specs.PlainPaths.{ArePlainLevels}
-use Rattle.reference_search.specs.References.{AreFirstOf}
-use Rattle.ownee_check.specs.Ownership.{AreViolating}
+use Rattle.object_paths.specs.References.{AreFirstOf}
+use Rattle.verdict_list.specs.Ownership.{AreViolating}
 use Rattle.verdict_list.specs.declared.instances.KindCount.{KindCount}
 use Rattle.verdict_list.specs.declared.listing.FirstViolations.{FirstViolations}
-use Rattle.verdict_list.specs.declared.ownees.CheckedTable.{CheckedTable}
+use Rattle.verdict_list.specs.declared.ownedby.CheckedTable.{CheckedTable}
 use Rattle.verdict_list.specs.declared.shown_paths.PlainPaths.{PlainPaths}
 use Rattle.verdict_list.specs.declared.unshared.SharedObjects.{SharedObjects}
 use Rattle.verdict_list.specs.Counts.{CountTable, counted_in, most_first_verdicts}

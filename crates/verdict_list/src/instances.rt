@@ -17,7 +17,7 @@ use crate::past_limit::past_limits;
 use crate::shown_paths::{PlainPaths, plain_path, shows_some};
 use graph_meaning::{Roles, Shown, Verdict, VerdictList};
 use heap_base::OutOfMemory;
-use reference_search::TracedTable;
+use object_paths::TracedTable;
 use std::alloc::Global;
 
 /// A type over its limit.

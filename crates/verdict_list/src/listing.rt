@@ -2,7 +2,7 @@
 ghost use Rattle.graph_meaning.specs.Collecting.{first_with_paths};
 ghost use Rattle.graph_meaning.specs.Heap.{Heap};
 ghost use Rattle.graph_meaning.specs.Roles.{AreRolesOf};
-ghost use Rattle.ownee_check.specs.Ownership.{AreViolating};
+ghost use Rattle.verdict_list.specs.Ownership.{AreViolating};
 ghost use Rattle.std.specs.Prelude.{◌≡◌, ◌<◌, ◌≤◌, [], length, IfOk};
 ghost use Rattle.verdict_list.specs.Counts.{CountsHeap, counted_in, most_first_verdicts};
 ghost use Rattle.verdict_list.specs.Listed.{AreFirstViolations, StandIn, first_verdicts, most_verdicts, verdicts_in};
@@ -10,14 +10,14 @@ ghost use Rattle.verdict_list.specs.Listed.{AreFirstViolations, StandIn, first_v
 use crate::counts::{CountedHeap, HeapCounts};
 use crate::dead::push_dead;
 use crate::instances::{KindCount, counted_kinds, push_instances};
-use crate::ownees::{CheckedTable, push_ownees};
+use crate::ownedby::{CheckedTable, push_ownees};
+use crate::ownership::OwnershipCheck;
 use crate::shown_paths::{PlainPaths, plain_levels, shows_some};
 use crate::unshared::{LastPaths, SharedObjects, push_unshared, references_of};
 use crate::violating::{Assertion, violators};
 use graph_meaning::VerdictList;
 use heap_base::OutOfMemory;
-use ownee_check::OwnershipCheck;
-use reference_search::TracedTable;
+use object_paths::TracedTable;
 use std::alloc::Global;
 
 // No verdict, and room for so many, so that a long list is not copied as it grows.
@@ -49,7 +49,9 @@ fn verdicts_on<T: HeapCounts>(
     requires roles { AreRolesOf counted.now.table.now.cells (length counted.now.table.now.table.kinds) counted.now.roles.now }
     requires counts { (h : Heap) × CountsHeap counted.now.table.now counted.now.roles.now (T.counts counted.now.counts.now) h }
     requires found { StandIn counted.now.table.now found }
-    ensures verdicts { let c = counted.now in let t = T.counts c.counts.now in IfOk result (λ v. (h : Heap) → CountsHeap c.table.now c.roles.now t h → AreFirstViolations c.table.now h paths found.entry → v ≡ first_with_paths paths (first_verdicts (counted_in c.table.now t) h)) }
+    ensures verdicts { let c = counted.now in let t = T.counts c.counts.now in
+        IfOk result (λ v. (h : Heap) → CountsHeap c.table.now c.roles.now t h → AreFirstViolations c.table.now h paths found.entry →
+        v ≡ first_with_paths paths (first_verdicts (counted_in c.table.now t) h)) }
     ensures few { IfOk result (λ v. length v ≤ most_first_verdicts) }
 {
     let shown = paths as usize;

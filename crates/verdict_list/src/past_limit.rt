@@ -2,12 +2,12 @@
 ghost use Rattle.graph_meaning.specs.Heap.{Heap};
 ghost use Rattle.graph_meaning.specs.Roles.{AreRolesOf};
 ghost use Rattle.object_table.specs.Placed.{id_in};
-ghost use Rattle.reference_search.specs.References.{IsTracedTableOf};
+ghost use Rattle.object_paths.specs.References.{IsTracedTableOf};
 ghost use Rattle.std.specs.Prelude.{true, ◌≡◌, ◌<◌, ◌+◌, ◌-◌, ◌^◌, ℕ, replicate, slice_index, slice_set, length, IfOk, IfSome, IsSome, None, slice_index_or};
 ghost use Rattle.verdict_list.specs.Kinds.{ArePastLimits, first_after};
 
 use heap_base::OutOfMemory;
-use reference_search::TracedTable;
+use object_paths::TracedTable;
 use std::alloc::Global;
 
 // The first object past the limit: that in this cell where so many came before it as the limit allows.

@@ -6,7 +6,7 @@ ghost use Rattle.graph_meaning.specs.Roles.{AreRolesOf, RoleTable, id_at};
 ghost use Rattle.heap_base.specs.Counting.{IsOnce};
 ghost use Rattle.object_paths.specs.PlainPaths.{ArePlainLevels};
 ghost use Rattle.object_table.specs.Placed.{id_in};
-ghost use Rattle.reference_search.specs.References.{IsReference, AreFirstReferences, AreFirstOf, IsTracedTableOf};
+ghost use Rattle.object_paths.specs.References.{IsReference, AreFirstReferences, AreFirstOf, IsTracedTableOf};
 ghost use Rattle.std.specs.Prelude.{◌≡◌, ◌<◌, ◌+◌, ◌-◌, ◌^◌, ℕ, Some, length, map, min, All, IsSome, IfSome, IfOk, OnOk, is_some, slice_get};
 ghost use Rattle.verdict_list.specs.Listed.{path_if, reference_path, unshared_at, verdict_if, GoesOn, ShowsPaths, KnowsFirst};
 
@@ -14,10 +14,9 @@ use crate::counts::HeapCounts;
 use crate::shown_paths::PlainPaths;
 use graph_meaning::{Shown, ShownPath, Verdict, VerdictList};
 use heap_base::OutOfMemory;
-use object_paths::PlainLevels;
+use object_paths::{CellReference, FirstReferences, PlainLevels, TracedTable, first_references};
 use object_table::ObjectTable;
 use path_cert::{object_id, object_kind};
-use reference_search::{CellReference, FirstReferences, TracedTable, first_references};
 use std::alloc::Global;
 
 /// The first references to the objects in so many of these cells.
@@ -93,7 +92,9 @@ fn unshared_verdict<T: HeapCounts>(
     requires found { IfSome found (λ f. (h : Heap) × (id : ℕ) × AreFirstReferences plain.table.now h id f) }
     requires levels { (r : RoleTable) × IfSome plain.levels.now (ArePlainLevels plain.table.now r) }
     requires there { IsSome found → IsSome plain.levels.now }
-    ensures { let p = plain.entry.table.now in IfOk result (λ v. (h : Heap) → ShowsPaths plain.entry h → IfSome found (AreFirstReferences p h (id_at p.cells cell)) → v ≡ verdict_if (is_some found) (unshared_at p (T.counts traced.now) h cell)) }
+    ensures { let p = plain.entry.table.now in
+        IfOk result (λ v. (h : Heap) → ShowsPaths plain.entry h → IfSome found (AreFirstReferences p h (id_at p.cells cell)) →
+        v ≡ verdict_if (is_some found) (unshared_at p (T.counts traced.now) h cell)) }
 {
     // what is true of every table
     let cells = plain.table.cells();
@@ -178,7 +179,10 @@ pub(crate) fn push_unshared<T: HeapCounts>(
     requires levels { (r : RoleTable) × IfSome paths.levels (ArePlainLevels paths.table.now r) }
     requires there { 0 < length shared.references.now → IsSome paths.levels }
     ensures length { OnOk result (length list.new ≡ length list.old + length shared.entry.cells.now) }
-    ensures verdicts { let p = paths.entry.table.now in OnOk result ((h : Heap) (r : RoleTable) → StandFor p r h → IfSome paths.entry.levels (ArePlainLevels p r) → AreFirstOf p h shared.entry.cells.now shared.entry.references.now → GoesOn paths.entry.most list.old (map (unshared_at p (T.counts traced.now) h) shared.entry.cells.now) list.new) }
+    ensures verdicts { let p = paths.entry.table.now in let s = shared.entry in
+        OnOk result ((h : Heap) (r : RoleTable) → StandFor p r h → IfSome paths.entry.levels (ArePlainLevels p r) →
+        AreFirstOf p h s.cells.now s.references.now →
+        GoesOn paths.entry.most list.old (map (unshared_at p (T.counts traced.now) h) s.cells.now) list.new) }
 {
     let LastPaths {
         alloc,

@@ -5,6 +5,7 @@ import shutil
 import subprocess
 from typing import Iterable, List, NamedTuple, Optional
 
+from ..bundled import find_bundled
 from ..errors import TraceError
 from ..progress import Progress
 from .report import Verdict, read_report
@@ -34,14 +35,14 @@ class Audit(NamedTuple):
 
 
 def find_program(program: Optional[str] = None) -> str:
-    """Where gcaudit is: the argument, the variable GCAUDIT, the PATH, or the script of the repository around this file."""
+    """Where gcaudit is: the argument, the variable GCAUDIT, this package, the PATH, or the script of the repository."""
     asked = program or os.environ.get("GCAUDIT")
     if asked:
         found = shutil.which(asked)
         if found is None:
             raise TraceError("there is no program %s" % asked)
         return found
-    found = shutil.which("gcaudit")
+    found = find_bundled("gcaudit") or shutil.which("gcaudit")
     if found is not None:
         return found
     top = os.path.abspath(__file__)

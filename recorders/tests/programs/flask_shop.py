@@ -59,14 +59,17 @@ class Visitor:
 
 
 class Lines(logging.Handler):
-    """Keeps the last lines of the log: their texts, or the records with all that they speak of."""
+    """Keeps lines of the log: the text of the last one, or all records with what they speak of."""
 
     def __init__(self, texts):
         super().__init__()
         self.texts, self.lines = texts, []
 
     def emit(self, record):
-        self.lines.append(record.getMessage() if self.texts else record)
+        if self.texts:
+            self.lines[:] = [record.getMessage()]
+        else:
+            self.lines.append(record)
 
 
 class Shop:
@@ -139,7 +142,10 @@ class Shop:
 
         @app.errorhandler(ValueError)
         def failed(error):
-            self.errors.append(error if self.leaks else str(error))
+            if self.leaks:
+                self.errors.append(error)
+            else:
+                self.errors[:] = [str(error)]
             return "failed", 400
 
         @app.route("/mail")

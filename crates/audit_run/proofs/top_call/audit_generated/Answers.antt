@@ -1,5 +1,5 @@
 use Rattle.std.proofs.Common.{ℕ, List, subst}
-use Rattle.heap_base.specs.Streams.{stream_of}
+use Rattle.streams.specs.Streams.{stream_of}
 use Rattle.trace_run.specs.Outcome.{reading, outside_of}
 use Rattle.audit_run.specs.Outcome.{EndsAs, rules_in}
 use Rattle.audit_run.proofs.top_call.audit_generated.Goals as goal

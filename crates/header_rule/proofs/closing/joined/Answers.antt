@@ -58,7 +58,8 @@ loop-pass-preserved c =
     record {
       table = c.join_seat.ensures.0 ∙ inv.table;
       passes = all.0;
-      rights = (let a = ap (λ (m : Me (Unit {0}) View). m.0.rights) me in let o = ap (λ (m : Me (Unit {0}) View). m.0.rights) own in let t = total-pop rights_of _ rest pass e in let i = inv.rights in omega arith);
+      rights = (let a = ap (λ (m : Me (Unit {0}) View). m.0.rights) me in let o = ap
+          (λ (m : Me (Unit {0}) View). m.0.rights) own in let t = total-pop rights_of _ rest pass e in let i = inv.rights in omega arith);
       adds =
           λ x.
           (let a = ap (λ (m : Me (Unit {0}) View). times x m.0.adds) me ∙ times-append x v.adds w.adds in

@@ -1,4 +1,4 @@
-use Rattle.heap_base.specs.Streams.{stream_of}
+use Rattle.streams.specs.Streams.{stream_of}
 use Rattle.trace_run.specs.Outcome.{outside_of}
 use Rattle.heap_snapshot.specs.Words.{usage_line}
 use Rattle.heap_snapshot.proofs.AtTheEnd.{unwritten_from_trace, unwritten_usage}

@@ -1,6 +1,6 @@
 use Rattle.std.proofs.Common.{◌+◌, ◌-◌, ◌≤◌, vec_len}
 use Rattle.std.specs.Io.KnownBytes.{Consumes}
-use Rattle.snapshot_text.specs.declared.read.TheConstants.{LONGEST_SNAPSHOT}
+use Rattle.heap_snapshot.specs.declared.read.TheConstants.{LONGEST_SNAPSHOT}
 use Rattle.heap_snapshot.proofs.whole.read_rest.Given as goal
 
 abbrev pub invariant-loop-source : goal.invariant-loop-source

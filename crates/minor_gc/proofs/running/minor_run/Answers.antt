@@ -1,5 +1,5 @@
 use Rattle.std.proofs.Common.{refl}
-use Rattle.heap_base.specs.Streams.{stream_of}
+use Rattle.streams.specs.Streams.{stream_of}
 use Rattle.heap_base.specs.declared.limits.TheConstants.{LONGEST_TRACE}
 use Rattle.trace_run.specs.Program.{report_by}
 use Rattle.trace_run.specs.Outcome.{trace_report}

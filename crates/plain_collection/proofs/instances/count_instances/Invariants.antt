@@ -1,7 +1,7 @@
 use Rattle.std.proofs.Common.{◌≡◌, ◌≤◌, ℕ, List, Option, length, get_or}
 use Rattle.graph_meaning.specs.Heap.{Heap}
 use Rattle.graph_meaning.specs.Roles.{no_roles}
-use Rattle.reference_search.specs.References.{KeptAreTraced}
+use Rattle.object_paths.specs.References.{KeptAreTraced}
 use Rattle.verdict_list.proofs.Counting.{AreCounted}
 use Rattle.plain_collection.proofs.instances.count_instances.Given as goal
 

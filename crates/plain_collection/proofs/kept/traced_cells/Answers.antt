@@ -3,8 +3,8 @@ use Rattle.std.proofs.lemmas.Grind.{common_steps}
 use Rattle.std.proofs.lemmas.Result.{IfOk-weaker}
 use Rattle.assert_registry.proofs.Marking.{get_or-replicate_same}
 use Rattle.path_cert.proofs.HeldObjects.{held-within}
-use Rattle.ownee_check.specs.Settling.{flag_of}
-use Rattle.ownee_check.proofs.Owned.{agree-by-ids}
+use Rattle.verdict_list.specs.Settling.{flag_of}
+use Rattle.verdict_list.proofs.Owned.{agree-by-ids}
 use Rattle.plain_collection.proofs.kept.traced_cells.Goals as goal
 
 pub returns-clause-traced : goal.returns-clause-traced

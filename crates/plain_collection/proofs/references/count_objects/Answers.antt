@@ -1,6 +1,6 @@
 use Rattle.std.proofs.Common.{◌<◌, ◌+◌, ◌*◌, ◌^◌, ◌++◌, [], length, sym, subst, refl, ◌∙◌, arith, append-nil}
 use Rattle.std.specs.Prelude.{IsSome}
-use Rattle.reference_search.proofs.Listing.{nth_object-held, nth_object-below, with_scanned, object-scanned, object-passed, scanned-all}
+use Rattle.object_paths.proofs.Listing.{nth_object-held, nth_object-below, with_scanned, object-scanned, object-passed, scanned-all}
 use Rattle.plain_collection.proofs.Counts.{counts-same, most-weaker}
 use Rattle.plain_collection.proofs.references.count_objects.Goals as goal
 use Rattle.plain_collection.proofs.references.count_objects.Goals.{then-is_scanned, else-is_scanned}

@@ -1,7 +1,7 @@
 use Rattle.std.proofs.Common.{◌≡◌, length, ℕ, ◌+◌, ◌*◌, ◌^◌, List, Bool}
 use Rattle.graph_meaning.specs.Assertions.{Reference}
-use Rattle.reference_search.specs.Prefixes.{ScannedByCell}
-use Rattle.reference_search.proofs.Listing.{with_scanned}
+use Rattle.object_paths.specs.Prefixes.{ScannedByCell}
+use Rattle.object_paths.proofs.Listing.{with_scanned}
 use Rattle.plain_collection.specs.Counting.{AtMost, CountsLists}
 use Rattle.plain_collection.proofs.references.count_objects.Given as goal
 

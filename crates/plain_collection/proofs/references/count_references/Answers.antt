@@ -1,7 +1,7 @@
 use Rattle.std.proofs.Common.{ap, ◌∙◌, ◌||◌, length}
 use Rattle.std.proofs.lemmas.List.{length-replicate}
 use Rattle.graph_meaning.specs.Assertions.{is_traced, is_owner, roots_to}
-use Rattle.reference_search.proofs.Listing.{scanned-by_cell}
+use Rattle.object_paths.proofs.Listing.{scanned-by_cell}
 use Rattle.plain_collection.proofs.Counts.{counts-none, counts-references, most-none}
 use Rattle.plain_collection.proofs.references.count_references.Goals as goal
 

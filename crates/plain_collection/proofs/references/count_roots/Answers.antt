@@ -2,7 +2,7 @@ use Rattle.std.proofs.Common.{◌<◌, ◌+◌, length, take, take_all, sym, ap,
 use Rattle.std.proofs.lemmas.List.{length-set}
 use Rattle.graph_meaning.specs.Assertions.{by_root}
 use Rattle.object_table.proofs.ObjectsByCell.{held-within}
-use Rattle.reference_search.proofs.Listing.{by_roots, nth_root, nth_root-is, nth_root-more}
+use Rattle.object_paths.proofs.Listing.{by_roots, nth_root, nth_root-is, nth_root-more}
 use Rattle.plain_collection.specs.Counting.{AtMost, CountsLists}
 use Rattle.verdict_list.proofs.Counting.{few_more}
 use Rattle.plain_collection.proofs.Counts.{counted-more}

@@ -1,5 +1,5 @@
 use Rattle.std.proofs.Common.{[], take, ◌≡◌, length}
-use Rattle.reference_search.proofs.Listing.{by_roots}
+use Rattle.object_paths.proofs.Listing.{by_roots}
 use Rattle.plain_collection.specs.Counting.{AtMost, CountsLists}
 use Rattle.plain_collection.proofs.references.count_roots.Given as goal
 

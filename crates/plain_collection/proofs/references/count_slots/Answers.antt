@@ -5,7 +5,7 @@ use Rattle.graph_meaning.specs.Heap.{edge_of}
 use Rattle.graph_meaning.specs.Roles.{id_at}
 use Rattle.object_table.specs.Placed.{slots_in, slot_in}
 use Rattle.object_table.proofs.ObjectsByCell.{held-within, no-edge, edge-within, edge-in_a_cell, edge-target}
-use Rattle.reference_search.proofs.Listing.{with_slots, slot-more, slot-none, slots-all}
+use Rattle.object_paths.proofs.Listing.{with_slots, slot-more, slot-none, slots-all}
 use Rattle.plain_collection.specs.Counting.{AtMost, CountsLists}
 use Rattle.verdict_list.proofs.Counting.{few_more}
 use Rattle.plain_collection.proofs.Counts.{counts-same, counted-more, most-weaker}

@@ -2,7 +2,7 @@ use Rattle.std.proofs.Common.{◌≡◌, length, ℕ, ◌+◌, List, take}
 use Rattle.graph_meaning.specs.Assertions.{Reference}
 use Rattle.graph_meaning.specs.Roles.{id_at}
 use Rattle.object_table.specs.Placed.{slots_in}
-use Rattle.reference_search.proofs.Listing.{with_slots}
+use Rattle.object_paths.proofs.Listing.{with_slots}
 use Rattle.plain_collection.specs.Counting.{AtMost, CountsLists}
 use Rattle.plain_collection.proofs.references.count_slots.Given as goal
 

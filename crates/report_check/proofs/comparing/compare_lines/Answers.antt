@@ -1,6 +1,6 @@
 use Rattle.std.proofs.Common.{arith, inr, refl}
 use Rattle.std.proofs.lemmas.Result.{IfOk-weaker}
-use Rattle.heap_base.specs.Streams.{stream_of}
+use Rattle.streams.specs.Streams.{stream_of}
 use Rattle.trace_run.proofs.Endings.{Rose-earlier}
 use Rattle.report_check.specs.States.{checked_state}
 use Rattle.report_check.proofs.Running.{begins, ends-line, ends-there, goes-on, leaves-fewer, line-too_long, moment, next-number, trace-too_long}
@@ -52,17 +52,20 @@ pub returns-in-Ok-None-clause-tells : goal.returns-in-Ok-None-clause-tells
 returns-in-Ok-None-clause-tells g c =
     let under_way = c.trace.invariant.0 in
     let trace = stream_of g.A.Source.left g.A.Source.faults c.next.new.source in
-    IfOk-weaker c.compare_end.result _ _ (λ compared tells. ends-there under_way trace _ _ compared (rw c.in-Ok-None.field-0-is at c.in-Ok-None.ensures.1) tells) (c.compare_end.ensures.tells _ under_way.written under_way.equal)
+    IfOk-weaker c.compare_end.result _ _ (λ compared tells. ends-there under_way trace _ _ compared
+    (rw c.in-Ok-None.field-0-is at c.in-Ok-None.ensures.1) tells) (c.compare_end.ensures.tells _ under_way.written under_way.equal)
 
 pub returns-in-Err-TraceTooLong-clause-tells : goal.returns-in-Err-TraceTooLong-clause-tells
 returns-in-Err-TraceTooLong-clause-tells g c =
     let under_way = c.trace.invariant.0 in
     let fault = c.compare_fault-in-Err-TraceTooLong in
     let trace = stream_of g.A.Source.left g.A.Source.faults c.next.new.source in
-    IfOk-weaker fault.result _ _ (λ compared tells. trace-too_long under_way trace _ _ compared (rw c.in-Err-TraceTooLong.field-0-is at c.in-Err-TraceTooLong.ensures.1) tells) (fault.ensures.tells _ under_way.written under_way.equal)
+    IfOk-weaker fault.result _ _ (λ compared tells. trace-too_long under_way trace _ _ compared
+    (rw c.in-Err-TraceTooLong.field-0-is at c.in-Err-TraceTooLong.ensures.1) tells) (fault.ensures.tells _ under_way.written under_way.equal)
 
 pub returns-in-Err-LineTooLong-clause-tells : goal.returns-in-Err-LineTooLong-clause-tells
 returns-in-Err-LineTooLong-clause-tells g c =
     let under_way = c.trace.invariant.0 in
     let trace = stream_of g.A.Source.left g.A.Source.faults c.next.new.source in
-    IfOk-weaker c.compare_fault.result _ _ (λ compared tells. line-too_long under_way trace _ _ compared (rw c.in-Err-LineTooLong.field-0-is at c.in-Err-LineTooLong.ensures.1) tells) (c.compare_fault.ensures.tells _ under_way.written under_way.equal)
+    IfOk-weaker c.compare_fault.result _ _ (λ compared tells. line-too_long under_way trace _ _ compared
+    (rw c.in-Err-LineTooLong.field-0-is at c.in-Err-LineTooLong.ensures.1) tells) (c.compare_fault.ensures.tells _ under_way.written under_way.equal)

@@ -1,6 +1,6 @@
 use Rattle.std.proofs.Common.{subst}
 use Rattle.std.proofs.lemmas.Result.{IfOk-weaker}
-use Rattle.audit_program.specs.Audits.{AuditState}
+use Rattle.trace_run.specs.Audits.{AuditState}
 use Rattle.report_check.specs.Reports.{TellsOfRun}
 use Rattle.report_check.proofs.Running.{as-defined}
 use Rattle.report_check.proofs.comparing.compare_reports.Goals as goal

@@ -1,5 +1,5 @@
 use Rattle.std.proofs.Common.{refl}
-use Rattle.heap_base.specs.Streams.{stream_of}
+use Rattle.streams.specs.Streams.{stream_of}
 use Rattle.report_check.proofs.top_call.check_run.Goals as goal
 
 pub returns-in_default-clause-refused : goal.returns-in_default-clause-refused

@@ -1,9 +1,9 @@
 use Rattle.std.proofs.Common.{refl}
-use Rattle.heap_base.specs.Streams.{stream_of}
+use Rattle.streams.specs.Streams.{stream_of}
 use Rattle.heap_base.specs.declared.limits.TheConstants.{LONGEST_TRACE}
 use Rattle.trace_run.specs.Outcome.{trace_report}
 use Rattle.trace_run.proofs.Endings.{nothing_written}
-use Rattle.audit_program.specs.Audits.{audit_report}
+use Rattle.trace_run.specs.Audits.{audit_report}
 use Rattle.resident_crew.specs.Outcome.{rules}
 use Rattle.resident_crew.proofs.top_call.audit_resident.Goals as goal
 

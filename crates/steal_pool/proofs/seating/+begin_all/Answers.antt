@@ -1,5 +1,5 @@
 use Rattle.std.proofs.Common.{◌≡◌, ℕ, ◌+◌, List, [], ◌∷◌, arith, slice_index_or, subst, sym, ap, length, drop}
-use Rattle.heap_base.specs.declared.task.Task.{Task}
+use Rattle.steal_pool.specs.declared.task.Task.{Task}
 use Rattle.crossbeam_utils.specs.Padded.{padded_value, padded_with_value}
 use Rattle.steal_pool.specs.Lists.{Each}
 use Rattle.steal_pool.specs.Seats.{opening, CanBegin, Begins}

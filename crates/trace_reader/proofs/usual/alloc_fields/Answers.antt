@@ -33,7 +33,8 @@ returns-then-equals c = λ legal text is.
     (_, c.in_ok-take_key-2.ensures, c.in_ok-plain_value.ensures.value member_depth, c.in_ok-plain_value.ensures.shorter)
     (_, c.in_ok-take_key-3.ensures, c.in_ok-plain_value-2.ensures.value member_depth, c.in_ok-plain_value-2.ensures.shorter)
     (_, c.in_ok-take_key-4.ensures, c.in_ok-plain_value-3.ensures.value member_depth, c.in_ok-plain_value-3.ensures.shorter)
-    (member_made fourth (codes "thread") thread all _ _ (_, key ∙ ap (λ k. Some (Some k, c.next_key.new.self)) found, c.in_ok-plain_value-4.ensures.value member_depth, c.in_ok-plain_value-4.ensures.shorter) rest.1) in
+    (member_made fourth (codes "thread") thread all _ _
+    (_, key ∙ ap (λ k. Some (Some k, c.next_key.new.self)) found, c.in_ok-plain_value-4.ensures.value member_depth, c.in_ok-plain_value-4.ensures.shorter) rest.1) in
     ap event_of_json (made_text text c.take_begin.new.reader all (is ∙ c.in_ok-take_begin.ensures) made)
     ∙ event_same all fifth rest.2
     ∙ thread_alloc_meant id kind slots thread c.in_ok-id.id c.in_ok-slots.slots c.in_ok-thread.thread c.in_ok-kind.kind.now

@@ -14,7 +14,8 @@ returns-in-Ok-None c = λ last.
     let is = value_passed member_depth l.reader r (c.skip_value.ensures.value passed) in
     let unnamed : c.field_spelled.result ≡ None = grind arith in
     let closed : read_key r ≡ Some (None, rest) = grind arith in
-    l.invariant.1 (unnamed_member l.key.now l.reader r rest None is.0 is.1 (c.skip_value.ensures.shorter passed) c.field_spelled.result c.field_spelled.ensures unnamed closed (ended rest (c.is_at_end.ensures last)))
+    l.invariant.1 (unnamed_member l.key.now l.reader r rest None is.0 is.1 (c.skip_value.ensures.shorter passed)
+    c.field_spelled.result c.field_spelled.ensures unnamed closed (ended rest (c.is_at_end.ensures last)))
 
 pub members-preserved : goal.members-preserved
 members-preserved c =

@@ -1,5 +1,5 @@
 use Rattle.std.proofs.Common.{false, get_or, length, ap, ◌∙◌, arith}
-use Rattle.reference_search.specs.References.{KeptAreTraced}
+use Rattle.object_paths.specs.References.{KeptAreTraced}
 use Rattle.verdict_list.proofs.WholeLists.{kinds-are, all_say, first_at_limit}
 use Rattle.verdict_list.proofs.instances.counted_kinds.Goals as goal
 

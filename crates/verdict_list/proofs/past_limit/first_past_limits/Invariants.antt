@@ -3,7 +3,7 @@ use Rattle.std.specs.Option.{IsSome, IfSome}
 use Rattle.graph_meaning.specs.Heap.{Heap}
 use Rattle.object_table.specs.Placed.{id_in}
 use Rattle.assert_registry.specs.Laws.{StandFor}
-use Rattle.reference_search.specs.References.{KeptAreTraced}
+use Rattle.object_paths.specs.References.{KeptAreTraced}
 use Rattle.verdict_list.proofs.Counting.{AreCounted}
 use Rattle.verdict_list.proofs.past_limit.first_past_limits.Given as goal
 

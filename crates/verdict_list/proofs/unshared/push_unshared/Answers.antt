@@ -2,7 +2,7 @@ use Rattle.std.proofs.Common.{◌≡◌, ◌++◌, map, sym, ap, subst, ◌∙�
 use Rattle.std.specs.Prelude.{Some, slice_get}
 use Rattle.std.proofs.lemmas.List.{append_assoc, map-append}
 use Rattle.graph_meaning.specs.Collecting.{first_with_paths}
-use Rattle.reference_search.specs.References.{AreFirstOf}
+use Rattle.object_paths.specs.References.{AreFirstOf}
 use Rattle.verdict_list.specs.Listed.{unshared_at}
 use Rattle.verdict_list.proofs.GoingOn.{slice_get-front}
 use Rattle.verdict_list.proofs.unshared.push_unshared.Goals as goal

@@ -1,6 +1,6 @@
 use Rattle.std.proofs.Common.{◌<◌, ◌∙◌, subst, length, take}
 use Rattle.std.proofs.lemmas.Option.{slice_get_within}
-use Rattle.reference_search.specs.References.{AreFirstOf}
+use Rattle.object_paths.specs.References.{AreFirstOf}
 use Rattle.verdict_list.proofs.ByIds.{once_taken, take_get, IfOk-both}
 use Rattle.verdict_list.proofs.unshared.references_of.Goals as goal
 

@@ -4,9 +4,9 @@ use Rattle.std.specs.Option.{is_some}
 use Rattle.graph_meaning.specs.Collecting.{Rules, all_verdicts, collection_counted, first_with_paths}
 use Rattle.object_table.specs.Placed.{PlacedTable}
 use Rattle.assert_registry.specs.Laws.{StandFor}
-use Rattle.heap_trace.specs.Traces.{IsTraceOf}
+use Rattle.heap_marking.specs.Traces.{IsTraceOf}
 use Rattle.verdict_list.specs.Counts.{counted_in}
-use Rattle.verdicts.specs.Verdicts.{counts_of}
+use Rattle.audit_core.specs.Verdicts.{counts_of}
 use Rattle.heap_parts.specs.Parts.{PlacedHeap, placed_in}
 use Rattle.audit_core.specs.Audit.{Audit, AreItsRoles, audit_table, rules_with, next_counted, after_next}
 use Rattle.verdict_list.proofs.Collected.{found_by}

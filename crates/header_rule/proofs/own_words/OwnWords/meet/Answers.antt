@@ -11,7 +11,8 @@ use Rattle.header_rule.proofs.OwnWords.{OwnMeet, own_meet}
 use Rattle.header_rule.proofs.own_words.OwnWords.meet.Goals as goal
 
 -- the words and the view before the meet, and the word that was found
-module _ (o now : OwnState) (is : o ≡ now) (kept : KeepsOwn o) (x : ℕ) (given : Marks) (within : x + 1 < length now.words) (room : length now.view.adds < 2 ^ 55) (found : ℕ) (at : found ≡ get_or o.words (x + 1) found) where
+module _ (o now : OwnState) (is : o ≡ now) (kept : KeepsOwn o) (x : ℕ) (given : Marks) (within : x + 1 < length now.words)
+    (room : length now.view.adds < 2 ^ 55) (found : ℕ) (at : found ≡ get_or o.words (x + 1) found) where
   inside : x + 1 < length o.words
   inside = subst (λ (s : OwnState). x + 1 < length s.words) (sym is) within
 

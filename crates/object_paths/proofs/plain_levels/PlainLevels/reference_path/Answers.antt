@@ -1,7 +1,7 @@
 use Rattle.std.proofs.Common.{subst}
 use Rattle.std.specs.List.{slice_get}
-use Rattle.reference_search.specs.declared.cell_reference.CellReference.{CellReference}
-use Rattle.reference_search.specs.References.{RefersTo}
+use Rattle.object_paths.specs.declared.cell_reference.CellReference.{CellReference}
+use Rattle.object_paths.specs.References.{RefersTo}
 use Rattle.object_paths.proofs.PlainWays.{few-root}
 use Rattle.object_paths.proofs.plain_levels.PlainLevels.reference_path.Goals as goal
 

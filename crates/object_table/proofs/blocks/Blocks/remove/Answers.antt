@@ -15,4 +15,5 @@ pub invariant_of-self : goal.invariant_of-self
 invariant_of-self c = rw c.renumber.ensures (is_laid 0 _ c.merge_with_next-2.ensures.some)
 
 pub returns : goal.returns
-returns c = rw (← c.self.view_is, c.renumber.ensures) (all_entries-laid 0 c.merge_with_next-2.new.blocks.items ∙ c.merge_with_next-2.ensures.same ∙ c.merge_with_next.ensures.same ∙ c.take.ensures.taken)
+returns c = rw (← c.self.view_is, c.renumber.ensures)
+    (all_entries-laid 0 c.merge_with_next-2.new.blocks.items ∙ c.merge_with_next-2.ensures.same ∙ c.merge_with_next.ensures.same ∙ c.take.ensures.taken)

@@ -10,7 +10,8 @@ returns c =
     elim c.match-self.branch [
       | in-Few w ↦
           let now = sym (ap resident_of w.in-Few.is) ∙ c.self.view_is in
-          rw (w.self-inside-is, ← now) (slots_kept c.args.kept.now _ (record { id = w.in-Few.id; kind = w.in-Few.kind; slots = w.in-Few.slots.items }) _ _ refl w.as_mut_slice.ensures.value w.keep_slots.ensures)
+          rw (w.self-inside-is, ← now)
+          (slots_kept c.args.kept.now _ (record { id = w.in-Few.id; kind = w.in-Few.kind; slots = w.in-Few.slots.items }) _ _ refl w.as_mut_slice.ensures.value w.keep_slots.ensures)
       | in-Few+else-has_weak w ↦
           let now = sym (ap resident_of w.in-Few.is) ∙ c.self.view_is in
           rw (w.self-inside-is, ← now)
@@ -18,7 +19,8 @@ returns c =
       | in-Many w ↦
           let now = sym (ap resident_of w.in-Many.is) ∙ c.self.view_is in
           let count : w.in-Many.slots.len ≡ length w.in-Many.slots.items = omega (arith, w.in-Many.slots.ok.0) in
-          rw (w.self-inside-is, ← now) (slots_kept c.args.kept.now _ (record { id = w.in-Many.id; kind = w.in-Many.kind; slots = w.in-Many.slots.items }) _ _ count w.as_mut_slice-in-Many.ensures.value w.keep_slots-in-Many.ensures)
+          rw (w.self-inside-is, ← now) (slots_kept c.args.kept.now _
+          (record { id = w.in-Many.id; kind = w.in-Many.kind; slots = w.in-Many.slots.items }) _ _ count w.as_mut_slice-in-Many.ensures.value w.keep_slots-in-Many.ensures)
       | in-Many+else-has_weak-2 w ↦
           let now = sym (ap resident_of w.in-Many.is) ∙ c.self.view_is in
           rw (w.self-inside-is, ← now)

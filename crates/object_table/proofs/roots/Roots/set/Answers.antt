@@ -29,4 +29,5 @@ returns-in_ok-insert-in-Err-clause-set c =
 -- a name that is there stays, and holds the object
 pub returns-in-Ok-clause-set : goal.returns-in-Ok-clause-set
 returns-in-Ok-clause-set c =
-    set_is c.args.self.now c.set_number.new.self c.args.name.now c.in-Ok.place c.args.id c.in-Ok.ensures.ordered c.in-Ok.ensures.in_range c.in-Ok.ensures.found (rw (c.number-number.ensures.value, c.self.view_is) at c.set_number.ensures)
+    set_is c.args.self.now c.set_number.new.self c.args.name.now c.in-Ok.place c.args.id c.in-Ok.ensures.ordered c.in-Ok.ensures.in_range c.in-Ok.ensures.found
+    (rw (c.number-number.ensures.value, c.self.view_is) at c.set_number.ensures)

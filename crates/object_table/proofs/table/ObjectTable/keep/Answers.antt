@@ -27,7 +27,8 @@ returns-then-are_kept-clause-kept c = rw (← c.self.view_is) (same_with_only (p
 
 pub returns : goal.returns
 returns c = record {
-  kept = rw (← c.self.view_is, c.keep-2.ensures) (kept_is (parts_in c.self.inside) c.self.invariant.laid c.args.kept.now c.keep.new.self.cells c.keep.ensures.after (c.self.inside.slots - c.freed_slots-freed.result));
+  kept = rw (← c.self.view_is, c.keep-2.ensures)
+      (kept_is (parts_in c.self.inside) c.self.invariant.laid c.args.kept.now c.keep.new.self.cells c.keep.ensures.after (c.self.inside.slots - c.freed_slots-freed.result));
   cells =
       rw (← c.self.view_is, c.keep-2.ensures)
       (kept_keeps (parts_in c.self.inside) c.self.invariant.laid c.args.kept.now c.keep.new.self.cells c.keep.ensures.after

@@ -28,7 +28,7 @@ returns-else-slots-self c =
     let live = rw (← c.self.view_is) at c.live.ensures.count in
     record {
       refusal =
-          c.kind_refusal.ensures
+          c.refusal_by_kind.ensures
           ∙ rw (← c.self.view_is)
           (sym (alloc_kind t c.args.id c.args.kind.now c.args.slots (omega arith) (omega (arith, live))
           (omega (arith, c.self.invariant.counted, c.self.invariant.sound.limits.slots))));

@@ -3,7 +3,7 @@ use Rattle.std.proofs.lemmas.Result.{IfOk-weaker}
 use Rattle.graph_meaning.specs.Roles.{owner_in, has_owner}
 use Rattle.graph_meaning.specs.Laws.{AllLive}
 use Rattle.graph_meaning.specs.Collecting.{first_with_paths}
-use Rattle.ownee_check.proofs.Violating.{doubts-held}
+use Rattle.verdict_list.proofs.ViolatingOwnees.{doubts-held}
 use Rattle.verdict_list.proofs.Collected.{verdicts_agree}
 use Rattle.plain_collection.specs.PlainTraces.{plain_counts}
 use Rattle.plain_collection.proofs.AllOwnees.{ownees-doubted}

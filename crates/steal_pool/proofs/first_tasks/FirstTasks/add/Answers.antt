@@ -1,7 +1,7 @@
 use Rattle.std.proofs.Common.{◌≡◌, ℕ, zero, suc, ◌<◌, [], ◌∷◌, ◌++◌, List, length, map, get_or, slice_index_or, slice_set, refl, sym, ap, ◌∙◌, subst, arith}
 use Rattle.std.specs.Global.{Vec}
 use Rattle.std.proofs.lemmas.List.{map-set}
-use Rattle.heap_base.specs.declared.task.Task.{Task}
+use Rattle.steal_pool.specs.declared.task.Task.{Task}
 use Rattle.steal_pool.specs.FirstLists.{FirstLists}
 use Rattle.steal_pool.proofs.first_tasks.FirstTasks.add.Goals as goal
 

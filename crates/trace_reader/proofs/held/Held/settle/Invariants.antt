@@ -1,5 +1,5 @@
 use Rattle.std.proofs.Common.{ℕ, ◌+◌, ◌-◌, ◌≤◌, cond, List, length, take}
-use Rattle.heap_base.specs.Streams.{stream_of}
+use Rattle.streams.specs.Streams.{stream_of}
 use Rattle.heap_base.specs.declared.limits.TheConstants.{LONGEST_LINE}
 use Rattle.trace_reader.specs.Cuts.{HasNoNewline}
 use Rattle.trace_reader.specs.Reads.{ReadState, ReadsOn, read_state}

@@ -57,7 +57,8 @@ overflow_add-lines g c =
 
 pub returns-in-Err-LineTooLong : goal.returns-in-Err-LineTooLong
 returns-in-Err-LineTooLong g c =
-    line_too_long g.P.Program.meaning _ _ _ _ _ _ _ _ _ _ _ (c.in-Ok-take_ahead.ensures.takes _ _ _ _ c.trace.invariant.0) (rw c.in-Err-LineTooLong.field-0-is at c.in-Err-LineTooLong.ensures.1) c.refuse.ensures.ends
+    line_too_long g.P.Program.meaning _ _ _ _ _ _ _ _ _ _ _ (c.in-Ok-take_ahead.ensures.takes _ _ _ _ c.trace.invariant.0)
+    (rw c.in-Err-LineTooLong.field-0-is at c.in-Err-LineTooLong.ensures.1) c.refuse.ensures.ends
 
 pub overflow_add-lines-in-Err-TraceTooLong : goal.overflow_add-lines-in-Err-TraceTooLong
 overflow_add-lines-in-Err-TraceTooLong g c =
@@ -66,7 +67,8 @@ overflow_add-lines-in-Err-TraceTooLong g c =
 
 pub returns-in-Err-TraceTooLong : goal.returns-in-Err-TraceTooLong
 returns-in-Err-TraceTooLong g c =
-    trace_too_long g.P.Program.meaning _ _ _ _ _ _ _ _ _ _ _ (c.in-Ok-take_ahead.ensures.takes _ _ _ _ c.trace.invariant.0) (rw c.in-Err-TraceTooLong.field-0-is at c.in-Err-TraceTooLong.ensures.1) c.refuse-in-Err-TraceTooLong.ensures.ends
+    trace_too_long g.P.Program.meaning _ _ _ _ _ _ _ _ _ _ _ (c.in-Ok-take_ahead.ensures.takes _ _ _ _ c.trace.invariant.0)
+    (rw c.in-Err-TraceTooLong.field-0-is at c.in-Err-TraceTooLong.ensures.1) c.refuse-in-Err-TraceTooLong.ensures.ends
 
 pub returns-in_default : goal.returns-in_default
 returns-in_default g c = nothing_written _ _ _ refl

@@ -1,5 +1,5 @@
 use Rattle.std.proofs.Common.{◌-◌, ◌≤◌}
-use Rattle.heap_base.specs.Streams.{stream_of}
+use Rattle.streams.specs.Streams.{stream_of}
 use Rattle.trace_run.specs.Outcome.{outside_of}
 use Rattle.trace_run.specs.Progress.{InProgress}
 use Rattle.trace_run.proofs.running.TraceRun.run.Given as goal

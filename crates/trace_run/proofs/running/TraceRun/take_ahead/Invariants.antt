@@ -1,5 +1,5 @@
 use Rattle.std.proofs.Common.{◌≤◌, ℕ, All}
-use Rattle.heap_base.specs.Streams.{Stream, stream_of}
+use Rattle.streams.specs.Streams.{Stream, stream_of}
 use Rattle.trace_run.specs.Outcome.{Outside, outside_of}
 use Rattle.trace_run.specs.Progress.{HasGiven, InProgress}
 use Rattle.trace_run.proofs.LinesAhead.{StandsAhead}

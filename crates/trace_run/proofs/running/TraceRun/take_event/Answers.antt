@@ -1,5 +1,5 @@
 use Rattle.std.proofs.Common.{◌+◌, Ok, Err, ap}
-use Rattle.heap_base.specs.Streams.{stream_of}
+use Rattle.streams.specs.Streams.{stream_of}
 use Rattle.trace_run.specs.Program.{Effect, TakesEvent, by_effect, due_text, ends_so, halted}
 use Rattle.trace_run.proofs.Turns.{ends-failed, ends-halted}
 use Rattle.trace_run.proofs.running.TraceRun.take_event.Goals as goal

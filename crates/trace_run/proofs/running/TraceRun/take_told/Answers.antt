@@ -1,5 +1,5 @@
 use Rattle.std.proofs.Common.{◌≡◌, Ok, Some, ap, ◌∙◌}
-use Rattle.heap_base.specs.Streams.{stream_of}
+use Rattle.streams.specs.Streams.{stream_of}
 use Rattle.trace_reader.specs.Meaning.{event as event_item}
 use Rattle.trace_run.proofs.Turns.{TakesLine-at}
 use Rattle.trace_run.proofs.running.TraceRun.take_told.Goals as goal

@@ -1,0 +1,7 @@
+use Rattle.std.proofs.Common.{◌≡◌, ◌++◌, take}
+use Rattle.std.specs.List.{flat_map}
+use Rattle.heap_snapshot.specs.Trace.{alloc_line}
+use Rattle.heap_snapshot.proofs.trace_of_heap.put_allocs.Given as goal
+
+abbrev pub invariant-loop-place : goal.invariant-loop-place
+invariant-loop-place l = l.text.items ≡ l.fn.text.items ++ flat_map alloc_line (take l.place l.objects)

@@ -1,5 +1,0 @@
-use Rattle.heap_trace.proofs.HeapTraces.{cells_trace_heaps}
-use Rattle.heap_trace.proofs.laws.what_is_traced_by_cells_is_traced_by_ids.Goals as goal
-
-pub returns : goal.returns
-returns c = cells_trace_heaps

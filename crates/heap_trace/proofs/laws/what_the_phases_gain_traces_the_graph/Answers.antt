@@ -1,5 +1,0 @@
-use Rattle.heap_trace.proofs.PhaseTotals.{phases_trace}
-use Rattle.heap_trace.proofs.laws.what_the_phases_gain_traces_the_graph.Goals as goal
-
-pub returns : goal.returns
-returns c = phases_trace

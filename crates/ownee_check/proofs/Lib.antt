@@ -1,6 +1,0 @@
-pub mod SameShut
-pub mod CellsById
-pub mod Pairs
-pub mod Owned
-pub mod OwnersOf
-pub mod Violating

@@ -1,4 +1,0 @@
-pub mod Ownership
-pub mod Cells
-pub mod Settling
-pub mod Askings

@@ -1,3 +1,0 @@
-pub mod Places
-pub mod Listing
-pub mod Puts

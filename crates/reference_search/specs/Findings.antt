@@ -1,6 +1,0 @@
--- What contracts see of a search for first references.
-use Rattle.reference_search.specs.declared.search.Search.{Search}
-use Rattle.reference_search.specs.Prefixes.{Finding}
-
-abbrev pub finding_in : Search → Finding
-finding_in s = record { places = s.places.items; found = s.found.items }

@@ -1,3 +1,0 @@
-pub mod References
-pub mod Prefixes
-pub mod Findings

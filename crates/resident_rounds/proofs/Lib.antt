@@ -1,4 +1,0 @@
-pub mod Tasks
-pub mod Each
-pub mod Rounds
-pub mod Whole

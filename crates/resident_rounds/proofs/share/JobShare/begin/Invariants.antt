@@ -1,9 +1,0 @@
-use Rattle.std.proofs.Common.{◌≡◌, take}
-use Rattle.resident_rounds.specs.Shares.{IsBegun}
-use Rattle.resident_rounds.proofs.share.JobShare.begin.Given as goal
-
-abbrev pub invariant-loop-task : goal.invariant-loop-task
-invariant-loop-task g l = record {
-  begun : IsBegun l.fn.self l.self;
-  dealt : l.self.list.items ≡ take l.task-index l.list;
-}

@@ -1,3 +1,0 @@
-pub mod OwnedRuns
-pub mod Tallies
-pub mod Went

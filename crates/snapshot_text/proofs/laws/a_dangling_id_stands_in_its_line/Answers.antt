@@ -1,5 +1,0 @@
-use Rattle.snapshot_text.proofs.OneText.{dangles_in_text}
-use Rattle.snapshot_text.proofs.laws.a_dangling_id_stands_in_its_line.Goals as goal
-
-pub returns : goal.returns
-returns c = dangles_in_text

@@ -1,5 +1,0 @@
-use Rattle.snapshot_text.proofs.Formed.{lawful_is_well_formed}
-use Rattle.snapshot_text.proofs.laws.a_lawful_view_is_well_formed.Goals as goal
-
-pub returns : goal.returns
-returns c = lawful_is_well_formed

@@ -1,5 +1,0 @@
-use Rattle.snapshot_text.proofs.OneText.{text_tells_view}
-use Rattle.snapshot_text.proofs.laws.a_text_stands_for_one_view.Goals as goal
-
-pub returns : goal.returns
-returns c = text_tells_view

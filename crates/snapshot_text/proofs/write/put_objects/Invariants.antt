@@ -1,8 +1,0 @@
-use Rattle.std.proofs.Common.{◌≡◌, ◌++◌, take}
-use Rattle.std.specs.List.{flat_map}
-use Rattle.snapshot_text.specs.Lines.{line_bytes}
-use Rattle.snapshot_text.specs.Text.{lines_of_object}
-use Rattle.snapshot_text.proofs.write.put_objects.Given as goal
-
-abbrev pub invariant-loop-place : goal.invariant-loop-place
-invariant-loop-place l = l.text.items ≡ l.fn.text.items ++ flat_map line_bytes (flat_map lines_of_object (take l.place l.objects))

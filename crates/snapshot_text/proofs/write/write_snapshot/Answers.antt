@@ -1,9 +1,0 @@
-use Rattle.std.proofs.Common.{rules, ◌≡◌}
-use Rattle.snapshot_text.specs.Text.{snapshot_text}
-use Rattle.snapshot_text.proofs.OneText.{written_stands}
-use Rattle.snapshot_text.proofs.write.write_snapshot.Goals as goal
-
-pub returns-clause-stands : goal.returns-clause-stands
-returns-clause-stands c lawful =
-    let same : c.put_view.new.text.items ≡ snapshot_text c.args.view.now = search rules in
-    written_stands c.args.view.now c.put_view.new.text.items same lawful

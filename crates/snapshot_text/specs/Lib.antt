@@ -1,9 +1,0 @@
-pub mod Bounds
-pub mod Dangling
-pub mod Formed
-pub mod Laws
-pub mod Lines
-pub mod Reading
-pub mod Table
-pub mod Taken
-pub mod Text

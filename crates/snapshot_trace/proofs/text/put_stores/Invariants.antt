@@ -1,7 +1,0 @@
-use Rattle.std.proofs.Common.{◌≡◌, ◌++◌, take}
-use Rattle.std.specs.List.{flat_map}
-use Rattle.snapshot_trace.specs.Trace.{store_lines}
-use Rattle.snapshot_trace.proofs.text.put_stores.Given as goal
-
-abbrev pub invariant-loop-place : goal.invariant-loop-place
-invariant-loop-place l = l.text.items ≡ l.fn.text.items ++ flat_map store_lines (take l.place l.objects)

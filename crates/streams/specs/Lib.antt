@@ -1,0 +1,5 @@
+pub mod Causes
+pub mod Counts
+pub mod Memory
+pub mod Sinks
+pub mod Streams

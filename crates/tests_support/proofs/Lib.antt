@@ -1,0 +1,2 @@
+pub mod CellTaskLemmas
+pub mod Edgeless

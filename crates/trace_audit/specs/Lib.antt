@@ -1,2 +1,0 @@
-pub mod Auditors
-pub mod State

@@ -1,0 +1,71 @@
+package gcaudit;
+
+import java.io.File;
+import java.io.IOException;
+import java.io.InputStream;
+import java.nio.file.Files;
+import java.nio.file.Path;
+import java.nio.file.StandardCopyOption;
+import java.util.Locale;
+
+/** The agent in C, which tags objects: what has no tag was allocated since. */
+final class Agent {
+    /** The property with the path of the agent's library. */
+    static final String PROPERTY = "gcaudit.agent";
+
+    private static Agent loaded;
+
+    private Agent() { }
+
+    static synchronized Agent get() {
+        if (loaded == null) {
+            load();
+            loaded = new Agent();
+        }
+        return loaded;
+    }
+
+    /** Tags all objects that have no tag. The answer is the tag. */
+    synchronized long begin() {
+        return beginRegion();
+    }
+
+    /** The objects that were allocated after the region with this tag began. */
+    synchronized Object[] end(long epoch) {
+        return endRegion(epoch);
+    }
+
+    private static native long beginRegion();
+
+    private static native Object[] endRegion(long epoch);
+
+    private static void load() {
+        String path = System.getProperty(PROPERTY);
+        try {
+            if (path != null) {
+                System.load(new File(path).getAbsolutePath());
+            } else if (!loadFromJar()) {
+                System.loadLibrary("gcaudit");
+            }
+        } catch (UnsatisfiedLinkError | IOException error) {
+            throw new HeapAuditException("region() needs the agent libgcaudit, which recorders/jvm/build makes: put its path into"
+                    + " the property " + PROPERTY + " (" + error.getMessage() + ")", error);
+        }
+    }
+
+    /** Loads the library that the jar has for this system; false where it has none. */
+    private static boolean loadFromJar() throws IOException {
+        String name = "native/" + System.getProperty("os.name").toLowerCase(Locale.ROOT).replace(' ', '-') + "-"
+                + System.getProperty("os.arch") + "/" + System.mapLibraryName("gcaudit");
+        try (InputStream found = Agent.class.getResourceAsStream(name)) {
+            if (found == null) {
+                return false;
+            }
+            Path copy = Files.createTempFile("gcaudit-", ".agent");
+            copy.toFile().deleteOnExit();
+            Files.copy(found, copy, StandardCopyOption.REPLACE_EXISTING);
+            System.load(copy.toString());
+            return true;
+        }
+    }
+}

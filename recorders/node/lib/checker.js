@@ -1,0 +1,112 @@
+'use strict';
+
+const { spawn } = require('node:child_process');
+const fs = require('node:fs');
+const os = require('node:os');
+const path = require('node:path');
+const v8 = require('node:v8');
+const { HeapAuditError, HeapViolation } = require('./errors.js');
+
+const MOST_SECONDS = 1800;
+const HEAD = /^checked (\d+) assertions\n/;
+const LAST = /^end gcs 1 violations (\d+)$/;
+const CARRIED = path.join(__dirname, 'recorders.zip');
+const OF_REPOSITORY = path.join(__dirname, '..', '..');
+
+/** Writes a snapshot of the heap, and has it read and audited by processes of their own. */
+async function check(lines, options) {
+  const keep = options.keep ?? process.env.GCAUDIT_KEEP;
+  const folder = newFolder(keep);
+  try {
+    await audit(lines, options, folder, keep ? `\nThe snapshot, its trace and the report are in ${folder}` : '');
+  } finally {
+    if (!keep) {
+      fs.rmSync(folder, { recursive: true, force: true });
+    }
+  }
+}
+
+function newFolder(keep) {
+  try {
+    if (keep) {
+      fs.mkdirSync(keep, { recursive: true });
+      return fs.mkdtempSync(path.join(path.resolve(keep), 'audit-'));
+    }
+    return fs.mkdtempSync(path.join(os.tmpdir(), 'gcaudit-'));
+  } catch (error) {
+    throw new HeapAuditError(`no folder for the heap snapshot can be made: ${error.message}`, { cause: error });
+  }
+}
+
+async function audit(lines, options, folder, where) {
+  const snapshot = path.join(folder, 'heap.heapsnapshot');
+  try {
+    fs.writeFileSync(path.join(folder, 'marks.jsonl'), lines.map((line) => `${JSON.stringify(line)}\n`).join(''));
+    v8.writeHeapSnapshot(snapshot);
+  } catch (error) {
+    throw new HeapAuditError(`no heap snapshot could be written: ${error.message}`, { cause: error });
+  }
+  const status = await run(snapshot, options, folder);
+  const said = fs.readFileSync(path.join(folder, 'report.txt'), 'utf8');
+  const last = LAST.exec(lastLine(said));
+  const isWhole = last !== null && Number(HEAD.exec(said)?.[1]) === lines.length;
+  if (!isWhole || (status !== 0 && status !== 1) || (status === 0) !== (last[1] === '0')) {
+    const reason = lastLine(fs.readFileSync(path.join(folder, 'errors.txt'), 'utf8')) || 'nothing was said';
+    throw new HeapAuditError(`the heap could not be audited (status ${status}): ${reason}${where}`);
+  }
+  if (status === 1) {
+    const report = said.replace(HEAD, '');
+    throw new HeapViolation(`gcaudit found a violation:\n${report.trim()}${where}`, report);
+  }
+}
+
+function lastLine(text) {
+  return text.trimEnd().split('\n').pop();
+}
+
+/** Runs the reader of snapshots, which runs gcaudit. The answer is its status. */
+function run(snapshot, options, folder) {
+  const python = options.python ?? process.env.GCAUDIT_PYTHON ?? 'python3';
+  const seconds = Number(options.seconds ?? process.env.GCAUDIT_SECONDS ?? MOST_SECONDS);
+  const words = ['-B', '-m', 'heapsnapshot_to_trace.marked', snapshot, path.join(folder, 'marks.jsonl'), path.join(folder, 'heap.jsonl')];
+  const files = ['report.txt', 'errors.txt'].map((name) => fs.openSync(path.join(folder, name), 'w'));
+  return new Promise((resolve, reject) => {
+    const child = spawn(python, words, { stdio: ['ignore', ...files], env: environment(options) });
+    let isLate = false;
+    const timer = setTimeout(() => {
+      isLate = true;
+      child.kill('SIGKILL');
+    }, seconds * 1000);
+    child.on('error', (error) => {
+      clearTimeout(timer);
+      reject(new HeapAuditError(`Python could not be run, which reads the snapshot: put its path into the variable GCAUDIT_PYTHON (${error.message})`));
+    });
+    child.on('close', (status, signal) => {
+      clearTimeout(timer);
+      if (isLate) {
+        reject(new HeapAuditError(`the heap was not audited within ${seconds} seconds; the variable GCAUDIT_SECONDS allows more`));
+      } else {
+        resolve(status ?? signal);
+      }
+    });
+  }).finally(() => files.forEach((file) => fs.closeSync(file)));
+}
+
+/** The environment of the reader: with the recorders that are named, else those that the package or the repository has. */
+function environment(options) {
+  const found = { ...process.env };
+  let place = options.recorders ?? process.env.GCAUDIT_RECORDERS;
+  if (place === undefined) {
+    place = [CARRIED, path.join(OF_REPOSITORY, 'heapsnapshot_to_trace')].find((one) => fs.existsSync(one));
+    place = place === CARRIED || place === undefined ? place : OF_REPOSITORY;
+  }
+  if (place !== undefined) {
+    found.PYTHONPATH = found.PYTHONPATH ? path.resolve(place) + path.delimiter + found.PYTHONPATH : path.resolve(place);
+  }
+  if (options.program !== undefined) {
+    found.GCAUDIT = path.resolve(options.program);
+  }
+  return found;
+}
+
+module.exports = { check };

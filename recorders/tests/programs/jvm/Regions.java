@@ -1,0 +1,70 @@
+import gcaudit.HeapAudit;
+import gcaudit.HeapViolation;
+import java.util.ArrayList;
+import java.util.List;
+
+/** Regions: of requests that leave nothing, of one that leaves entries in a log, nested ones, and with what may stay. */
+public class Regions {
+    static final class Entry { }
+
+    static final class Outer { }
+
+    static final class Scratch { }
+
+    static final List<Object> LOG = new ArrayList<>(100);
+
+    static void handle(int entries) {
+        Scratch scratch = new Scratch();
+        for (int number = 0; number < entries; number++) {
+            LOG.add(new Entry());
+        }
+        scratch.hashCode();
+    }
+
+    static void print(HeapAudit audit) {
+        try {
+            audit.check();
+            System.out.println("clean");
+        } catch (HeapViolation violation) {
+            System.out.println(violation.report());
+        }
+    }
+
+    public static void main(String[] words) {
+        handle(1);
+        LOG.add(new Outer());
+        try (HeapAudit audit = HeapAudit.start(); HeapAudit.Region warm = audit.region()) { }
+        try (HeapAudit audit = HeapAudit.start()) {
+            try (HeapAudit.Region region = audit.region()) {
+                handle(0);
+            }
+            print(audit);
+        }
+        System.out.println("----");
+        try (HeapAudit audit = HeapAudit.start()) {
+            try (HeapAudit.Region region = audit.region()) {
+                handle(3);
+            }
+            print(audit);
+        }
+        System.out.println("----");
+        try (HeapAudit audit = HeapAudit.start()) {
+            try (HeapAudit.Region outer = audit.region("Regions$Entry")) {
+                LOG.add(new Outer());
+                try (HeapAudit.Region inner = audit.region("Regions$Entry")) {
+                    handle(3);
+                }
+            }
+            print(audit);
+        }
+        System.out.println("----");
+        LOG.clear();
+        try (HeapAudit audit = HeapAudit.start()) {
+            try (HeapAudit.Region region = audit.region()) {
+                handle(3);
+            }
+            LOG.clear();
+            print(audit);
+        }
+    }
+}

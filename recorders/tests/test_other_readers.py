@@ -1,0 +1,142 @@
+"""What is reached in dumps, against other readers of them: VisualVM's library, the JVM's own histogram, and a plain reading of snapshots."""
+import json
+import os
+import re
+import subprocess
+import unittest
+from collections import Counter
+from unittest import mock
+
+from gcaudit_trace.graphs.dominators import kept_alone
+from gcaudit_trace.progress import Progress
+from heapsnapshot_to_trace.convert import graph_of as graph_of_snapshot
+from hprof_to_trace.convert import graph_of
+from tests.support import PROGRAMS, InFolder, needs_commands
+from tests.test_dumps import dump_java
+
+LIBRARY = "/usr/share/visualvm/visualvm/modules/org-graalvm-visualvm-lib-jfluid-heap.jar"
+OF_JAVA = [
+    ("SessionLeak", "leak"),
+    ("SessionLeak", "clean"),
+    ("SessionLeak", "leak", "500"),
+    ("Leaks",),
+    ("MoreLeaks",),
+    ("Subclasses", "leak"),
+    ("Subclasses", "clean"),
+    ("Growing", "1"),
+    ("HoldsCompiler", "1"),
+    ("PluginLeaks",),
+]
+OF_NODE = [
+    ("session_leak.js", "leak", "DUMP"),
+    ("session_leak.js", "clean", "DUMP"),
+    ("session_leak.js", "leak", "DUMP", "2000"),
+    ("leaks.js", "DUMP"),
+    ("subclasses.js", "leak", "DUMP"),
+    ("subclasses.js", "clean", "DUMP"),
+    ("growing.js", "DUMP", "1"),
+    ("growing.js", "DUMP", "2"),
+    ("more_leaks.js", "DUMP"),
+    ("more_leaks.js", "DUMP", "clean"),
+]
+
+
+def counts(graph):
+    """By type all objects, and those that roots reach; without the classes themselves."""
+    names = [Counter(map(graph.type_of, nodes)) for nodes in (range(len(graph)), kept_alone(graph).order)]
+    return [Counter({name: count for name, count in one.items() if not name.startswith("class ")}) for one in names]
+
+
+@needs_commands("java", "javac", "jcmd")
+class Java(InFolder):
+    def setUp(self):
+        super().setUp()
+        names = sorted({words[0] for words in OF_JAVA})
+        sources = [os.path.join(PROGRAMS, name + ".java") for name in names]
+        if subprocess.run(["javac", "-Xlint:none", "-d", self.folder, *sources], stderr=subprocess.DEVNULL).returncode:
+            self.skipTest("the compiler knows no records")
+
+    def counts_of(self, dump):
+        with open(dump, "rb") as file:
+            return counts(graph_of(file, dump, Progress("test")))
+
+    @unittest.skipUnless(os.path.exists(LIBRARY), "VisualVM is not there (Debian: visualvm)")
+    def test_visualvm(self):
+        """As many objects of each class, and all that VisualVM reaches is reached. More is: VisualVM doesn't know each root of a dump."""
+        source = os.path.join(PROGRAMS, "ReachedByVisualVM.java")
+        subprocess.run(["javac", "-Xlint:none", "-cp", LIBRARY, "-d", self.folder, source], check=True, timeout=300)
+        for words in OF_JAVA:
+            dump = dump_java(self.folder, "-".join(words), *words[1:], main=words[0])
+            command = ["java", "-cp", self.folder + os.pathsep + LIBRARY, "ReachedByVisualVM", dump]
+            said = subprocess.run(command, stdout=subprocess.PIPE, check=True, timeout=600).stdout.decode()
+            found, reached = Counter(), Counter()
+            for line in said.splitlines():
+                name, count, of_these = line.rsplit(" ", 2)
+                found[name] += int(count)
+                reached[name] += int(of_these)
+            all_of_them, ours = self.counts_of(dump)
+            self.assertEqual(+all_of_them, +found, words)
+            self.assertEqual(reached - ours, Counter(), words)
+            os.unlink(dump)
+
+    def test_the_histogram_of_the_jvm(self):
+        """The classes of the program have as many objects as the JVM itself counts."""
+        histogram = os.path.join(self.folder, "histogram")
+        run = subprocess.run
+
+        def dump_and_count(words, *more, **named):
+            done = run(words, *more, **named)
+            if words[0] == "jcmd":
+                with open(histogram, "wb") as file:
+                    run(["jcmd", words[1], "GC.class_histogram"], stdout=file, check=True, timeout=120)
+            return done
+
+        with mock.patch("subprocess.run", dump_and_count):
+            dump = dump_java(self.folder, "dump", main="MoreLeaks")
+        with open(histogram) as file:
+            lines = re.findall(r"^ *\d+: +(\d+) +\d+ +(MoreLeaks\S*)", file.read(), re.MULTILINE)
+        wanted = Counter({name: int(count) for count, name in lines})
+        self.assertGreater(len(wanted), 20)
+        found = self.counts_of(dump)[0]
+        self.assertEqual(
+            {name: found[name] for name in wanted if "Lambda" not in name},
+            {name: count for name, count in wanted.items() if "Lambda" not in name},
+        )
+
+
+@needs_commands("node")
+class Node(InFolder):
+    def test_a_plain_reading(self):
+        """As many objects, and as many reached, as by the meaning of the format: all edges but weak ones, from the first node on."""
+        for words in OF_NODE:
+            dump = self.path("dump")
+            command = [
+                "node",
+                os.path.join(PROGRAMS, words[0]),
+                *(dump if word == "DUMP" else word for word in words[1:]),
+            ]
+            subprocess.run(command, check=True, timeout=300, stdout=subprocess.PIPE)
+            with open(dump) as file:
+                found = json.load(file)
+            meta, numbers, edges = found["snapshot"]["meta"], found["nodes"], found["edges"]
+            width, edge_width = len(meta["node_fields"]), len(meta["edge_fields"])
+            weak = meta["edge_types"][0].index("weak")
+            count_at = meta["node_fields"].index("edge_count")
+            held, at = [], 0
+            for start in range(0, len(numbers), width):
+                end = at + edge_width * numbers[start + count_at]
+                held.append([edges[edge + 2] // width for edge in range(at, end, edge_width) if edges[edge] != weak])
+                at = end
+            reached, work = set(), [0]
+            while work:
+                node = work.pop()
+                if node not in reached:
+                    reached.add(node)
+                    work += held[node]
+            with open(dump, "rb") as file:
+                graph = graph_of_snapshot(file, dump, Progress("test"))
+            self.assertEqual((len(graph), len(kept_alone(graph).order)), (len(held) - 1, len(reached) - 1), words)
+
+
+if __name__ == "__main__":
+    unittest.main()
