@@ -62,7 +62,7 @@ class Java(InFolder):
 
     @unittest.skipUnless(os.path.exists(LIBRARY), "VisualVM is not there (Debian: visualvm)")
     def test_visualvm(self):
-        """As many objects of each class, and all that VisualVM reaches is reached. More is: VisualVM doesn't know each root of a dump."""
+        """As many objects of each class, and all that VisualVM reaches is reached. What is reached beyond that isn't compared."""
         source = os.path.join(PROGRAMS, "ReachedByVisualVM.java")
         subprocess.run(["javac", "-Xlint:none", "-cp", LIBRARY, "-d", self.folder, source], check=True, timeout=300)
         for words in OF_JAVA:
