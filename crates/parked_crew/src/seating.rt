@@ -9,10 +9,7 @@ use crate::task_share::JobShare;
 use heap_base::OutOfMemory;
 use std::alloc::Global;
 use std::sync::Arc;
-use steal_pool::{FirstTasks, Job, Outbox, Task};
-
-/// Threads pay for a run that may have so many tasks at a worker.
-const MANY_TASKS: u64 = 1_000;
+use steal_pool::{FirstTasks, Job, Outbox, Task, ThreadCost};
 
 /// Where the shares of a run are made, and what all of them have.
 #[derive(Clone, Copy)]
@@ -20,6 +17,7 @@ pub struct Seating<'a, S, G> {
     pub alloc: Global,
     pub shared: &'a Arc<S>,
     pub gate: &'a Arc<G>,
+    pub cost: ThreadCost,
 }
 
 // The share of the worker with this number at the beginning of a run.
@@ -42,7 +40,7 @@ fn seat<S: Sync + Drop, J: Job<S> + Drop, G: Drop>(
         gate: Arc::try_clone(seating.gate)?,
         number,
         begun: 0,
-        is_large: room >= MANY_TASKS,
+        is_large: room >= seating.cost.second,
     })
 }
 

@@ -17,7 +17,7 @@ use heap_base::OutOfMemory;
 use std::alloc::Global;
 use std::sync::{Arc, Wait};
 use std::thread::Threads;
-use steal_pool::{FirstTasks, Gate, Job, Task};
+use steal_pool::{FirstTasks, Gate, Job, Task, ThreadCost};
 
 // Whether a worker has a task.
 fn has_tasks<S, J, G>(shares: &[JobShare<S, J, G>]) -> bool
@@ -52,7 +52,26 @@ impl<
             crew: ParkedCrew::start(rt, alloc, workers)?,
             gate,
             alloc,
+            cost: ThreadCost::usual(),
         })
+    }
+
+    /// The same crew, whose threads cost so much: those of a run that has fewer tasks than pay for a second thread stay parked.
+    pub fn with_cost(self, cost: ThreadCost) -> Residents<S, J, G>
+        ensures { workers_of result ≡ workers_of self }
+    {
+        let Residents {
+            crew,
+            gate,
+            alloc,
+            cost: _,
+        } = self;
+        Residents {
+            crew,
+            gate,
+            alloc,
+            cost,
+        }
     }
 
     /// How many workers it has.
@@ -91,6 +110,7 @@ impl<
             alloc,
             shared,
             gate: &self.gate,
+            cost: self.cost,
         };
         let mut shares = seat_all(&seating, jobs, first)?;
         let mut tasks = Vec::new(alloc);
@@ -110,6 +130,7 @@ impl<
             crew,
             gate: _,
             alloc: _,
+            cost: _,
         } = self;
         crew.end(rt);
     }

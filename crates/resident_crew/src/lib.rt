@@ -15,4 +15,4 @@ pub use marking::trace_resident;
 pub use parked_crew::Residents;
 pub use phases::TraceCrew;
 pub use scan::ResidentScan;
-pub use top_call::audit_resident;
+pub use top_call::{ResidentSetup, audit_resident, audit_resident_with};

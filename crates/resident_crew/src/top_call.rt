@@ -16,7 +16,7 @@ use parked_crew::Residents;
 use std::alloc::Global;
 use std::sync::{Arc, Wait};
 use std::thread::Threads;
-use steal_pool::Gate;
+use steal_pool::{Gate, ThreadCost};
 use streams::{Sink, Source};
 use trace_reader::LineReader;
 use trace_run::refuse_words;
@@ -43,12 +43,52 @@ pub fn audit_resident<
         let new = outside_of (stream_of S.left S.faults source.new) (stream_of K.held K.faults sink.new) in
         workers_by (map (λ w. w.now) words.now) ≡ None → (source.new ≡ source.old) × RefusesWords old new result }
 {
+    let setup = ResidentSetup {
+        rt,
+        alloc,
+        gate,
+        cost: ThreadCost::usual(),
+    };
+    audit_resident_with(setup, words, source, sink)
+}
+
+/// What an audit by workers that stay parked is made with, beside its command line and its streams.
+#[derive(Drop)]
+pub struct ResidentSetup<'a, R, G> {
+    pub rt: &'a R,
+    pub alloc: Global,
+    pub gate: Arc<G>,
+    pub cost: ThreadCost,
+}
+
+/// The same audit by workers whose threads cost so much.
+pub fn audit_resident_with<
+    'a,
+    R: Threads + Wait + Clone + Drop + Send + Sync + 'static,
+    S: Source,
+    K: Sink,
+    G: Gate + Send + Drop + 'static,
+>(setup: ResidentSetup<'a, R, G>, words: &[&str], source: &mut S, sink: &mut K) -> Status
+    ensures taken { let old = outside_of (stream_of S.left S.faults source.old) (stream_of K.held K.faults sink.old) in
+        let new = outside_of (stream_of S.left S.faults source.new) (stream_of K.held K.faults sink.new) in
+        (workers : ℕ) → workers_by (map (λ w. w.now) words.now) ≡ Some workers → EndsAs old new result }
+    ensures refused { let old = outside_of (stream_of S.left S.faults source.old) (stream_of K.held K.faults sink.old) in
+        let new = outside_of (stream_of S.left S.faults source.new) (stream_of K.held K.faults sink.new) in
+        workers_by (map (λ w. w.now) words.now) ≡ None → (source.new ≡ source.old) × RefusesWords old new result }
+{
+    let ResidentSetup {
+        rt,
+        alloc,
+        gate,
+        cost,
+    } = setup;
     let Some(workers) = workers_by(words) else {
         return refuse_words(USAGE, sink);
     };
-    let Ok(mut crew) = Residents::start(rt, alloc, workers, gate) else {
+    let Ok(crew) = Residents::start(rt, alloc, workers, gate) else {
         return Status::NoMemory;
     };
+    let mut crew = crew.with_cost(cost);
     let plan = Plan {
         alloc,
         workers,

@@ -5,7 +5,7 @@ use Rattle.trace_run.specs.Outcome.{trace_report}
 use Rattle.trace_run.proofs.Endings.{nothing_written}
 use Rattle.trace_run.specs.Audits.{audit_report}
 use Rattle.resident_crew.specs.Outcome.{rules}
-use Rattle.resident_crew.proofs.top_call.audit_resident.Goals as goal
+use Rattle.resident_crew.proofs.top_call.audit_resident_with.Goals as goal
 
 pub returns-in_default-clause-refused : goal.returns-in_default-clause-refused
 returns-in_default-clause-refused g c =
