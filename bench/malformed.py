@@ -1,7 +1,7 @@
 #!/usr/bin/env python3
 """Compares what gcaudit says of malformed traces with an independent reading of them.
 
-Usage: bench/malformed.py [--count N] [--first SEED] [--workers N ..] [--processes N] [--program FILE]
+Usage: bench/malformed.py [--count N] [--first SEED] [--workers N ..] [--processes N] [--program FILE [--first-argument ARGUMENT]]
        bench/malformed.py --show SEED
 
 Each trace is made from its seed alone and has some ten lines, of which mostly one or several are odd or malformed: bytes are changed, put in,
@@ -12,7 +12,7 @@ of bench/random_traces.py takes the operations. The whole report and the status 
 --first SEED      from this seed on (1)
 --workers N ..    each trace with each of these numbers of workers (1)
 --processes N     how many run at a time (one for each processor)
---program FILE    this program in place of the one that scripts/build_program built
+--program FILE    this program in place of the one that scripts/build_program built; --first-argument stands before its other arguments
 --show SEED       writes the trace of this seed and compares nothing
 gcaudit must be built, and cargo must be able to build bench/plain_rust. Nothing here is part of the gate.
 """
@@ -511,7 +511,7 @@ class Work(NamedTuple):
     """The traces of so many seeds from the first on."""
     first: int
     count: int
-    program: str
+    command: list
     plain: str
     workers: list
 
@@ -557,7 +557,7 @@ def compare(work):
         found.ends[end_of(lines)] += 1
         wanted = "".join(line + "\n" for line in lines).encode()
         for workers in work.workers:
-            if difference := differs([work.program, "--workers", str(workers)], trace, wanted, status):
+            if difference := differs([*work.command, "--workers", str(workers)], trace, wanted, status):
                 found.wrong.append(f"seed {seed}, {workers} workers: {difference}")
     return found
 
@@ -572,6 +572,7 @@ def read_words():
     parser.add_argument("--workers", type=int, nargs="+", default=[1])
     parser.add_argument("--processes", type=int, default=os.cpu_count())
     parser.add_argument("--program", default=PROGRAM)
+    parser.add_argument("--first-argument")
     parser.add_argument("--show", type=int)
     return parser.parse_args()
 
@@ -583,8 +584,9 @@ def main():
         return
     need_programs(options.program)
     plain = os.path.join(os.path.dirname(need_plain_rust("nearest_float")), "plain_lines")
+    command = [options.program] if options.first_argument is None else [options.program, options.first_argument]
     past = options.first + options.count
-    batches = [Work(first, min(BATCH, past - first), options.program, plain, options.workers) for first in range(options.first, past, BATCH)]
+    batches = [Work(first, min(BATCH, past - first), command, plain, options.workers) for first in range(options.first, past, BATCH)]
     ends, wrong = collections.Counter(), 0
     with multiprocessing.Pool(options.processes) as pool:
         for found in pool.imap(compare, batches):

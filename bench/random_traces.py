@@ -1,8 +1,9 @@
 #!/usr/bin/env python3
 """Compares the built program with a plain reading of the definitions, on random traces of all operations.
 
-Usage: bench/random_traces.py [gcminor|gccheck|plain_rust] [COUNT] [FIRST_SEED]     (1,000 traces from seed 1 where nothing is said)
-With the word gcminor it compares that program in place of gcaudit, on traces of what it takes. With gccheck it has the reports of gcaudit checked, with one
+Usage: bench/random_traces.py [tests_programs|gcminor|gccheck|plain_rust] [COUNT] [FIRST_SEED]     (1,000 traces from seed 1 where nothing is said)
+With the word tests_programs it compares the auditor for which further workers cost nothing in place of gcaudit. With the word gcminor it compares that
+program, on traces of what it takes. With gccheck it has the reports of gcaudit checked, with one
 number of workers each, and once more with a byte changed, whose place must be named. With plain_rust it compares the program of bench/plain_rust, on
 traces of which no line is refused.
 Each trace is made from its seed alone, so a seed that is printed can be run again. It has some hundred operations of
@@ -22,6 +23,7 @@ from run import need_plain_rust, need_programs
 
 TOP = os.path.dirname(os.path.dirname(os.path.abspath(__file__)))
 PROGRAM = os.path.join(TOP, "crates", "gcaudit", "out", "gcaudit")
+TESTS_PROGRAMS = os.path.join(TOP, "crates", "tests_programs", "out", "tests_programs")
 CHECKER = os.path.join(TOP, "crates", "gccheck", "out", "gccheck")
 MINOR_PROGRAM = os.path.join(TOP, "crates", "gcminor", "out", "gcminor")
 WORKERS = (1, 2, 3, 16)
@@ -484,11 +486,11 @@ def minor_main(count, first):
 # ---- comparing
 
 
-def differs(words, trace, expected):
-    """Runs the program with these words and each number of workers, and says where it first differs, or None."""
+def differs(command, words, trace, expected):
+    """Runs the command with these words and each number of workers, and says where it first differs, or None."""
     lines, status = expected
     for workers in WORKERS:
-        run = subprocess.run([PROGRAM, "--workers", str(workers), *words], input=trace, capture_output=True, timeout=120)
+        run = subprocess.run([*command, "--workers", str(workers), *words], input=trace, capture_output=True, timeout=120)
         if (run.stdout, run.returncode) != (("\n".join(lines) + "\n").encode(), status):
             for got, want in zip(run.stdout.decode().splitlines(), lines):
                 if got != want:
@@ -549,22 +551,25 @@ def main():
         need_programs(*programs)
         numbers = [int(word) for word in sys.argv[2:4]]
         compare(*(numbers + [1000, 1][len(numbers):]))
-    need_programs(PROGRAM)
-    count = int(sys.argv[1]) if len(sys.argv) > 1 else 1000
-    first = int(sys.argv[2]) if len(sys.argv) > 2 else 1
+    words, command = sys.argv[1:], [PROGRAM]
+    if words and words[0] == "tests_programs":
+        words, command = words[1:], [TESTS_PROGRAMS, "gcaudit"]
+    need_programs(command[0])
+    count = int(words[0]) if words else 1000
+    first = int(words[1]) if len(words) > 1 else 1
     wrong = verdicts = 0
     for seed in range(first, first + count):
         events = random_trace(seed)
         react, paths = REACTIONS[seed % 3], PATHS if seed % 5 else seed % 7
         expected = report_of(events, paths, react)
         verdicts += sum(1 for l in expected[0] if l.startswith("gc ") and " live " not in l)
-        if difference := differs(["--react", react, "--paths", str(paths)], as_lines(events), expected):
+        if difference := differs(command, ["--react", react, "--paths", str(paths)], as_lines(events), expected):
             wrong += 1
             print(f"seed {seed}, {react}, {paths} paths, {difference}")
     for number in range(first, first + 40):
         size, react = 1 + number * 7 % 200, REACTIONS[number % 3]
         expected = report_of(list(generated(number, size)), PATHS, react)
-        if difference := differs(["--gen", str(number), "--size", str(size), "--react", react], b"", expected):
+        if difference := differs(command, ["--gen", str(number), "--size", str(size), "--react", react], b"", expected):
             wrong += 1
             print(f"--gen {number} --size {size}, {react}, {difference}")
     print(f"{count} traces from seed {first} and 40 generated ones, each with {', '.join(map(str, WORKERS))} workers: {verdicts} verdicts, {wrong} wrong")

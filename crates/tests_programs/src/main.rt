@@ -1,0 +1,111 @@
+//! The auditors as tests run them: further workers cost nothing, so each worker that is asked for has a thread, and each line that can be is
+//! read before its turn, however small a trace is. The first argument says what runs, and takes the place of the program's name: `gcaudit`,
+//! `gcresident`, or `orders`, which audits traces that are drawn from numbers, in orders of the workers' steps that are drawn too. Nobody
+//! installs it.
+#![tactic(auto)]
+
+mod audited;
+mod draws;
+mod host;
+mod orders;
+mod schedule;
+mod summary;
+mod traces;
+
+use audit_run::{Costs, Setup, audit_with};
+use console::{Messages, Options, run_program};
+use heap_base::Status;
+use host::Host;
+use orders::run_orders;
+use resident_crew::{ResidentSetup, audit_resident_with};
+use settings::AUDIT_OPTIONS;
+use std::process::ExitCode;
+use std::sync::{Arc, Wait};
+use std::thread::Threads;
+use steal_pool::{OpenGate, ThreadCost};
+use streams::{Sink, Source, put_all};
+
+const PROGRAM: &str = "tests_programs";
+
+const USAGE: &[u8] = b"usage: tests_programs gcaudit|gcresident .. | orders FIRST COUNT\n";
+
+/// What a person is told of an argument that is refused.
+const OPTIONS: Options = Options {
+    program: PROGRAM,
+    ..AUDIT_OPTIONS
+};
+
+fn main(rt: HostRuntime) -> ExitCode {
+    run_program(
+        &rt,
+        Messages::of_report(PROGRAM),
+        |words, source, sink| {
+            let host = Host {
+                rt: &rt,
+                alloc: rt.alloc(),
+            };
+            run_named(&host, words, source, sink)
+        },
+        |words| OPTIONS.tell_refused(&rt, words.get(1..).unwrap_or(&[])),
+    )
+}
+
+// Runs what the first argument names on the arguments from there on.
+fn run_named<'a, R: Threads + Wait + Clone + Drop + Send + Sync + 'static, S: Source, K: Sink>(
+    host: &Host<'a, R>,
+    words: &[&str],
+    source: &mut S,
+    sink: &mut K,
+) -> Status {
+    match words {
+        [_, named @ ..] => match named {
+            [name, ..] if *name == "gcaudit" => audit(host, named, source, sink),
+            [name, ..] if *name == "gcresident" => audit_resident(host, named, source, sink),
+            [name, first, count] if *name == "orders" => run_orders(host, first, count, sink),
+            _ => refuse(sink),
+        },
+        [] => refuse(sink),
+    }
+}
+
+fn audit<'a, R: Threads + Sync, S: Source, K: Sink>(
+    host: &Host<'a, R>,
+    words: &[&str],
+    source: &mut S,
+    sink: &mut K,
+) -> Status {
+    let Host { rt, alloc } = *host;
+    let setup = Setup {
+        rt,
+        alloc,
+        gate: &OpenGate,
+        costs: Costs::none(),
+    };
+    audit_with(setup, words, source, sink)
+}
+
+fn audit_resident<'a, R: Threads + Wait + Clone + Drop + Send + Sync + 'static, S: Source, K: Sink>(
+    host: &Host<'a, R>,
+    words: &[&str],
+    source: &mut S,
+    sink: &mut K,
+) -> Status {
+    let Host { rt, alloc } = *host;
+    let Ok(gate) = Arc::new(alloc, OpenGate) else {
+        return Status::NoMemory;
+    };
+    let setup = ResidentSetup {
+        rt,
+        alloc,
+        gate,
+        cost: ThreadCost::none(),
+    };
+    audit_resident_with(setup, words, source, sink)
+}
+
+fn refuse<K: Sink>(sink: &mut K) -> Status {
+    match put_all(sink, USAGE) {
+        Ok(()) => Status::Usage,
+        Err(_) => Status::WriteFault,
+    }
+}
