@@ -1,3 +1,5 @@
+mod agreements;
+mod by_hand;
 mod calls;
 mod day;
 mod faults;

@@ -1,8 +1,8 @@
-//! Two workers at a collection, each on a thread of its own: gates that hold the one until the other has gone on.
-//! Their heap has 140,002 objects: two workers trace one of 131,072 cells or more, and a crew of two has two threads where a worker may
-//! have 1,000 tasks or more. A smaller heap is traced by one worker.
+//! Two workers at a collection, each on a thread of its own: gates that hold the one until the other has gone on. Small heaps are traced by two
+//! workers that cost nothing. `audit` has two workers for a heap of 131,072 cells or more, and a crew of two has two threads where a worker may
+//! have 1,000 tasks or more; a smaller heap is traced by one.
 
-use audit_run::audit;
+use audit_run::{Costs, Setup, audit_with};
 use heap_base::Status;
 use std::alloc::Global;
 use std::process::Abort;
@@ -40,35 +40,42 @@ fn report_on(alloc: Global, objects: u32) -> Result<String, Fail> {
     Ok(format!(in alloc; "gc 1 live {objects} traced {objects} freed 0\nend gcs 1 violations 0\n")?)
 }
 
-/// Audits a family of so many children with two workers at most, by this gate.
+/// Audits a trace with two workers at most, which cost so much, by this gate.
 fn expect_report<R: Threads + Abort + Sync, G: Gate>(
-    rt: &R,
-    alloc: Global,
-    children: u32,
-    gate: &G,
+    setup: Setup<'_, R, G>,
+    trace: &str,
+    objects: u32,
 ) -> Result<(), Fail> {
-    let trace = family(alloc, children)?;
+    let Setup { rt, alloc, .. } = setup;
     let mut source = MemSource::make(alloc, trace.as_bytes(), 4096, &[])?;
     let mut sink = MemSink::make(alloc, 4096, 4096, &[])?;
     let words = ["gcaudit", "--workers", "2"];
-    let status = audit(rt, alloc, &words, &mut source, &mut sink, gate);
+    let status = audit_with(setup, &words, &mut source, &mut sink);
     assert_eq!(rt; status, Status::Clean);
-    let report = report_on(alloc, children.saturating_add(2))?;
+    let report = report_on(alloc, objects)?;
     assert_eq!(rt; sink.bytes(), report.as_bytes());
     Ok(())
 }
 
-/// Audits the family with two workers that are held so. No worker is to give up.
+/// Audits the trace with two workers that cost nothing and are held so. No worker is to give up.
 fn expect_held<R: Threads + Abort + Sync>(
     rt: &R,
     alloc: Global,
     holds: &[Hold],
+    trace: &str,
+    objects: u32,
 ) -> Result<(), Fail> {
     let gate = Holding {
         holds,
         watch: Watch::new(),
     };
-    expect_report(rt, alloc, 140_000, &gate)?;
+    let setup = Setup {
+        rt,
+        alloc,
+        gate: &gate,
+        costs: Costs::none(),
+    };
+    expect_report(setup, trace, objects)?;
     assert!(rt; !gate.watch.gave_up());
     Ok(())
 }
@@ -76,13 +83,24 @@ fn expect_held<R: Threads + Abort + Sync>(
 /// Each worker is held in its first task until the other has begun one.
 #[test]
 fn both_workers_begin(rt: HostRuntime) -> Result<(), Fail> {
-    expect_held(&rt, rt.alloc(), &UNTIL_BOTH_BEGIN)
+    let trace = family(rt.alloc(), 1_000)?;
+    expect_held(&rt, rt.alloc(), &UNTIL_BOTH_BEGIN, &trace, 1_002)
 }
 
-/// Worker 1 begins before worker 0 goes on, and is held in its only task until worker 0 has begun three.
+/// Worker 0 begins with a chain of three objects, and worker 1 with an object that holds nothing, in which it is held until worker 0 has begun
+/// three tasks.
 #[test]
 fn a_worker_goes_on_while_another_is_held(rt: HostRuntime) -> Result<(), Fail> {
-    expect_held(&rt, rt.alloc(), &until_many_are_begun(3))
+    let trace = "{\"op\":\"alloc\",\"id\":1,\"type\":\"A\",\"slots\":1}\n\
+         {\"op\":\"alloc\",\"id\":2,\"type\":\"A\",\"slots\":1}\n\
+         {\"op\":\"alloc\",\"id\":3,\"type\":\"A\"}\n\
+         {\"op\":\"alloc\",\"id\":4,\"type\":\"B\"}\n\
+         {\"op\":\"store\",\"at\":1,\"slot\":0,\"to\":2}\n\
+         {\"op\":\"store\",\"at\":2,\"slot\":0,\"to\":3}\n\
+         {\"op\":\"root\",\"name\":\"a\",\"to\":1}\n\
+         {\"op\":\"root\",\"name\":\"b\",\"to\":4}\n\
+         {\"op\":\"collect\"}\n";
+    expect_held(&rt, rt.alloc(), &until_many_are_begun(3), trace, 4)
 }
 
 /// Worker 0 is held in its second task, while its other tasks wait, until worker 1 has begun a second. Worker 1 got one
@@ -101,17 +119,44 @@ fn a_waiting_task_is_stolen(rt: HostRuntime) -> Result<(), Fail> {
             until: 2,
         },
     ];
-    expect_held(&rt, rt.alloc(), &holds)
+    let trace = family(rt.alloc(), 1_000)?;
+    expect_held(&rt, rt.alloc(), &holds, &trace, 1_002)
+}
+
+// How many tasks each of two workers of the usual cost begins, of a family of so many children.
+fn begun_by_each<R: Threads + Abort + Sync>(
+    rt: &R,
+    alloc: Global,
+    children: u32,
+    holds: &[Hold],
+) -> Result<(u64, u64), Fail> {
+    let gate = Holding {
+        holds,
+        watch: Watch::new(),
+    };
+    let setup = Setup {
+        rt,
+        alloc,
+        gate: &gate,
+        costs: Costs::usual(),
+    };
+    expect_report(setup, &family(alloc, children)?, children.saturating_add(2))?;
+    assert!(rt; !gate.watch.gave_up());
+    Ok((gate.watch.begun(0), gate.watch.begun(1)))
+}
+
+/// Of a heap of 140,002 objects each worker is held in its first task until the other has begun one.
+#[test]
+fn a_large_heap_is_traced_by_both_workers(rt: HostRuntime) -> Result<(), Fail> {
+    let (first, second) = begun_by_each(&rt, rt.alloc(), 140_000, &UNTIL_BOTH_BEGIN)?;
+    assert!(&rt; first > 0 && second > 0);
+    Ok(())
 }
 
 /// A heap of 100,002 objects is traced by one worker, which begins each of them: the other begins none.
 #[test]
 fn a_small_heap_is_traced_by_one_worker(rt: HostRuntime) -> Result<(), Fail> {
-    let gate = Holding {
-        holds: &[],
-        watch: Watch::new(),
-    };
-    expect_report(&rt, rt.alloc(), 100_000, &gate)?;
-    assert_eq!(&rt; (gate.watch.begun(0), gate.watch.begun(1)), (100_002, 0));
+    let begun = begun_by_each(&rt, rt.alloc(), 100_000, &[])?;
+    assert_eq!(&rt; begun, (100_002, 0));
     Ok(())
 }
