@@ -2,6 +2,7 @@ use crate::draws::Draws;
 use crate::host::Host;
 use crate::schedule::Schedule;
 use crate::traces::trace_of;
+use audit_core::WorkerCost;
 use audit_run::{Costs, Setup, audit_with};
 use heap_base::{OutOfMemory, Status};
 use report_check::check_run;
@@ -14,6 +15,9 @@ use streams::{MemSink, MemSource};
 
 /// How many workers an audit has: with as many as the machine has processors two steps fall together most often.
 const WORKERS: [&str; 8] = ["2", "2", "3", "3", "4", "4", "4", "16"];
+/// A worker offers the others as many of its tasks as it may, or one in so many of those that it has room for. Where it has room for few, an
+/// offer is refused.
+const OFFERS: [u64; 4] = [0, 0, 8, 1_000_000];
 /// More bytes than a report has.
 const ROOM: u32 = 1_048_576;
 
@@ -58,12 +62,16 @@ fn report_of<'a, R: Threads + Wait + Clone + Drop + Send + Sync + 'static>(
     let words = ["gcaudit", "--workers", WORKERS[draws.below(8) as usize]];
     let mut source = MemSource::make(alloc, trace, 1 + draws.below(LONGEST_READ), &[])?;
     let mut sink = MemSink::make(alloc, ROOM, ROOM, &[])?;
+    let threads = ThreadCost {
+        offer: OFFERS[draws.below(4) as usize],
+        ..ThreadCost::none()
+    };
     let status = if draws.below(4) == 0 {
         let setup = ResidentSetup {
             rt,
             alloc,
             gate: Arc::try_clone(schedule)?,
-            cost: ThreadCost::none(),
+            cost: threads,
         };
         audit_resident_with(setup, &words, &mut source, &mut sink)
     } else {
@@ -71,7 +79,13 @@ fn report_of<'a, R: Threads + Wait + Clone + Drop + Send + Sync + 'static>(
             rt,
             alloc,
             gate: &**schedule,
-            costs: Costs::none(),
+            costs: Costs {
+                workers: WorkerCost {
+                    threads,
+                    ..WorkerCost::none()
+                },
+                ..Costs::none()
+            },
         };
         audit_with(setup, &words, &mut source, &mut sink)
     };
