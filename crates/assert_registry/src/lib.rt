@@ -1,5 +1,5 @@
-//! The assertions of a trace: which objects are to be dead, unshared or owned, and how many objects of a type there may
-//! be.
+//! What a trace asserts, kept until a collection checks it: which objects are to be dead, unshared or owned, and how many
+//! objects of a type there may be. What is asserted of a region is in `region_log`.
 #![tactic(auto)]
 
 mod id_set;

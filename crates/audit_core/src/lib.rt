@@ -1,5 +1,5 @@
-//! The auditor: the heap that a trace describes, its assertions, and the collections that check them by what a crew has
-//! marked, with the verdicts of each.
+//! The auditor: a heap with its assertions, and the collections that check them. A crew of workers marks the heap, and what it
+//! marked decides the verdicts. How an operation changes the heap is in `heap_parts`.
 #![tactic(auto)]
 
 mod auditor;

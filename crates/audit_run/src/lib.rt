@@ -1,5 +1,5 @@
-//! The audit of a trace by an auditor: from the bytes of a trace to the bytes of its report, as `audit` makes it and as
-//! whoever else marks the heap does.
+//! The audit of a trace by an auditor: from the bytes of a trace to the bytes of its report. `audit` marks the heap by a crew
+//! at each collection; another program may give its own way of marking.
 #![tactic(auto)]
 
 mod auditing;

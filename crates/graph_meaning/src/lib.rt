@@ -1,5 +1,6 @@
-//! What a trace, a heap and a collection mean: the definitions that every contract of the auditor cites
-//! (in `specs/`), and the plain types that travel between its layers.
+//! What a trace, a heap and a collection mean, where every change of meaning begins. `specs/` of this crate defines what each
+//! operation does and when it is refused, what an edge is (weak slots have none), what each assertion asks, and what a collection
+//! finds. `src/` has the plain types of operations, assertions and verdicts that the layers hand to each other.
 #![tactic(auto)]
 
 mod by_cell;

@@ -1,7 +1,7 @@
-//! Header words that several threads change in single atomic steps: each word counts how often its cell was
-//! met, and has three marks above the count. Each worker steps with a pass of its own. Between any two steps of
-//! any threads, the words are those of what all passes have met, and each cell that was met was won exactly
-//! once. Where there is one pass alone, it has the words to itself, and meets by plain additions.
+//! A header word for each cell of the heap, in which workers mark and count: how often the cell was met, and three marks
+//! above the count. Several threads change it in single atomic steps, each by a pass of its own. Between any two steps the words are
+//! those of what all passes have met, and each cell that was met was won exactly once. A single worker has the words to itself, and
+//! meets by plain additions.
 #![tactic(auto)]
 
 mod closing;

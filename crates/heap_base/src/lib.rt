@@ -1,5 +1,5 @@
-//! What every crate stands on: ids, numbers and names with their limits, the statuses of the programs, want of memory,
-//! and sums over lists.
+//! What every crate stands on: the limits (how many objects, slots, roots and types, and how long names are), ids and names,
+//! the statuses of the programs, the error of memory that was refused, and sums over lists.
 #![tactic(auto)]
 
 mod errors;

@@ -1,5 +1,5 @@
-//! The parts of one heap, its table, its registry of assertions and its log of regions: each operation of a trace is the
-//! defined step on that heap, and so is the end of a collection.
+//! A heap while a trace builds it: applies each operation of a trace to the table of objects, the assertions and the regions,
+//! as its definition says, and frees what a collection didn't reach.
 #![tactic(auto)]
 
 mod assertions;

@@ -1,4 +1,4 @@
-//! The table of objects, their slots, the roots and the types.
+//! The table of objects, their slots (weak ones too), the roots and the types, and how memory for them is asked for.
 #![tactic(auto)]
 
 mod block;

@@ -1,4 +1,4 @@
-//! The owner phase and take-up: the scans from the owners, and from the ownees that these hold.
+//! The phase of marking that finds what owners hold: scans from the owners, and from the ownees that these hold.
 #![tactic(auto)]
 
 mod held;

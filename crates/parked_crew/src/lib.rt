@@ -1,7 +1,7 @@
-//! Workers that stay parked between rounds, and a crew of them that runs jobs as the crew of steal_pool does. In each round
-//! a share of the work goes to each worker, is worked off there, and comes back. A share passes through a table of atomic
-//! words of its own, so that what came back is known to be what was sent, worked off; that a worker wakes is known of no
-//! call. A run goes by rounds: in each, every worker does a list of tasks, and what was put meanwhile is dealt for the next.
+//! A crew whose workers stay parked between runs, in place of threads that are started for each: it runs jobs as the crew of
+//! `steal_pool` does. A run goes by rounds. In each round every worker does a list of tasks, and what was put meanwhile is dealt
+//! out for the next; no task is stolen. Each worker's share of a round passes through a table of atomic words of its own, so that
+//! what came back is known to be what was sent, done. No contract says that a worker wakes.
 #![tactic(auto)]
 
 mod calling;

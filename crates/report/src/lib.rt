@@ -1,5 +1,5 @@
-//! The report on the run of a trace: what a run is and how it ends, its report (both defined in `specs/`), and the texts
-//! of a collection, a fault line, a halt line and the end line.
+//! The report of a run over a trace: what a run is, how it ends and what is reported of it (defined in `specs/` of this crate),
+//! and the texts of a collection, of a refused line, of a run that an assertion halts, and of the end.
 #![tactic(auto)]
 
 mod examples;

@@ -1,5 +1,5 @@
-//! A scan: a job that meets what the slots of an object lead to, and counts, holds or puts what it wins, in three
-//! modes, one for each phase of marking.
+//! A scan: a job for a crew that follows the slots of an object (weak ones are passed over), and counts, holds or puts what it
+//! wins. It has a mode for each phase of marking: from roots, from owners, and from what owners hold.
 #![tactic(auto)]
 
 mod job;

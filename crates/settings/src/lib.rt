@@ -1,4 +1,5 @@
-//! The settings of an audit, as a command line asks for them, and what a person is told of one that is refused.
+//! The options of an audit and of its checker: what a command line asks for, and what a person is told of an option that is
+//! refused.
 #![tactic(auto)]
 
 mod command;

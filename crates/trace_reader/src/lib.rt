@@ -1,5 +1,5 @@
-//! Reads a trace: cuts its bytes into lines, and reads each line as an operation, in its turn or before it by several
-//! workers.
+//! Reads a trace: cuts its bytes into lines, and reads the JSON of each line as an operation, in its turn or before it by
+//! several workers. What an operation is stands in `graph_meaning`.
 #![tactic(auto)]
 
 mod cut;

@@ -1,6 +1,6 @@
-//! A run over a trace, whatever a program makes of it: lines are cut and read one after another, what they make due is
-//! written, a refused line ends the report with its fault line, and the status says what stands. And an audit as such a
-//! program, whoever keeps the heap and marks it.
+//! The run of a program over a trace, whatever the program makes of it: lines are read one after another, texts that are due
+//! are written, a refused line ends the report, and the status says how the run ended. An audit is such a program, whoever keeps
+//! the heap and marks it.
 #![tactic(auto)]
 
 mod ahead;
