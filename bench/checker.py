@@ -1,8 +1,8 @@
 #!/usr/bin/env python3
-"""Times gccheck beside gcaudit with one worker: the report of each trace is made, and then checked.
+"""Times gccheck against gcaudit with one worker: the report of each trace is made, and then checked.
 
 Usage: bench/checker.py [--small]     (--small: a tenth of the sizes)
-Least of five turns each, in turn. Both programs must be built. Nothing here is part of the gate.
+They take turns, five each, and the fastest time counts. Both programs must be built. Nothing here is part of the gate.
 """
 import os
 import sys

@@ -3,7 +3,7 @@
 
 Usage: bench/crew.py
 It writes the program below into a temporary folder, with copies of the crates that it uses, lets `rt` prove and
-build it there (some minutes at the first time on a machine), and runs it. Nothing here is part of the gate.
+build it there (some minutes the first time on a machine), and runs it. Nothing here is part of the gate.
 
 - Tasks: a task puts those of other cells and does nothing else. The cells are a chain, a tree, or a chain of 10,000 that
   opens into a tree; 1,000,000 in all.
@@ -11,8 +11,8 @@ build it there (some minutes at the first time on a machine), and runs it. Nothi
   owner is at its root, so nearly all is scanned with its tag.
 - Making: a crew with room for six times the cells and three, which is what a collection asks for.
 
-Each run is made five times, and the least time counts. The runs by 1, 2 and 4 workers take turns, and a ratio is the time
-by the time of one worker.
+Each run is made five times, and the fastest counts. The runs with 1, 2 and 4 workers take turns, and a ratio is the time
+divided by that of one worker.
 """
 import os
 import resource

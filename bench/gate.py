@@ -1,11 +1,11 @@
 #!/usr/bin/env python3
-"""Times a whole `rt ci` from nothing: processor time by crate and by kind, and the dearest checks of each kind.
+"""Times a whole `rt ci` from nothing: processor time by crate and by kind, and the most expensive checks of each kind.
 
 Usage: bench/gate.py [--plot FILE] [ARGUMENTS OF rt ci]     (without arguments: --anew, if this kit's rt ci has it)
-The output of rt ci comes first, unchanged. Then comes for each crate the processor time, user and system together, of its own proof, of the
-proof of it with its tests, and of its edits that must be refused. A check is a process `rattle` below rt ci, and is looked at five times a second,
-so what it does after the last look is missed. The whole time is that of the kernel: what it has more than the table is rt ci itself, programs and tests
-that ran, and what was missed. A picture of the dearest crates goes to FILE, as SVG. Linux only. Nothing here is part of the gate.
+The output of rt ci comes first, unchanged. Then comes, for each crate, the processor time (user and system together) of its own proof, of its
+proof with its tests, and of its edits that must be refused. A check is a process `rattle` below rt ci. It is sampled five times a second,
+so what it does after the last sample is missed. The whole time is that of the kernel: beyond the table it has rt ci itself, programs and tests
+that ran, and what was missed. A picture of the most expensive crates goes to FILE, as SVG. Linux only. Nothing here is part of the gate.
 """
 import collections
 import os
@@ -23,7 +23,7 @@ from run import need_commands
 TOP = Path(__file__).resolve().parent.parent
 KINDS = ("own proof", "tests", "edits", "build")
 EVERY = 0.2
-DEAREST = 5
+LISTED = 5
 PLOTTED = 15
 TICK = os.sysconf("SC_CLK_TCK")
 
@@ -161,7 +161,7 @@ def plot(path, checks):
     """The crates that took most."""
     spent = times_of(checks)
     rows = [(crate, [spent[crate, kind] / 60 for kind in KINDS[:3]]) for crate in {crate for crate, _ in spent}]
-    bars(path, "Processor minutes of a whole gate: the dearest crates", KINDS[:3], sorted(rows, key=lambda row: -sum(row[1]))[:PLOTTED])
+    bars(path, "Processor minutes of a whole gate: the most expensive crates", KINDS[:3], sorted(rows, key=lambda row: -sum(row[1]))[:PLOTTED])
 
 
 def table(checks):
@@ -177,11 +177,11 @@ def table(checks):
     yield f"| {'all':<18} | " + " | ".join(f"{clock(it):>9}" for it in (*sums, sum(sums))) + " |"
 
 
-def dearest(checks):
+def most_expensive(checks):
     for kind in KINDS:
         most = sorted((it for it in checks if it.kind == kind), key=lambda it: -it.processor)
-        yield f"The dearest of {len(most)} checks, {kind}:"
-        for check in most[:DEAREST]:
+        yield f"The most expensive of {len(most)} checks, {kind}:"
+        for check in most[:LISTED]:
             name = f"{check.crate} ({check.what})" if kind == "edits" else check.crate
             yield f"  {clock(check.processor):>6} of processors in {clock(check.last - check.first):>6}: {name}"
     longest = max(checks, key=lambda it: it.last - it.first, default=None)
@@ -210,7 +210,7 @@ def main():
     took = time.monotonic() - begun
     used = resource.getrusage(resource.RUSAGE_CHILDREN)
     checks = list(watch.checks.values())
-    print("\n".join(["", *table(checks), "", *dearest(checks), ""]))
+    print("\n".join(["", *table(checks), "", *most_expensive(checks), ""]))
     if picture:
         plot(picture, checks)
     print(f"{' '.join(['rt', 'ci', *words])} ended with status {status} after {clock(took)} on {len(os.sched_getaffinity(0))} processors;")

@@ -1,16 +1,16 @@
 #!/usr/bin/env python3
-"""Times gcaudit beside plain Rust over traces of large heaps, with 1, 2 and 4 workers.
+"""Times gcaudit against plain Rust over traces of large heaps, with 1, 2 and 4 workers.
 
 Usage: bench/heaps.py [--growth] [--only TRACE ..] [--turns N] [--scale F] [--plot FILE]
 
-Tables in Markdown go to standard output. Both programs run each trace with each number of workers, in turn, and the least time of each
-stands: by the clock, and of all processors together. Both must write the same report. "Without reading" is the time less that over as many
-lines with almost the same members, whose numbers and names are such that they change next to nothing.
+Tables in Markdown go to standard output. Both programs run each trace with each number of workers, in turn, and the fastest time of each
+counts: by the clock, and of all processors together. Both must write the same report. "Without reading" subtracts the time for as many lines
+with almost the same members, whose numbers and names are such that they change next to nothing.
 --growth       each trace at a quarter, a half and the whole of its size, with one worker
 --only TRACE   only these traces; the name is what comes before a colon in a row of the table
 --turns N      the number of turns (5)
---scale F      all sizes times so much, for a quick look (1)
---plot FILE    a picture of gcaudit's times beside those of plain Rust, as SVG
+--scale F      all sizes times this, for a quick look (1)
+--plot FILE    a picture of gcaudit's times relative to plain Rust's, as SVG
 gcaudit must be built, and cargo must be able to build bench/plain_rust. Nothing here is part of the gate.
 """
 import argparse
@@ -394,7 +394,7 @@ def compare(traces, plain, options):
         row(*cells)
     if options.plot:
         columns = [f"{workers} worker{'s' * (workers > 1)}" for workers in WORKERS]
-        bars(options.plot, "Time of gcaudit by the clock, as a part of that of plain Rust with as many workers", columns, plotted, mark=1)
+        bars(options.plot, "Time of gcaudit by the clock, relative to plain Rust with as many workers", columns, plotted, mark=1)
 
 
 def short_row(name, lines, found):
@@ -426,7 +426,7 @@ def grow(traces, plain, options):
             plotted.append((name, [later / earlier for earlier, later in zip(before, before[1:])]))
     if options.plot:
         columns = ("from a quarter to a half", "from a half to the whole")
-        bars(options.plot, "Processor time of a trace as a part of that of half of it", columns, plotted, mark=2)
+        bars(options.plot, "Processor time of a trace relative to half of it", columns, plotted, mark=2)
 
 
 def read_words():

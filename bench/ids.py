@@ -1,11 +1,11 @@
 #!/usr/bin/env python3
-"""Times ways to find an object by its id, beside a binary search over the list of ids, and measures their memory.
+"""Times ways to find an object by its id, against a binary search over the list of ids, and measures their memory.
 
 Usage: bench/ids.py
 It writes the program below into a temporary folder, with copies of the crates that it uses, lets `rt` prove and
-build it there (some minutes at the first time on a machine), and runs it. Nothing here is part of the gate.
-Each way looks up the same 200,000 live ids; the ways take turns, five times each, and the least time of each counts. A
-ratio is the time of a way by the time of the binary search. Memory is the peak of a run that makes one structure alone,
+build it there (some minutes the first time on a machine), and runs it. Nothing here is part of the gate.
+Each way looks up the same 200,000 live ids; the ways take turns, five times each, and the fastest time of each counts. A
+ratio is the time of a way divided by that of the binary search. Memory is the peak of a run that makes one structure alone,
 less that of a run that makes none.
 """
 import os

@@ -4,15 +4,15 @@
 Usage: bench/malformed.py [--count N] [--first SEED] [--workers N ..] [--processes N] [--program FILE [--first-argument ARGUMENT]]
        bench/malformed.py --show SEED
 
-Each trace is made from its seed alone and has some ten lines, of which mostly one or several are odd or malformed: bytes are changed, put in,
-taken out or swapped; lines cut off or run together; escapes, surrogates, UTF-8, numbers, nesting, keys, blanks and lengths are right or wrong.
-One trace in a hundred has up to 30,000 right lines between. `plain_lines` of bench/plain_rust reads the lines by serde_json's `Value`, and the heap
+Each trace is made from its seed alone and has some ten lines, and mostly one or several of them are odd or malformed: bytes are changed, put in,
+taken out or swapped; lines are cut off or run together; escapes, surrogates, UTF-8, numbers, nesting, keys, blanks and lengths are right or wrong.
+One trace in a hundred has up to 30,000 right lines in between. `plain_lines` of bench/plain_rust reads the lines with serde_json's `Value`, and the heap
 of bench/random_traces.py takes the operations. The whole report and the status must be the same.
 --count N         the number of traces (20,000)
 --first SEED      from this seed on (1)
 --workers N ..    each trace with each of these numbers of workers (1)
 --processes N     how many run at a time (one for each processor)
---program FILE    this program in place of the one that scripts/build_program built; --first-argument stands before its other arguments
+--program FILE    this program instead of the one that ./build built; --first-argument comes before its other arguments
 --show SEED       writes the trace of this seed and compares nothing
 gcaudit must be built, and cargo must be able to build bench/plain_rust. Nothing here is part of the gate.
 """

@@ -1,11 +1,11 @@
 #!/usr/bin/env python3
-"""Times one meet of a header word beside a plain `fetch_add`, by 1, 2 and 4 threads.
+"""Times one meet of a header word against a plain `fetch_add`, with 1, 2 and 4 threads.
 
 Usage: bench/meet.py
 It writes the program below into a temporary folder, with copies of the crates that it uses, lets `rt` prove and
-build it there (some minutes at the first time on a machine), and runs it. Nothing here is part of the gate.
+build it there (some minutes the first time on a machine), and runs it. Nothing here is part of the gate.
 Each worker makes 2,000,000 steps, all on one word or spread over 1,048,576 words. The three kinds of step take turns,
-seven times each, and the least time of each counts. A ratio is the time of a meet by the time of a plain add.
+seven times each, and the fastest time of each counts. A ratio is the time of a meet divided by that of a plain add.
 """
 import os
 import shutil

@@ -1,10 +1,10 @@
 #!/usr/bin/env python3
-"""Measures minor collections beside full ones, and stores in old objects beside stores in young ones.
+"""Compares minor collections with full ones, and stores in old objects with stores in young ones.
 
-Usage: bench/minor.py [COLLECTIONS]     (1,000 where nothing is said; gcminor must be built)
+Usage: bench/minor.py [COLLECTIONS]     (1,000 by default; gcminor must be built)
 A heap of 1,000,000 old objects gets 1,000 young ones before each collection, which one of the old objects holds in a chain. Every fourth
-collection is full, so the two kinds alternate on one heap. The program is told to collect only once it has read the rest, and the time
-until its line comes is that of the collection. Nothing here is part of the gate.
+collection is full, so the two kinds alternate on one heap. The program gets the line that collects only once it has read the rest, and the time
+until its answer comes is that of the collection. Nothing here is part of the gate.
 """
 import os
 import statistics

@@ -1,18 +1,18 @@
 #!/usr/bin/env python3
-"""Times levels, paths and finds, each beside one plain marking of the same heap.
+"""Times levels, paths and finds, each against one plain marking of the same heap.
 
 Usage: bench/paths.py
-It writes the program below into a temporary folder, beside copies of the crates that it stands on, lets `rt` prove and
-build it there (some minutes at the first time on a machine), and runs it. Nothing here is part of the gate.
+It writes the program below into a temporary folder, with copies of the crates that it uses, lets `rt` prove and
+build it there (some minutes the first time on a machine), and runs it. Nothing here is part of the gate.
 
-- Levels: a heap of 1,000,000 objects with three slots each. Two of them make a tree whose neighbours lie far apart, the third leads
+- Levels: a heap of 1,000,000 objects with three slots each. Two of them make a tree whose neighbours are far apart, the third leads
   to any object. Levels are made from one root.
 - Paths: a chain of 10,000 objects, and the path to each.
 - Finds: 20,000 owners of 10 ownees each, and one owner of 100,000; each owner holds an array that holds its ownees, and is asked once for
   all of them.
 
 The plain marking goes by a worklist over every slot of what it reaches, in the order in which objects are met, with one flag a cell.
-Each run is made five times, the two in turn, and the least time of each counts. A ratio is the time by that of the marking.
+Each run is made five times, the two in turn, and the fastest time of each counts. A ratio is the time divided by that of the marking.
 """
 import os
 import shutil

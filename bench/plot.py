@@ -1,9 +1,9 @@
 #!/usr/bin/env python3
-"""A table of numbers as a picture: for each row a bar for each column, in one SVG without scripts or fonts of its own.
+"""Draws a table of numbers: for each row a bar for each column, in one SVG without scripts or fonts of its own.
 
 Usage: bench/plot.py PAGE HEADING FILE [--mark NUMBER] COLUMN ..
-It draws these columns of the first table under the heading of the page, so that a picture beside a table has its figures. The scripts draw what
-they measured with their own word, --plot FILE.
+It draws these columns of the first table under the heading of the page, so that a picture above a table has its figures. The scripts draw what
+they measured with their own option, --plot FILE.
 """
 import re
 import sys

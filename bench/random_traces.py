@@ -1,14 +1,14 @@
 #!/usr/bin/env python3
 """Compares the built program with a plain reading of the definitions, on random traces of all operations.
 
-Usage: bench/random_traces.py [tests_programs|gcminor|gccheck|plain_rust] [COUNT] [FIRST_SEED]     (1,000 traces from seed 1 where nothing is said)
-With the word tests_programs it compares the auditor for which further workers cost nothing in place of gcaudit. With the word gcminor it compares that
-program, on traces of what it takes. With gccheck it has the reports of gcaudit checked, with one
+Usage: bench/random_traces.py [tests_programs|gcminor|gccheck|plain_rust] [COUNT] [FIRST_SEED]     (1,000 traces from seed 1 by default)
+With tests_programs it compares the auditor for which further workers cost nothing, instead of gcaudit. With gcminor it compares that
+program, on traces of what it takes. With gccheck it has that program check the reports of gcaudit, with one
 number of workers each, and once more with a byte changed, whose place must be named. With plain_rust it compares the program of bench/plain_rust, on
-traces of which no line is refused.
-Each trace is made from its seed alone, so a seed that is printed can be run again. It has some hundred operations of
-all kinds and several collections. `report_of` below follows docs/DEFINITIONS.md and the specs it names, by sets and
-by ids, with no care for speed. Of three traces one is audited with each reaction, and of five one with few paths. The program
+traces without a refused line.
+Each trace is made from its seed alone, so a seed that is printed can be run again. It has about a hundred operations of
+all kinds and several collections. `report_of` below follows docs/DEFINITIONS.md and the specs it names, with sets and
+ids, and with no care for speed. Of three traces one is audited with each reaction, and of five one with few paths. The program
 runs with 1, 2, 3 and 16 workers, and must print the same bytes and end with the same status each time. At the end small generated
 traces are compared in the same way. The program must be built. Nothing here is part of the gate.
 """

@@ -1,9 +1,9 @@
 #!/usr/bin/env python3
 """Runs the built program over a trace once for each of its allocations, which is refused, and says how each run ended.
 
-Each trace is audited with each reaction, and a small generated one is audited too; and one of many lines by four workers, which read it side by side.
+Each trace is audited with each reaction, and a small generated one is audited too; and one of many lines with four workers, which read it side by side.
 
-Usage: bench/refuse_memory.py [TRACE ..]     (the traces of examples/ where none is named)
+Usage: bench/refuse_memory.py [TRACE ..]     (the traces of examples/ if none is named)
 Each allocation is refused once alone, and once together with all that follow. A run must end by itself, and either
 print the whole report with its status, or a beginning of it with status 5. Needs a C compiler. Nothing here is part
 of the gate.

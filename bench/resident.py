@@ -1,9 +1,9 @@
 #!/usr/bin/env python3
-"""Runs gcresident beside gcaudit over services with many collections, and prints times as ratios: by the clock, and of the processors.
+"""Runs gcresident and gcaudit over services with many collections, and prints times as ratios: by the clock, and of the processors.
 
 Usage: bench/resident.py [--small] [--gcaudit PROGRAM]     (--small: a tenth of the collections)
-Both programs must be built: ./gcaudit < examples/first.jsonl and ./gcresident < examples/first.jsonl build them. They take turns over the same
-trace, and must write the same report. The least of each time counts. Nothing here is part of the gate.
+Both programs must be built: ./build gcaudit gcresident builds them. They take turns over the same
+trace, and must write the same report. The fastest time of each counts. Nothing here is part of the gate.
 """
 import os
 import subprocess

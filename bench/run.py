@@ -1,28 +1,28 @@
 #!/usr/bin/env python3
-"""Times gcaudit over large traces, beside plain Rust and beside `wc -l`; and the reading of lines alone.
+"""Times gcaudit over large traces, against plain Rust and `wc -l`; and the reading of lines alone.
 
 Usage: bench/run.py [--small] [--turns N] [--before PROGRAM] [--plot FILE] [--plot-growth FILE] [--plot-memory FILE]
        bench/run.py --reading [--full] [--small] [--turns N] [--plot FILE]
 
 The first prints lines and megabytes a second and peaks of memory. Each trace is run at one size and at twice that size, so that the ratio
-of the two times can be read. `wc -l` over the same file, in the same run, is the yardstick for the machine. Where cargo can build it, the
-plain Rust program in bench/plain_rust runs over the same file as well, and must write the same report; once more it only reads the lines by
-serde's derive into a struct that borrows, and once by making serde_json's `Value` of each.
---reading             lines of some kinds that change next to nothing: gcaudit with 1, 2 and 4 workers, beside plain Rust that only reads them
-                      and beside `wc -l`, each of which has one; by the clock, and the time of all processors with it. Ratios are the median of
+of the two times can be read. `wc -l` over the same file, in the same run, is the yardstick for the machine. If cargo can build it, the
+plain Rust program in bench/plain_rust runs over the same file as well, and must write the same report. Once more it only reads the lines with
+serde's derive into a struct that borrows, and once it builds serde_json's `Value` for each.
+--reading             lines of some kinds that change next to nothing: gcaudit with 1, 2 and 4 workers, against plain Rust that only reads them
+                      and `wc -l`, which have one each; by the clock, and the time of all processors with it. Ratios are the median of
                       those of each turn
---full                each program as often at a time as fills the processors, with two workers half as often; its time is the mean of theirs.
-                      Where processors are hyperthreads, two of a core, one is up to twice as fast while the other idles: a program alone and
-                      four threads can't be compared there
+--full                as many copies of each program at once as fill the processors, half as many with two workers; its time is the mean of theirs.
+                      If processors are hyperthreads, two to a core, one is up to twice as fast while the other idles. Then a program alone
+                      can't be compared with four threads
 --small               a tenth of the sizes
---turns N             so many turns, of which the least time stands (5)
---before PROGRAM      another program, as one built before, over the same traces in turn: the last columns say how many times as long it
-                      took, and its peak of memory
---plot FILE           a picture of the times beside plain Rust, as SVG; of --reading, beside both ways of plain Rust with one worker, and
-                      beside derive with four
---plot-growth FILE    a picture of the time of each trace beside that of half of it
+--turns N             the number of turns; the fastest time counts (5)
+--before PROGRAM      another program, for example an earlier build, over the same traces in turn: the last columns say how many times as
+                      long it took, and its peak of memory
+--plot FILE           a picture of the times relative to plain Rust, as SVG; with --reading, relative to both ways of plain Rust with one
+                      worker, and to derive with four
+--plot-growth FILE    a picture of the time of each trace relative to half of it
 --plot-memory FILE    a picture of the peaks of memory
-gcaudit must be built: ./gcaudit examples/first.jsonl builds it. Nothing here is part of the gate.
+gcaudit must be built: ./build gcaudit builds it. Nothing here is part of the gate.
 """
 import argparse
 import os
@@ -270,7 +270,7 @@ def best(commands, path, turns=TRIES):
 
 
 def median_part(runs, others, value):
-    """A value of the runs as a part of that of the others: the median of the parts of each turn."""
+    """A value of the runs relative to that of the others: the median of the ratios of each turn."""
     return statistics.median(value(run) / value(other) for run, other in zip(runs, others))
 
 
@@ -278,7 +278,7 @@ def need_programs(*programs):
     """Ends the script with a sentence where a program isn't built."""
     for program in programs:
         if not os.access(program, os.X_OK):
-            sys.exit(f"{os.path.relpath(program, TOP)} is not there: scripts/build_program {os.path.basename(program)} builds it")
+            sys.exit(f"{os.path.relpath(program, TOP)} is not there: ./build {os.path.basename(program)} builds it")
 
 
 def need_commands(*names):
@@ -379,10 +379,10 @@ def draw(whole, options):
     """The pictures, of pairs of the times of a trace and of half of it."""
     if options.plot:
         rows = [(found.name, [found.ours.seconds / plain.seconds for plain in found.plains[:2]]) for found, _ in whole if found.plains]
-        bars(options.plot, "Time of gcaudit with one worker", ("as a part of plain Rust's", "as a part of only reading's"), rows, mark=1)
+        bars(options.plot, "Time of gcaudit with one worker", ("relative to plain Rust", "relative to only reading"), rows, mark=1)
     if options.plot_growth:
         rows = [(found.name, [found.ours.seconds / half.ours.seconds]) for found, half in whole]
-        bars(options.plot_growth, "Time of a trace as a part of that of half of it", ("times as long",), rows, mark=2)
+        bars(options.plot_growth, "Time of a trace relative to half of it", ("times as long",), rows, mark=2)
     if options.plot_memory:
         rows = [(f"{found.name}, {found.megabytes:.0f} MB", peaks_in_megabytes(found.ours, *found.plains[:1])) for found, _ in whole]
         bars(options.plot_memory, "Peak of memory in MB, and the size of the trace", ("gcaudit", "plain Rust"), rows)
@@ -418,7 +418,7 @@ class Reading(NamedTuple):
     others: list
 
     def beside(self, number):
-        """The clock of one number of workers as a part of that of each other program."""
+        """The clock of one number of workers relative to that of each other program."""
         return [median_part(self.ours[number], other, clock) for other in self.others]
 
 
@@ -479,7 +479,7 @@ def time_reading(plain, options):
     if options.plot:
         rows = [(found.name, [*found.beside(0)[:2], found.beside(-1)[1]]) for found in readings]
         columns = ("by Value", "by derive", f"by derive, with {WORKERS_THAT_READ[-1]} workers")
-        bars(options.plot, "Time of reading lines, as a part of that of plain Rust", columns, rows, mark=1)
+        bars(options.plot, "Time of reading lines, relative to plain Rust", columns, rows, mark=1)
 
 
 def read_words():

@@ -1,9 +1,9 @@
 #!/usr/bin/env python3
-"""Times gcsnap over snapshots of up to 2^28 bytes, beside `wc -l` and beside the plain Rust reader in bench/plain_rust.
+"""Times gcsnap over snapshots of up to 2^28 bytes, against `wc -l` and the plain Rust reader in bench/plain_rust.
 
 Usage: bench/snapshots.py [--small]     (--small: a hundredth of the sizes)
-Each snapshot is read whole and refused for a last root that refers to no object, and then, without that root, made into a trace. Least of
-three turns each, in turn; both programs must write the same. gcsnap must be built. Nothing here is part of the gate.
+Each snapshot is read whole and refused for a last root that refers to no object, and then, without that root, made into a trace. The
+programs take turns, three each, and the fastest time counts; both must write the same. gcsnap must be built. Nothing here is part of the gate.
 """
 import hashlib
 import os
