@@ -9,4 +9,5 @@ pub mod Rooted
 pub mod Searching
 pub mod Settled
 pub mod Stored
+pub mod Surviving
 pub mod Targets

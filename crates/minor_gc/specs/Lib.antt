@@ -5,4 +5,5 @@ pub mod MinorPrograms
 pub mod MinorRuns
 pub mod Nurseries
 pub mod Searches
+pub mod Survivors
 pub mod Tallies

@@ -14,7 +14,7 @@ mod texts;
 
 pub use laws::{
     a_minor_collection_frees_no_old_object, a_minor_collection_keeps_what_a_full_one_keeps,
-    no_object_is_young_after_a_collection,
+    no_object_is_young_after_a_collection, survivors_keep_their_slots,
 };
 pub use minor::Minor;
 pub use nursery::Nursery;

@@ -6,6 +6,7 @@ ghost use Rattle.graph_meaning.specs.Step.{alloc_refusal, store_refusal, root_re
 ghost use Rattle.object_table.specs.Placed.{nothing_placed};
 ghost use Rattle.minor_gc.specs.Generations.{is_young, remembered_set, after_minor, after_full, minor_collection, full_collection};
 ghost use Rattle.minor_gc.specs.Nurseries.{nursery_table, nothing_nursed};
+ghost use Rattle.minor_gc.specs.Survivors.{KeepsObjects};
 
 use crate::minor::Minor;
 use crate::room::{add_cells, drop_cells, reserve_one};
@@ -137,9 +138,10 @@ impl Nursery {
 
     /// Frees exactly the young objects to which no path over young objects leads from one that a root names or an old
     /// object holds; all others are old then. Its time goes with the young objects, with what they and the remembered ones
-    /// hold, and with the roots.
+    /// hold, and with the roots. Whatever is left has the slots that it had.
     pub fn minor(&mut self) -> Result<Minor, OutOfMemory>
         ensures heap { OnOk result (self.new.heap ≡ after_minor self.old.heap) }
+        ensures survivors { OnOk result (KeepsObjects self.old.heap.table self.new.heap.table) }
         ensures counts { IfOk result (λ m. m ≡ minor_collection self.old.heap) }
         ensures err { OnErr result (self.new ≡ self.old) }
     {
@@ -161,9 +163,10 @@ impl Nursery {
         })
     }
 
-    /// Frees exactly the objects that no root reaches; all others are old then.
+    /// Frees exactly the objects that no root reaches; all others are old then, with the slots that they had.
     pub fn full(&mut self) -> Result<Minor, OutOfMemory>
         ensures heap { OnOk result (self.new.heap ≡ after_full self.old.heap) }
+        ensures survivors { OnOk result (KeepsObjects self.old.heap.table self.new.heap.table) }
         ensures counts { IfOk result (λ m. m ≡ full_collection self.old.heap) }
         ensures err { OnErr result (self.new ≡ self.old) }
     {

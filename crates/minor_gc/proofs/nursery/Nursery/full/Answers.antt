@@ -9,6 +9,7 @@ use Rattle.minor_gc.proofs.Fronts.{length-front, get_or-front}
 use Rattle.minor_gc.proofs.Remembered.{remembered_live, few_remembered, counted_remembered}
 use Rattle.minor_gc.proofs.Searching.{HasRun, full_marks}
 use Rattle.minor_gc.proofs.Settled.{MarksKept, LeavesKept, leads, settled, heap_is, collection_is, fewer_objects}
+use Rattle.minor_gc.proofs.Surviving.{full_keeps}
 use Rattle.minor_gc.proofs.nursery.Nursery.full.Goals as goal
 use Rattle.minor_gc.proofs.nursery.Nursery.full.Goals.{After-len-remembered, After-deref-2}
 
@@ -83,6 +84,9 @@ pub returns-clause-counts : goal.returns-clause-counts
 returns-clause-counts c =
     let listed : c.len-remembered.result ≡ length c.self.inside.remembered.items = omega (arith, c.len-remembered.ensures, c.self.inside.remembered.ok.0) in
     rw (← c.self.view_is) (collection_is (kept_then c) (leaves c) _ _ _ c.live-live.ensures.count c.live.ensures.count listed)
+
+pub returns-clause-survivors : goal.returns-clause-survivors
+returns-clause-survivors c = rw (← c.self.view_is) (full_keeps (kept_then c).before (after c) (heap_is (kept_then c) (leaves c)))
 
 pub returns-clause-heap : goal.returns-clause-heap
 returns-clause-heap c = rw (← c.self.view_is) (heap_is (kept_then c) (leaves c))

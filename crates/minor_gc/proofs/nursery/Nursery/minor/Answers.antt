@@ -8,6 +8,7 @@ use Rattle.minor_gc.proofs.Inside.{parts_in, IsSoundNursery}
 use Rattle.minor_gc.proofs.Remembered.{remembered_live, few_remembered, counted_remembered}
 use Rattle.minor_gc.proofs.Searching.{HasRun, minor_marks, old_kept}
 use Rattle.minor_gc.proofs.Settled.{MarksKept, LeavesKept, ids_same, leads, hold, settled, heap_is, collection_is, fewer_objects}
+use Rattle.minor_gc.proofs.Surviving.{minor_keeps}
 use Rattle.minor_gc.proofs.nursery.Nursery.minor.Goals as goal
 use Rattle.minor_gc.proofs.nursery.Nursery.minor.Goals.{After-len-remembered, After-deref-3}
 
@@ -102,6 +103,9 @@ invariant_of-self c = settled (kept_then c) (leaves c)
 
 pub returns-clause-heap : goal.returns-clause-heap
 returns-clause-heap c = rw (← c.self.view_is) (heap_is (kept_then c) (leaves c))
+
+pub returns-clause-survivors : goal.returns-clause-survivors
+returns-clause-survivors c = rw (← c.self.view_is) (minor_keeps (kept_then c).before (after c) (heap_is (kept_then c) (leaves c)))
 
 pub returns-clause-counts : goal.returns-clause-counts
 returns-clause-counts c =
