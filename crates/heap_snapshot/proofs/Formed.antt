@@ -88,10 +88,10 @@ sorted_nil : IsStrictlySortedBy name_cmp []
 unfolding IsStrictlySortedBy
 sorted_nil = tt
 
-below_all : (name : List ℕ) (names : List (List ℕ)) → IsStrictlySortedBy name_cmp (name ∷ names) → All (λ y. name_cmp name y ≡ Less) names
+pub below_all : (name : List ℕ) (names : List (List ℕ)) → IsStrictlySortedBy name_cmp (name ∷ names) → All (λ y. name_cmp name y ≡ Less) names
 below_all name names sorted = All-from_recursion (λ y. name_cmp name y ≡ Less) names (sorted_head name_cmp name names sorted)
 
-last_more : (r q : List ℕ × ℕ) (roots : List (List ℕ × ℕ)) → last_name (r ∷ q ∷ roots) ≡ last_name (q ∷ roots)
+pub last_more : (r q : List ℕ × ℕ) (roots : List (List ℕ × ℕ)) → last_name (r ∷ q ∷ roots) ≡ last_name (q ∷ roots)
 last_more r q roots =
     let all : length (r ∷ q ∷ roots) - 1 ≡ suc (length roots) = omega arith in
     let later : length (q ∷ roots) - 1 ≡ length roots = omega arith in
@@ -201,7 +201,7 @@ none_dangles ids line (l ∷ lines) none =
     All-cons (λ (l : Line). Refers ids (target_in l)) l lines (live_at ids line (target_in l) parts.0) (none_dangles ids (line + 1) lines parts.1)
 
 -- both parts of a list
-All-parts : {X : Type 0} (Q : X → Type 0) (xs ys : List X) → All Q (xs ++ ys) → All Q xs × All Q ys
+pub All-parts : {X : Type 0} (Q : X → Type 0) (xs ys : List X) → All Q (xs ++ ys) → All Q xs × All Q ys
 All-parts Q [] ys all = (All-nil Q, all)
 All-parts Q (x ∷ xs) ys all =
     let later = All-parts Q xs ys (All-tail Q x (xs ++ ys) all) in (All-cons Q x xs (All-head Q x (xs ++ ys) all) later.0, later.1)

@@ -34,7 +34,7 @@ pub record Legal (r : Reading) : Type 0 where
 pub legal_nothing : Legal nothing_read
 legal_nothing = record { kinds = refl; few_kinds = omega arith; objects = All-nil IsLegalObject; roots = All-nil IsLegalRoot }
 
-kinds-push : (objects : List ObjectView) (o : ObjectView) → kind_names (objects ++ o ∷ []) ≡ with_kind (kind_names objects) o.kind
+pub kinds-push : (objects : List ObjectView) (o : ObjectView) → kind_names (objects ++ o ∷ []) ≡ with_kind (kind_names objects) o.kind
 kinds-push objects o = fold_push (λ (kinds : List (List ℕ)) (x : ObjectView). with_kind kinds x.kind) [] objects o
 
 few_more : (kinds : List (List ℕ)) (kind : List ℕ) → length kinds ≤ MOST_KINDS → (is_seen kinds kind || ltb (length kinds) MOST_KINDS) ≡ true → length (with_kind kinds kind) ≤ MOST_KINDS

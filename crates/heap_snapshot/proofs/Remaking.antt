@@ -40,13 +40,13 @@ use Rattle.heap_snapshot.proofs.Making.{alloc_answers, store_answers}
 
 -- ---- operations one after another
 
-abbrev run_of : Heap → List Event → Result Heap Refusal
+abbrev pub run_of : Heap → List Event → Result Heap Refusal
 run_of h events = heap_after h (map (λ e. event e) events)
 
 then_event : (h next : Heap) (e : Event) (events : List Event) → step h e ≡ Ok next → run_of h (e ∷ events) ≡ run_of next events
 then_event h next e events is = ap (λ (r : Result Heap Refusal). r >>= (λ n. run_of n events)) is
 
-same_heap : (h k : Heap) → ◌≡◌ {A = Result Heap Refusal} (Ok h) (Ok k) → h ≡ k
+pub same_heap : (h k : Heap) → ◌≡◌ {A = Result Heap Refusal} (Ok h) (Ok k) → h ≡ k
 same_heap h k is = cc
 
 then_events : (h next : Heap) (xs ys : List Event) → run_of h xs ≡ Ok next → run_of h (xs ++ ys) ≡ run_of next ys
@@ -98,7 +98,7 @@ views-full (o ∷ objects) =
 
 -- ---- allocations
 
-abbrev seen : List (List ℕ) → ObjectView → List (List ℕ)
+abbrev pub seen : List (List ℕ) → ObjectView → List (List ℕ)
 seen kinds o = with_kind kinds o.kind
 
 -- the table of these objects, with every slot empty
@@ -119,7 +119,7 @@ kinds_grow kinds kind = go (is_seen kinds kind)
     go true = omega arith
     go false = omega (arith, length-append kinds (kind ∷ []))
 
-more_kinds : (kinds : List (List ℕ)) (objects : List ObjectView) → length kinds ≤ length (fold seen kinds objects)
+pub more_kinds : (kinds : List (List ℕ)) (objects : List ObjectView) → length kinds ≤ length (fold seen kinds objects)
 more_kinds kinds [] = omega arith
 more_kinds kinds (o ∷ objects) = omega (arith, kinds_grow kinds o.kind, more_kinds (with_kind kinds o.kind) objects)
 

@@ -54,7 +54,7 @@ no_roots (InObject o) objects roots lines way are = are.2
 no_roots InRoots objects roots lines way are = absurd (false≢true way)
 no_roots Ended objects roots lines way are = absurd (false≢true way)
 
-under_way : (stage : Stage) → is_before_roots stage ≡ true → is_under_way stage ≡ true
+pub under_way : (stage : Stage) → is_before_roots stage ≡ true → is_under_way stage ≡ true
 under_way Empty way = way
 under_way Begun way = refl
 under_way (InObject o) way = refl

@@ -65,10 +65,10 @@ numbered-is text found is =
 
 -- ---- what stands behind the first word
 
-six : (a b c d e f : List ℕ) → a ++ (b ++ (c ++ (d ++ (e ++ f)))) ≡ a ++ b ++ c ++ d ++ e ++ f
+pub six : (a b c d e f : List ℕ) → a ++ (b ++ (c ++ (d ++ (e ++ f)))) ≡ a ++ b ++ c ++ d ++ e ++ f
 six a b c d e f = simp append_assoc
 
-four : (a b c d : List ℕ) → a ++ (b ++ (c ++ d)) ≡ a ++ b ++ c ++ d
+pub four : (a b c d : List ℕ) → a ++ (b ++ (c ++ d)) ≡ a ++ b ++ c ++ d
 four a b c d = simp append_assoc
 
 -- the parts of an object's line
@@ -237,7 +237,7 @@ text_in-legal text l is =
     (λ said. bind_some (first_word text) (λ split. said_by split.0 split.1) l said (λ split at more. said_by-legal split.0 split.1 l more)))
 
 -- what stands behind a space of a text is a text
-behind_space : (xs ys : List ℕ) → drop (length xs + 1) (xs ++ 32 ∷ ys) ≡ ys
+pub behind_space : (xs ys : List ℕ) → drop (length xs + 1) (xs ++ 32 ∷ ys) ≡ ys
 behind_space [] ys = refl
 behind_space (x ∷ xs) ys =
     let more : length (x ∷ xs) + 1 ≡ suc (length xs + 1) = omega arith in ap (λ n. drop n (x ∷ xs ++ 32 ∷ ys)) more ∙ behind_space xs ys

@@ -42,3 +42,7 @@ pub record IsWellFormed (v : HeapView) : Type 0 where
 -- a lawful view is well formed
 abbrev pub LawfulIsWellFormed : Type 0
 LawfulIsWellFormed = (v : HeapView) → IsLawful v → IsWellFormed v
+
+-- and a well-formed view is lawful
+abbrev pub WellFormedIsLawful : Type 0
+WellFormedIsLawful = (v : HeapView) → IsWellFormed v → IsLawful v

@@ -5,7 +5,9 @@ pub mod FromTrace
 pub mod HeapOfTrace
 pub mod Laws
 pub mod Lines
+pub mod Made
 pub mod Reading
+pub mod RoundTrips
 pub mod Table
 pub mod Taken
 pub mod Text

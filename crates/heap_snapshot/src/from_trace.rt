@@ -8,13 +8,15 @@ ghost use Rattle.graph_meaning.specs.Step.{step};
 ghost use Rattle.graph_meaning.specs.declared.event.Event.TheVariants.{Alloc, Root, Store};
 ghost use Rattle.graph_meaning.specs.declared.refusal.Refusal.{Refusal};
 ghost use Rattle.heap_snapshot.specs.FromTrace.{Answers, effect_of_step, bare_heap, snapshot_meaning};
+ghost use Rattle.heap_snapshot.specs.Made.{IsMade};
 ghost use Rattle.heap_snapshot.specs.declared.from_trace.TheConstants.{LONGEST_TRACE};
 
 use crate::write::write_snapshot;
 use graph_meaning::{Event, Refusal, Stop};
-use heap_base::{Name, ObjId, OutOfMemory, Status};
+use heap_base::{MOST_OBJECTS, Name, ObjId, OutOfMemory, Status};
 use object_table::ObjectTable;
 use std::alloc::Global;
+use std::marker::Model;
 use streams::{Sink, Source};
 use trace_reader::LineReader;
 use trace_run::{LastText, Program, Taken, TraceRun};
@@ -22,11 +24,22 @@ use trace_run::{LastText, Program, Taken, TraceRun};
 /// A trace that a snapshot is made of has at most so many bytes: 2^28.
 pub(crate) const LONGEST_TRACE: u64 = 268_435_456;
 
-/// The heap that the operations so far made.
+/// The heap that the operations so far made. Contracts see its table.
 #[derive(Drop)]
 struct Making {
     alloc: Global,
     table: ObjectTable,
+}
+
+impl Model for Making {
+    ghost use Rattle.graph_meaning.specs.Heap.{Table};
+    ghost use Rattle.heap_snapshot.specs.Made.{IsMade};
+
+    ghost Value = { Table };
+
+    ghost view = { λ m. m.table.table };
+
+    ghost invariant = { λ m. IsMade m.table.table };
 }
 
 impl Program for Making {
@@ -34,11 +47,13 @@ impl Program for Making {
 
     ghost meaning = { snapshot_meaning };
 
-    ghost state = { λ m. bare_heap m.table.table };
+    ghost state = { bare_heap };
 
     ghost events = { λ m. 0 };
 
     fn last(&self) -> Result<LastText, OutOfMemory> {
+        // The call tells what is true of each table.
+        prove!(self.table.cells() <= MOST_OBJECTS);
         let view = self.table.view()?;
         Ok(LastText {
             text: write_snapshot(self.alloc, &view)?,
@@ -67,7 +82,7 @@ pub(crate) fn from_trace<S: Source, K: Sink>(alloc: Global, source: &mut S, sink
 }
 
 fn take_event(making: &mut Making, event: &Event) -> Result<Taken, Stop>
-    ensures { TakesEvent (snapshot_meaning.takes (bare_heap making.old.table.table) event.now) result (bare_heap making.new.table.table) }
+    ensures { TakesEvent (snapshot_meaning.takes (bare_heap making.old) event.now) result (bare_heap making.new) }
 {
     match event {
         Event::Alloc {
@@ -100,7 +115,8 @@ fn nothing_due(done: Result<(), Stop>) -> Result<Taken, Stop>
 }
 
 fn store(table: &mut ObjectTable, at: ObjId, slot: u32, to: Option<ObjId>) -> Result<(), Stop>
-    ensures { Answers (step (bare_heap table.old.table) (Store at slot to)) result (bare_heap table.new.table) }
+    ensures step { Answers (step (bare_heap table.old.table) (Store at slot to)) result (bare_heap table.new.table) }
+    ensures made { IsMade table.old.table → IsMade table.new.table }
 {
     match table.store(at, slot, to) {
         Ok(()) => Ok(()),
@@ -109,13 +125,20 @@ fn store(table: &mut ObjectTable, at: ObjId, slot: u32, to: Option<ObjId>) -> Re
 }
 
 fn alloc_object(table: &mut ObjectTable, id: ObjId, kind: &Name, slots: u32) -> Result<(), Stop>
-    ensures { (thread : ℕ) → Answers (step (bare_heap table.old.table) (Alloc id kind.now slots thread)) result (bare_heap table.new.table) }
+    ensures step { (thread : ℕ) → Answers (step (bare_heap table.old.table) (Alloc id kind.now slots thread)) result (bare_heap table.new.table) }
+    ensures made { IsMade table.old.table → IsMade table.new.table }
 {
+    // The calls tell what an id and a name are.
+    prove!(0 < id.number());
+    prove!(!kind.as_str().is_empty());
     table.alloc_object(id, kind, slots)
 }
 
 fn set_root(table: &mut ObjectTable, name: &Name, to: Option<ObjId>) -> Result<(), Stop>
-    ensures { Answers (step (bare_heap table.old.table) (Root name.now to)) result (bare_heap table.new.table) }
+    ensures step { Answers (step (bare_heap table.old.table) (Root name.now to)) result (bare_heap table.new.table) }
+    ensures made { IsMade table.old.table → IsMade table.new.table }
 {
+    // The call tells what a name is.
+    prove!(!name.as_str().is_empty());
     table.set_root(name, to)
 }

@@ -1,4 +1,4 @@
-ghost use Rattle.heap_snapshot.specs.Formed.{LawfulIsWellFormed};
+ghost use Rattle.heap_snapshot.specs.Formed.{LawfulIsWellFormed, WellFormedIsLawful};
 ghost use Rattle.heap_snapshot.specs.TextLaws.{DanglesInText, StandsByText, TextTellsView, WrittenIsReadBack};
 
 /// Bytes that stand for a view are its text, so a view has one text at most.
@@ -24,4 +24,9 @@ pub fn a_dangling_id_stands_in_its_line()
 /// A lawful view keeps the limits and the order, and whatever it refers to is an object of its own.
 pub fn a_lawful_view_is_well_formed()
     ensures { LawfulIsWellFormed }
+{}
+
+/// A view that does so is lawful.
+pub fn a_well_formed_view_is_lawful()
+    ensures { WellFormedIsLawful }
 {}

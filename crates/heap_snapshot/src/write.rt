@@ -11,10 +11,11 @@ use heap_base::{Name, OutOfMemory};
 use std::alloc::Global;
 use streams::{put, put_number};
 
-/// The text of a view. Of a lawful view it is the one that stands for it.
+/// The text of a lawful view: the one that stands for it.
 pub fn write_snapshot(alloc: Global, view: &HeapView) -> Result<Vec<u8>, OutOfMemory>
+    requires lawful { IsLawful view.now }
     ensures text { IfOk result (λ text. text.items ≡ snapshot_text view.now) }
-    ensures stands { IsLawful view.now → IfOk result (λ text. StandsFor text.items view.now) }
+    ensures stands { IfOk result (λ text. StandsFor text.items view.now) }
 {
     let mut text = Vec::new(alloc);
     put_view(&mut text, view)?;
