@@ -1,3 +1,4 @@
+pub mod Agreeing
 pub mod OwnedRuns
 pub mod Tallies
 pub mod Went

@@ -1,3 +1,4 @@
+pub mod Agreement
 pub mod Outcome
 pub mod Scans
 pub mod Words

@@ -4,6 +4,7 @@
 
 mod collecting;
 mod job;
+mod laws;
 mod marking;
 mod phases;
 mod scan;
@@ -11,6 +12,10 @@ mod top_call;
 mod words;
 
 pub use job::ResidentJob;
+pub use laws::{
+    an_audit_and_a_resident_audit_agree, audits_with_any_workers_agree,
+    resident_audits_with_any_workers_agree,
+};
 pub use marking::trace_resident;
 pub use parked_crew::Residents;
 pub use phases::TraceCrew;
