@@ -1,3 +1,4 @@
+pub mod AuditedReports
 pub mod Comparisons
 pub mod Events
 pub mod Lines

@@ -1,3 +1,4 @@
+pub mod Audited
 pub mod Checked
 pub mod Comparing
 pub mod Differences

@@ -14,7 +14,10 @@ mod pending;
 mod top_call;
 mod words;
 
-pub use laws::a_check_without_faults_ends;
+pub use laws::{
+    a_check_without_faults_ends, what_a_check_calls_equal_is_appended,
+    what_an_audit_appended_is_not_called_different,
+};
 pub use settings::MOST_PATHS;
 pub use top_call::check_run;
 pub use words::MOST_DIGITS;
