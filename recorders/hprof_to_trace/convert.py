@@ -7,7 +7,7 @@ from typing import BinaryIO, Dict, Iterable, Iterator, List, NamedTuple, Sequenc
 
 from gcaudit_trace import TraceError
 from gcaudit_trace.dumps.command import say_left_out
-from gcaudit_trace.dumps.options import Wishes
+from gcaudit_trace.dumps.options import PLUS, Wishes
 from gcaudit_trace.dumps.output import DumpFile, output_of
 from gcaudit_trace.graphs.left_out import LeftOut
 from gcaudit_trace.progress import Progress
@@ -33,6 +33,7 @@ from .reader import (
 )
 from .threads import thread_names
 
+_OBJECT = "java.lang.Object"
 _REFERENCE = "java.lang.ref.Reference"
 _QUEUE = "java.lang.ref.ReferenceQueue"
 # What a class holds in fields of which a dump doesn't tell, and nothing else holds: values of a ClassValue, annotations, generic types.
@@ -156,8 +157,30 @@ class Heap:
         self.wishes.need_known(
             {self.dump.class_name(class_id) for class_id in chain(self.dump.class_names, self.classes)}
         )
+        self._refuse_interfaces()
         self.wishes.need_room(len(places), self._named_counts)
         self._relate_classes()
+
+    def _refuse_interfaces(self) -> None:
+        """Refuses an interface in place of a class with its subclasses: whatever implements it, there would be no object of it.
+
+        A dump doesn't say what is an interface. It has no fields, and no class has it for its superclass.
+        """
+        if self.wishes.may_be_missing:
+            return
+        with_subclasses = {found.superclass for found in self.classes.values()}
+        may_be: Dict[str, bool] = {}
+        for number, found in self.classes.items():
+            name = self.dump.class_name(number)
+            if name + PLUS in self.wishes.named:
+                is_class = bool(found.fields or number in with_subclasses or self.wishes.counts.get(name))
+                is_class = is_class or self.dump.class_name(found.superclass) != _OBJECT
+                may_be[name] = may_be.get(name, True) and not is_class
+        for name in sorted(name for name, is_interface in may_be.items() if is_interface):
+            raise TraceError(
+                "%s may be an interface: it has no fields, no objects and no subclasses, and a dump doesn't say which classes "
+                "implement an interface. Name these instead; if it is a class, --may-be-missing allows it" % name
+            )
 
     def _by_name(self, counts: Dict[int, int]) -> Dict[str, int]:
         """Counts by the names of classes, from those by identifiers."""
