@@ -204,8 +204,19 @@ _NAMERS: Dict[type, Callable[[Any], str]] = {
 _NAMED = frozenset(map(id, _NAMERS))
 
 
+_ITEMS_OF_BLOCK = 64
+_BLOCK = deque(range(_ITEMS_OF_BLOCK + 1)).__sizeof__() - deque().__sizeof__()
+
+
+def _deque_size(obj: Any) -> int:
+    """The bytes of a deque by its length: where one end is filled and the other emptied, it has a block more now and then."""
+    blocks = max(-(-deque.__len__(obj) // _ITEMS_OF_BLOCK), 1)
+    return deque.__sizeof__(obj) % _BLOCK + blocks * _BLOCK
+
+
 def _new_shape(kind: type) -> Shape:
-    own_dict, members, size = None, [], None
+    own_dict, members = None, []
+    size: Optional[Callable[[Any], int]] = None
     for base in _order(kind) or ():  # a type of C code that isn't ready has none
         for name, found in list(class_dict(base).items()):
             if name == "__dict__" and type(found) in (types.GetSetDescriptorType, types.MemberDescriptorType):
@@ -213,7 +224,7 @@ def _new_shape(kind: type) -> Shape:
             elif type(found) is types.MemberDescriptorType and kind is not types.FunctionType:
                 members.append(("." + name, found))
             elif name == "__sizeof__" and size is None and type(found) is types.MethodDescriptorType:
-                size = found
+                size = _deque_size if base is deque else found
     inner = issubclass(kind, (type, types.ModuleType)) or kind is types.FrameType
     left_out = kind in PLAIN or kind in _LEFT_OUT or (module_of(kind) + ".").startswith(OWN_MODULES)
     return Shape(

@@ -166,14 +166,19 @@ class Recorder:
             self._collect()
         forget_shapes()
 
-    def growth(self, rounds: int, work: Callable[[], Any]) -> Growth:
-        """Calls `work` once, and then so many times again, and says what became more in each of these: by type, and by what holds it.
+    def growth(self, rounds: int, work: Callable[[], Any], warm_up: int = 1) -> Growth:
+        """Calls `work` to warm up, and then so many times again, and says what became more in each of these: by type, and by what holds it.
 
-        The growth prints as a table. Nothing is written to the trace.
+        Caches and buffers that fill meanwhile are said too, so `warm_up` is how many calls it takes until they are full. The
+        growth prints as a table. Nothing is written to the trace.
         """
         self._need_open()
-        if not isinstance(rounds, int) or rounds < 1 or not callable(work):
-            raise TraceError("growth takes the number of rounds, from 1 on, and a function without arguments")
+        if not _is_count(rounds) or not _is_count(warm_up) or not callable(work):
+            raise TraceError(
+                "growth takes the number of rounds, from 1 on, a function without arguments, and how often it warms up"
+            )
+        for _ in range(warm_up - 1):
+            work()
         found = []
         for _ in range(rounds + 1):
             work()
@@ -181,7 +186,7 @@ class Recorder:
             self._regions.collect()
             with NoAutomaticCollection():
                 found.append(self._walk_from_roots(with_values=True).counts())
-        return Growth(found, "round")
+        return Growth(found, "round", alike=True)
 
     def close(self) -> None:
         """Makes a last collection where something was asserted after the last one, and finishes the file."""
@@ -329,3 +334,8 @@ class Recorder:
 def _shown(value: Any) -> str:
     """A value of a wrong type, as a message shows it."""
     return "an object of the type %s" % type_name(type(value)) if type(value) not in PLAIN else repr(value)[:80]
+
+
+def _is_count(value: Any) -> bool:
+    """Whether it is a whole number from 1 on."""
+    return isinstance(value, int) and value >= 1

@@ -3,19 +3,18 @@ import argparse
 import os
 from array import array
 from collections import Counter
-from itertools import chain, compress, repeat
+from itertools import compress, repeat
 from operator import floordiv, mod
-from typing import BinaryIO, Callable, Dict, Iterator, List, Set, Tuple, Union
+from typing import BinaryIO, Callable, Dict, Iterator, List, Set, Tuple
 
 from gcaudit_trace import TraceError
 from gcaudit_trace.dumps.command import say_left_out
-from gcaudit_trace.dumps.graph_output import DumpGraph
-from gcaudit_trace.dumps.options import Wishes, parser_for
+from gcaudit_trace.dumps.options import Wishes
 from gcaudit_trace.dumps.output import DumpFile, output_of
-from gcaudit_trace.graphs.graph import Graph
 from gcaudit_trace.graphs.left_out import LeftOut
 from gcaudit_trace.progress import Progress
 
+from .edges import Edges, needed
 from .reader import Reader, read_members
 
 # Plain values: they hold nothing but parts of themselves.
@@ -23,13 +22,13 @@ PLAIN = frozenset({"string", "concatenated string", "sliced string", "number", "
 _BY_NAME = frozenset({"object", "synthetic", "native", "hidden"})  # nodes whose class is their name
 _MOST_FUNCTION_NAMES = 30000
 # Through its class an object leads to nearly all of the program: everything would be its owner's, and everything that
-# is left out would lead to what is kept. So these edges are left out of both.
-_TO_CLASS = frozenset({("internal", "map"), ("property", "__proto__")})
+# is left out would lead to what is kept. So these edges are left out of both, but for those that alone lead somewhere.
+_TO_MAP = "internal", "map"
+_TO_CLASS = frozenset({_TO_MAP, ("property", "__proto__")})
+_CLASS_ROOT = "class"
 _OF_FUNCTIONS = "__proto__", "prototype"  # the properties of a class that lead to its superclass and to its prototype
-_NUMBERED = frozenset({"element", "hidden"})  # edges that have a number for a name
+NUMBERED = frozenset({"element", "hidden"})  # edges that have a number for a name
 _MOST_KINDS = 256  # a type is kept in one byte
-
-Edge = Tuple[int, int, int, int]  # the codes of what is held and of who holds, the type, and the name or index
 
 
 class Snapshot:
@@ -46,36 +45,38 @@ class Snapshot:
         self.names = array("I")
         self.edge_counts = array("I")
         self.sizes = array("Q")
+        self.edges = Edges()
         self.codes = array("i")  # as in `left`; 0 where it is neither kept nor left out
         self.kept_nodes = array("I")
         self.left_nodes = array("I")
         self._unshared: Set[int] = set()  # the codes of kept nodes that are asserted unshared
         self.left = LeftOut(self._label_of, self._unshared)
-        self._left_kinds = bytearray()  # of each reference that a left-out node holds
-        self._left_names = array("I")
+        self._left_edges = array("I")  # of each reference that a left-out node holds the edge
+        self._is_skipped = bytearray()  # of each edge whether it is left out, since it leads to a class
+        self._class_roots: List[int] = []  # nodes to which only edges to classes lead, that are left out
+        self._finds_classes = True  # whether what only edges to classes lead to is reached all the same
         self.left_out: Dict[str, int] = {}  # how many nodes of each class are left out
         self.texts: Dict[int, str] = {}
         self.weak_lost = 0
         self.to_classes = 0  # references from objects to their classes that are left out
-        self._root_edges: List[Tuple[int, int, int]] = []  # the type, the name or index, and the node of each
         self._class_edges: Set[Tuple[int, int]] = set()  # the type and name of those to classes
+        self._map_edges: Set[Tuple[int, int]] = set()  # of these, those to V8's maps
         self._prototypes: Dict[int, str] = {}  # by the node what is said for its class
         self._class_names: Dict[Tuple[int, int], str] = {}  # by type and name
         self._labels: Dict[Tuple[int, int], str] = {}  # by type and name
         self._wanted: Set[int] = set()
         self._node_width = 0
-        self._edges_start = 0  # where in the file they stand
 
-    # ---- the first time through: the nodes and the names
+    # ---- reading the nodes, the edges and the names
 
     def read(self) -> None:
         takers: Dict[str, Callable[[Reader], None]] = {
             "snapshot": self._take_meta,
             "nodes": self._take_nodes,
-            "edges": self._take_edge_names,
+            "edges": self._take_edges,
             "strings": self._take_strings,
         }
-        read_members(Reader(self.file, self.name, self.progress, "reading the nodes", self.size), takers)
+        read_members(Reader(self.file, self.name, self.progress, "reading the snapshot", self.size), takers)
         self._choose()
 
     def _wrong(self, why: str) -> TraceError:
@@ -128,26 +129,24 @@ class Snapshot:
             raise self._wrong("a node has a number that can't be") from None
         if self.kinds and max(self.kinds) >= len(self.kind_words):
             raise self._wrong("a node is of a type that has no name")
-        self._wanted.update(compress(self.names, self._is_object()))
+        self._wanted.update(compress(self.names, self.kinds.translate(bytes(1 - plain for plain in self._is_plain))))
 
     def _is_object(self) -> bytes:
         """For each node 1 where it is no plain value, else 0; in a graph of all, 1 for each."""
         return self.kinds.translate(bytes(1 - (plain and self.wishes.limited) for plain in self._is_plain))
 
-    def _take_edge_names(self, reader: Reader) -> None:
+    def _take_edges(self, reader: Reader) -> None:
         if not self.kinds:
             raise self._wrong("its nodes don't come first")
-        reader.next_sign()
-        self._edges_start = reader.position()
-        is_named = bytes(word not in _NUMBERED for word in self.edge_words).ljust(256, b"\0")
+        is_named = bytes(word not in NUMBERED for word in self.edge_words).ljust(256, b"\0")
         kind_at, name_at, to_at = self._edge_at
-        width, node_width, whole, end = self._edge_width, self._node_width, 0, self._node_width * len(self.kinds)
+        width, node_width, end = self._edge_width, self._node_width, self._node_width * len(self.kinds)
         for rows in self._rows(reader, width):
             targets = rows[to_at::width]
             try:
-                kinds = bytes(rows[kind_at::width])
-            except ValueError:
-                kinds = b"\xff"
+                kinds, names = bytes(rows[kind_at::width]), array("I", rows[name_at::width])
+            except (ValueError, OverflowError):
+                raise self._wrong("an edge has a number that can't be") from None
             if kinds and (
                 max(kinds) >= len(self.edge_words)
                 or min(targets) < 0
@@ -155,20 +154,17 @@ class Snapshot:
                 or any(map(mod, targets, repeat(node_width)))
             ):
                 raise self._wrong("an edge is of a type that has no name, or leads to no node")
-            self._wanted.update(compress(rows[name_at::width], kinds.translate(is_named)))
-            if whole < self.edge_counts[0]:
-                own = self.edge_counts[0] - whole
-                self._root_edges += zip(
-                    kinds[:own], rows[name_at::width][:own], map(floordiv, targets[:own], repeat(node_width))
-                )
-            whole += len(kinds)
-        if whole != sum(self.edge_counts):
+            self._wanted.update(compress(names, kinds.translate(is_named)))
+            self.edges.add(kinds, names, map(floordiv, targets, repeat(node_width)))
+        if len(self.edges) != sum(self.edge_counts):
             raise self._wrong(
-                "its nodes say that there are %d edges, and there are %d" % (sum(self.edge_counts), whole)
+                "its nodes say that there are %d edges, and there are %d" % (sum(self.edge_counts), len(self.edges))
             )
+        self.edges.settle(self.edge_counts)
+        self._is_skipped = bytearray(len(self.edges))
 
     def _take_strings(self, reader: Reader) -> None:
-        if not self._edges_start:
+        if len(self.edges.starts) == 1:
             raise self._wrong("its nodes and edges don't come first")
         self.texts = reader.strings(self._wanted)
         self._wanted = set()
@@ -177,6 +173,9 @@ class Snapshot:
             for name, text in self.texts.items()
             for kind, word in enumerate(self.edge_words)
             if (word, text) in _TO_CLASS
+        }
+        self._map_edges = {
+            (kind, name) for kind, name in self._class_edges if (self.edge_words[kind], self.texts[name]) == _TO_MAP
         }
 
     # ---- which nodes are kept
@@ -229,16 +228,12 @@ class Snapshot:
         closure = self.kind_words.index("closure") if "closure" in self.kind_words else -1
         property = self.edge_words.index("property") if "property" in self.edge_words else -1
         to_super, to_prototype = ({name for name, text in self.texts.items() if text == one} for one in _OF_FUNCTIONS)
-        kinds, names, text_of = self.kinds, self.names, self.texts.get
+        kinds, names, text_of, edges = self.kinds, self.names, self.texts.get, self.edges
         directly: Dict[str, Set[str]] = {}
-        holders: Iterator[int] = chain.from_iterable(map(repeat, range(len(kinds)), self.edge_counts))
-        reader = Reader(self.file, self.name, self.progress, "reading the classes", self.size, self._edges_start)
-        kind_at, name_at, to_at = self._edge_at
-        for rows in self._rows(reader, self._edge_width):
-            width = self._edge_width
-            for kind, name, to, holder in zip(rows[kind_at::width], rows[name_at::width], rows[to_at::width], holders):
-                if kind == property and kinds[holder] == closure:
-                    held = to // self._node_width
+        for holder in compress(range(len(kinds)), (kind == closure for kind in kinds)):
+            for edge in edges.of(holder):
+                name, held = edges.names[edge], edges.targets[edge]
+                if edges.kinds[edge] == property:
                     if name in to_prototype:
                         self._prototypes[held] = "prototype of " + text_of(names[holder], "")
                     elif name in to_super and kinds[held] == closure and names[held] != names[holder]:
@@ -268,81 +263,125 @@ class Snapshot:
             return self._prototypes[node]
         return self._class_names[self.kinds[node], self.names[node]]
 
-    # ---- the edges
-
-    def _edges(self, step: str) -> Iterator[Iterator[Edge]]:
-        """All edges, some at a time. A code is 0 where a node is neither kept nor left out."""
-        width, node_width = self._edge_width, self._node_width
-        kind_at, name_at, to_at = self._edge_at
-        holders: Iterator[int] = chain.from_iterable(map(repeat, self.codes, self.edge_counts))  # type: ignore[arg-type]
-        reader = Reader(self.file, self.name, self.progress, step, self.size, self._edges_start)
-        for rows in self._rows(reader, width):
-            held = map(self.codes.__getitem__, map(floordiv, rows[to_at::width], repeat(node_width)))
-            yield zip(
-                held, holders, rows[kind_at::width], rows[name_at::width]
-            )  # `held` first, which ends with the rows
+    # ---- where something is left out: how references go on through it
 
     def pass_over(self) -> int:
         """Where nodes are left out: decides what of them stays as joints, and how many these are."""
-        if not len(self.left):
+        self._skip_classes()
+        left = self.left
+        if not len(left):
             return 0
-        self.left.take(self._references())
-        for kind, _, node in self._root_edges:
-            if kind != self._weak:
-                self.left.take_root(self.codes[node])
-        stay = self.left.settle(len(self.kept_nodes), self.progress.following)
+        left.hold(self._held_by_left_out())
+        left.take_kept(self._held_by_kept())
+        for code in self._root_codes():
+            left.take_root(code)
+        stay = left.settle(len(self.kept_nodes), self.progress.following)
         self.wishes.need_room(len(self.kept_nodes) + stay, self._counts)
         return stay
 
-    def _references(self) -> Iterator[Tuple[int, int]]:
-        """By codes who holds what strongly, where one of them is left out. The kinds and names of what is left out are noted."""
-        weak, class_edges = self._weak, self._class_edges
-        from_all = bool(self.wishes.owners)
-        for edges in self._edges("reading what is left out"):
-            for held, holder, kind, name in edges:
-                if holder < 0:
-                    if held and kind != weak and (kind, name) not in class_edges:
-                        self._left_kinds.append(kind)
-                        self._left_names.append(name)
-                        yield holder, held
-                elif held < 0 and holder and kind != weak and not (from_all and (kind, name) in class_edges):
-                    yield holder, held
+    def _skip_classes(self) -> None:
+        """Leaves out the edges from objects to their classes, and those of V8's maps, of what is left out; where something is owned those of all objects.
+
+        What would not be reached without them has a reference all the same: it may be the prototype of an object, which holds what
+        nothing else does. Where something is owned it has a root instead.
+        """
+        edges, owns = self.edges, bool(self.wishes.owners)
+        if not len(self.left) and not owns:
+            return
+        self.progress.at("following references to classes")
+        self._is_skipped = skipped = self._edges_to_classes(owns)
+        if self._finds_classes:
+            is_passed = bytes(code == 0 for code in self.codes)
+            for edge in needed(edges, self._weak, is_passed, skipped):
+                if owns:
+                    self._class_roots.append(edges.targets[edge])
+                else:
+                    skipped[edge] = 0
+        self.to_classes = sum(skipped)
+
+    def _edges_to_classes(self, owns: bool) -> bytearray:
+        """For each edge whether it leads to a class and is of a left-out node, or of any where something is owned.
+
+        Those of left-out maps count too, but for what must not be shared.
+        """
+        edges, by_name, maps = self.edges, {name for _, name in self._class_edges}, set()
+        to_class = bytearray(len(edges))
+        for edge in compress(range(len(edges)), map(by_name.__contains__, edges.names)):
+            to_class[edge] = self._edge_key(edge) in self._class_edges
+            if self._edge_key(edge) in self._map_edges:
+                maps.add(edges.targets[edge])
+        found = to_class if owns else bytearray(len(edges))
+        for node in self.left_nodes:
+            if node in maps:
+                for edge in edges.of(node):
+                    found[edge] = self.codes[edges.targets[edge]] not in self._unshared
+            elif not owns:
+                start, end = edges.starts[node], edges.starts[node + 1]
+                found[start:end] = to_class[start:end]
+        return found
+
+    def _edge_key(self, edge: int) -> Tuple[int, int]:
+        return self.edges.kinds[edge], self.edges.names[edge]
+
+    def _held_by_left_out(self) -> Iterator[List[int]]:
+        """What each left-out node holds strongly, by codes. The edges are noted, for their labels."""
+        edges, codes, skipped, weak = self.edges, self.codes, self._is_skipped, self._weak
+        targets, kinds, note = edges.targets, edges.kinds, self._left_edges.append
+        for node in self.left_nodes:
+            found = []
+            for edge in edges.of(node):
+                held = codes[targets[edge]]
+                if held and kinds[edge] != weak and not skipped[edge]:
+                    found.append(held)
+                    note(edge)
+            yield found
+
+    def _held_by_kept(self) -> Iterator[int]:
+        """The codes of what kept nodes hold strongly."""
+        edges, codes, skipped, weak = self.edges, self.codes, self._is_skipped, self._weak
+        for node in self.kept_nodes:
+            for edge in edges.of(node):
+                if edges.kinds[edge] != weak and not skipped[edge]:
+                    yield codes[edges.targets[edge]]
 
     def _label_of(self, place: int, edge: int, code: int) -> str:
         """The label of a reference of a left-out node."""
-        return self._label(self._left_kinds[edge], self._left_names[edge])
+        return self._label(*self._edge_key(self._left_edges[edge]))
 
-    def write(self, out: Union[DumpFile, DumpGraph]) -> None:
+    # ---- the trace
+
+    def write(self, out: DumpFile) -> None:
         """Writes the kept nodes, and behind them the joints."""
-        for held, node in zip(self._holdings(), self.kept_nodes):
-            out.object(self.class_of(node), self.sizes[node], held)
+        for node in self._in_steps("writing the objects"):
+            out.object(self.class_of(node), self.sizes[node], self._holdings(node))
         for joint in self.left.staying():
             out.joint(self.class_of(self.left_nodes[joint.place]), joint)
 
-    def _holdings(self) -> Iterator[List[Tuple[str, int, bool]]]:
-        """What each of the kept nodes holds, in their order: label, number in the trace, whether weakly."""
-        weak, class_edges, label, from_all = self._weak, self._class_edges, self._label, bool(self.wishes.owners)
-        number = 1
-        contents: List[Tuple[str, int, bool]] = []
-        for edges in self._edges("writing the objects"):
-            for held, holder, kind, name in edges:
-                if not held or not holder:
-                    continue
-                if (holder < 0 or from_all) and (kind, name) in class_edges:
-                    self.to_classes += 1
-                elif holder > 0:
-                    while number < holder:
-                        yield contents
-                        number, contents = number + 1, []
-                    if held > 0:
-                        contents.append((label(kind, name), held, kind == weak))
-                    elif kind == weak:
-                        self.weak_lost += 1
-                    else:
-                        contents += self.left.through(held, label(kind, name))
-        for _ in range(number, len(self.kept_nodes) + 1):
-            yield contents
-            contents = []
+    def _in_steps(self, step: str) -> Iterator[int]:
+        """The kept nodes, with progress told."""
+        nodes = self.kept_nodes
+        for start in range(0, len(nodes), 1 << 16):
+            self.progress.at(step, self.size * start // len(nodes), self.size)
+            yield from nodes[start : start + (1 << 16)]
+
+    def _holdings(self, node: int) -> List[Tuple[str, int, bool]]:
+        """What a kept node holds: label, number in the trace, whether weakly."""
+        edges, codes, weak, label = self.edges, self.codes, self._weak, self._label
+        start, end = edges.starts[node], edges.starts[node + 1]
+        found: List[Tuple[str, int, bool]] = []
+        for kind, name, to, skipped in zip(
+            edges.kinds[start:end], edges.names[start:end], edges.targets[start:end], self._is_skipped[start:end]
+        ):
+            held = codes[to]
+            if not held or skipped:
+                continue
+            if held > 0:
+                found.append((label(kind, name), held, kind == weak))
+            elif kind == weak:
+                self.weak_lost += 1
+            else:
+                found += self.left.through(held, label(kind, name))
+        return found
 
     def _label(self, kind: int, name: int) -> str:
         word = self.edge_words[kind]
@@ -357,12 +396,27 @@ class Snapshot:
             self._labels[kind, name] = found
         return found
 
+    def _root_codes(self) -> Iterator[int]:
+        """The codes of what roots name, as often as they do."""
+        for edge in self.edges.of(0):
+            if self.edges.kinds[edge] != self._weak:
+                yield self.codes[self.edges.targets[edge]]
+        yield from (self.codes[node] for node in self._class_roots)
+
     def roots(self) -> Iterator[Tuple[str, int]]:
         """The roots by name, as far as they lead to what is in the trace."""
-        for kind, name, node in self._root_edges:
-            code = self.codes[node]
-            for number in self.left.numbers_of(code) if code and kind != self._weak else ():
-                yield self.texts.get(self.names[node], "") or self._label(kind, name), number
+        for edge in self.edges.of(0):
+            if self.edges.kinds[edge] != self._weak:
+                node = self.edges.targets[edge]
+                for number in self._numbers_of(node):
+                    yield self.texts.get(self.names[node], "") or self._label(*self._edge_key(edge)), number
+        for node in self._class_roots:
+            for number in self._numbers_of(node):
+                yield _CLASS_ROOT, number
+
+    def _numbers_of(self, node: int) -> List[int]:
+        """The numbers in the trace of a kept node, or of what a left-out one leads to."""
+        return self.left.numbers_of(self.codes[node]) if self.codes[node] else []
 
 
 def _all_above(name: str, directly: Dict[str, Set[str]]) -> Set[str]:
@@ -374,16 +428,6 @@ def _all_above(name: str, directly: Dict[str, Set[str]]) -> Set[str]:
         found |= new
         work += new
     return found - {name}
-
-
-def graph_of(file: BinaryIO, name: str, progress: Progress) -> Graph:
-    """The whole heap of a snapshot as a graph, texts and numbers too."""
-    wishes = Wishes(parser_for("", "").parse_args(["--", name, ""]), limited=False)
-    snapshot = Snapshot(file, name, wishes, progress)
-    snapshot.read()
-    out = DumpGraph()
-    snapshot.write(out)
-    return out.finish(snapshot.roots())
 
 
 def convert(file: BinaryIO, asked: argparse.Namespace, progress: Progress) -> None:

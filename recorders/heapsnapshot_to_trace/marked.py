@@ -55,8 +55,17 @@ class _Kept:
 class MarkedSnapshot(Snapshot):
     """A snapshot with marks. After `find_marks`, `targets` has the number in the trace of each mark's object, 0 where it is gone."""
 
-    def __init__(self, file: BinaryIO, name: str, wishes: MarkedWishes, progress: Progress, marks: Set[Mark]) -> None:
+    def __init__(
+        self,
+        file: BinaryIO,
+        name: str,
+        wishes: MarkedWishes,
+        progress: Progress,
+        marks: Set[Mark],
+        finds_classes: bool,
+    ) -> None:
         super().__init__(file, name, wishes, progress)
+        self._finds_classes = finds_classes
         self._marks = marks
         self._id_at = 0
         self._is_hidden: bytes = b""
@@ -128,8 +137,13 @@ class MarkedSnapshot(Snapshot):
         by_property, by_v8 = self.edge_words.index("property"), self.edge_words.index("internal")
         targets = {name for name, text in self.texts.items() if text == _TARGET}
         patterns = {name for name, text in self.texts.items() if text == _PATTERN}
-        for edges in self._edges("reading the marks"):
-            for held, holder, kind, name in edges:
+        wanted = targets | patterns | set(names)
+        for node, holder in enumerate(self.codes):
+            for edge in self.edges.of(node):
+                name = self.edges.names[edge]
+                if name not in wanted:
+                    continue
+                kind, held = self.edges.kinds[edge], self.codes[self.edges.targets[edge]]
                 if kind == by_property:
                     if name in names:
                         of_mark[names[name]] = held
@@ -198,7 +212,7 @@ def convert(
     while True:
         wishes = MarkedWishes(assertions, _is_own, left_out)
         wishes.owners = {} if with_classes else _LEAVE_OUT_CLASSES
-        snapshot = MarkedSnapshot(file, name, wishes, progress, marks)
+        snapshot = MarkedSnapshot(file, name, wishes, progress, marks, with_classes)
         try:
             snapshot.read()
             snapshot.find_marks()

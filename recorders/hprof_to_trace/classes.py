@@ -49,6 +49,7 @@ class Relations(NamedTuple):
     roots: List[Root]  # roots besides those that the dump says
     is_rooted: Set[int]  # the classes that a root names
     lasting_loaders: Set[int]
+    hidden: int  # how many classes are hidden
 
 
 def relations_of(
@@ -85,4 +86,7 @@ def relations_of(
         elif found.loader:
             defined.setdefault(found.loader, []).append((DEFINED, number))
     new_roots = [Root(CLASS_ROOT, number, 0, 0) for number in rooted if number not in sticky]
-    return Relations(set(classes) - lasting, defined, more_held, new_roots, sticky.union(rooted), lasting_loaders)
+    hidden = sum(_IS_HIDDEN.search(name_of(number)) is not None for number in classes)
+    return Relations(
+        set(classes) - lasting, defined, more_held, new_roots, sticky.union(rooted), lasting_loaders, hidden
+    )

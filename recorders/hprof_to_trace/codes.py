@@ -22,18 +22,16 @@ class Codes:
         page = self._pages.get(number >> _PAGE_BITS)
         return 0 if page is None else page[number >> _STEP_BITS & _STEPS - 1]
 
+    def each(self, numbers: Iterable[int]) -> List[int]:
+        """The codes of these, with zeros."""
+        if self._others:
+            return list(map(self.get, numbers))
+        page_of, nothing = self._pages.get, self._nothing
+        return [page_of(number >> _PAGE_BITS, nothing)[number >> _STEP_BITS & _STEPS - 1] for number in numbers]
+
     def many(self, numbers: Iterable[int]) -> List[int]:
         """The codes of these, without those that have none."""
-        if self._others:
-            return list(filter(None, map(self.get, numbers)))
-        page_of, nothing = self._pages.get, self._nothing
-        return [
-            code
-            for code in [
-                page_of(number >> _PAGE_BITS, nothing)[number >> _STEP_BITS & _STEPS - 1] for number in numbers
-            ]
-            if code
-        ]
+        return list(filter(None, self.each(numbers)))
 
     def add(self, number: int, code: int) -> bool:
         """Gives an object its code. The answer is whether it had none."""

@@ -3,20 +3,19 @@ import argparse
 import struct
 from array import array
 from itertools import chain
-from typing import BinaryIO, Dict, Iterable, Iterator, List, NamedTuple, Sequence, Set, Tuple, Union
+from typing import BinaryIO, Dict, Iterable, Iterator, List, NamedTuple, Sequence, Set, Tuple
 
 from gcaudit_trace import TraceError
 from gcaudit_trace.dumps.command import say_left_out
-from gcaudit_trace.dumps.graph_output import DumpGraph
-from gcaudit_trace.dumps.options import Wishes, parser_for
+from gcaudit_trace.dumps.options import PLUS, Wishes
 from gcaudit_trace.dumps.output import DumpFile, output_of
-from gcaudit_trace.graphs.graph import Graph
 from gcaudit_trace.graphs.left_out import LeftOut
-from gcaudit_trace.graphs.with_numpy import numpy_is_there
 from gcaudit_trace.progress import Progress
+from gcaudit_trace.traces.limits import MOST_ROOTS
 
-from .classes import CLASS_ROOT, Relations, is_thread, relations_of
+from .classes import CLASS_ROOT, ELEMENT, Relations, is_thread, relations_of
 from .codes import Codes
+from .held_by_jvm import FILLERS, OF_ANY_CLASS, Held, Unheld, gathered
 from .reader import (
     CLASS,
     HELD_BY_JVM,
@@ -34,6 +33,7 @@ from .reader import (
 )
 from .threads import thread_names
 
+_OBJECT = "java.lang.Object"
 _REFERENCE = "java.lang.ref.Reference"
 _QUEUE = "java.lang.ref.ReferenceQueue"
 # What a class holds in fields of which a dump doesn't tell, and nothing else holds: values of a ClassValue, annotations, generic types.
@@ -78,7 +78,7 @@ class Heap:
         self._named_counts: Dict[str, int] = {}  # how many are kept
         self.roots: List[Root] = []
         self.weak_lost = 0
-        self.relations = Relations(set(), {}, {}, [], set(), set())
+        self.relations = Relations(set(), {}, {}, [], set(), set(), 0)
         self._special: Set[
             int
         ] = set()  # the classes of which objects lead to their class or to the classes that they defined
@@ -89,6 +89,7 @@ class Heap:
         self._rooted_codes: Dict[int, int] = {}  # of left-out classes that a root names
         self.classes_as_roots = 0  # how many classes are roots in place of references from their objects
         self._with_objects: Set[int] = set()  # the classes that have objects
+        self._held_weakly: Set[int] = set()  # the codes of what weak references lead to
         self._in_queue = 0  # what a reference has for a queue while it waits in one
         self._labels_of: Tuple[int, Dict[int, str]] = (-1, {})  # of the left-out object that was asked last, by codes
         self._layouts: Dict[int, Layout] = {}
@@ -156,8 +157,30 @@ class Heap:
         self.wishes.need_known(
             {self.dump.class_name(class_id) for class_id in chain(self.dump.class_names, self.classes)}
         )
+        self._refuse_interfaces()
         self.wishes.need_room(len(places), self._named_counts)
         self._relate_classes()
+
+    def _refuse_interfaces(self) -> None:
+        """Refuses an interface in place of a class with its subclasses: whatever implements it, there would be no object of it.
+
+        A dump doesn't say what is an interface. It has no fields, and no class has it for its superclass.
+        """
+        if self.wishes.may_be_missing:
+            return
+        with_subclasses = {found.superclass for found in self.classes.values()}
+        may_be: Dict[str, bool] = {}
+        for number, found in self.classes.items():
+            name = self.dump.class_name(number)
+            if name + PLUS in self.wishes.named:
+                is_class = bool(found.fields or number in with_subclasses or self.wishes.counts.get(name))
+                is_class = is_class or self.dump.class_name(found.superclass) != _OBJECT
+                may_be[name] = may_be.get(name, True) and not is_class
+        for name in sorted(name for name, is_interface in may_be.items() if is_interface):
+            raise TraceError(
+                "%s may be an interface: it has no fields, no objects and no subclasses, and a dump doesn't say which classes "
+                "implement an interface. Name these instead; if it is a class, --may-be-missing allows it" % name
+            )
 
     def _by_name(self, counts: Dict[int, int]) -> Dict[str, int]:
         """Counts by the names of classes, from those by identifiers."""
@@ -213,7 +236,11 @@ class Heap:
     def _place_of(self, number: int) -> int:
         """Where the record of an object stands that is kept, or may hold something; 0 where there is none."""
         code = self.codes.get(number)
-        return self.kept_places[code - 1] if code > 0 else self.left_places[-1 - code] if code else 0
+        return self._place_of_code(code) if code else 0
+
+    def _place_of_code(self, code: int) -> int:
+        """Where the record of an object stands that has this code."""
+        return self.kept_places[code - 1] if code > 0 else self.left_places[-1 - code]
 
     def _class_of(self, number: int) -> str:
         """The class of an object that is kept, or may hold something; empty where it isn't in the dump."""
@@ -322,7 +349,9 @@ class Heap:
                     layout = self._fields(place)[0]  # refuses one that is too short
                 found: Sequence[int] = layout.unpack.unpack_from(data, place + size)
                 if layout.has_weak:
-                    found = [to for to, weak in zip(found, self._weak_in(layout, found)) if not weak]
+                    is_weak = self._weak_in(layout, found)
+                    self._held_weakly.update(many(to for to, weak in zip(found, is_weak) if weak))
+                    found = [to for to, weak in zip(found, is_weak) if not weak]
                 if class_id in special:
                     found = [
                         *found,
@@ -394,16 +423,43 @@ class Heap:
     def pass_over(self) -> int:
         """Decides what of the left-out objects stays as joints, and how many these are."""
         left, kept = self.left, len(self.kept_places)
-        if not len(left):
-            return 0
         left.hold(self._held_by("reading what is left out", self.left_places))
-        for codes in self._held_by("reading what is kept", self.kept_places):
-            left.take((1, code) for code in codes)
+        held = gathered(self._held_by("reading what is kept", self.kept_places), kept)
+        self._add_unheld(Unheld(held, Held(*left.held()), self._reached_codes()))
+        left.take_kept(held.codes)
         for root in self.roots:
             left.take_root(self._code_of_root(root))
         stay = left.settle(kept, self.progress.following)
         self.wishes.need_room(kept + stay, self._named_counts)
         return stay
+
+    def _reached_codes(self) -> Iterator[int]:
+        """The codes of what roots name, and of what is held weakly."""
+        yield from self._held_weakly
+        yield from (code for code in map(self._code_of_root, self.roots) if code)
+
+    def _add_unheld(self, unheld: Unheld) -> None:
+        """Adds roots for what no reference leads to in a dump of live objects. Each hidden class may hold one object more than others."""
+        found = unheld.origins(self.relations.hidden, lambda code: not self._is_of_any_class(code))
+        named = [code for code in found if self._class_at(self._place_of_code(code)) not in FILLERS]
+        named.sort(key=self._is_of_any_class)  # what isn't comes first, if there is no room for all
+        for code in named[: max(MOST_ROOTS - len(self.roots), 0)]:
+            number = self._id.unpack_from(self.dump.data, self._place_of_code(code))[0]
+            self.roots.append(Root(HELD_BY_JVM, number, 0, 0))
+
+    def _is_of_any_class(self, code: int) -> bool:
+        """Whether each class may hold such an object in a field of which a dump doesn't tell, or a collector leaves it."""
+        place = self._place_of_code(code)
+        if self.dump.data[place - 1] == OBJECT_ARRAY:
+            return self._is_enumeration(self._elements(place)[0])  # an array of its constants
+        return self._class_at(place) in OF_ANY_CLASS | FILLERS
+
+    def _is_enumeration(self, array_class: int) -> bool:
+        """Whether the elements of such arrays are constants of an enumeration."""
+        return any(
+            label == ELEMENT and "java.lang.Enum" in self._superclasses(element)
+            for label, element in self.relations.more_held.get(array_class, ())
+        )
 
     def _in_steps(self, step: str, places: array) -> Iterator[int]:
         """The places, with progress told; what was read of the file needs no memory any longer."""
@@ -414,7 +470,7 @@ class Heap:
 
     # ---- the trace
 
-    def write(self, out: Union[DumpFile, DumpGraph]) -> None:
+    def write(self, out: DumpFile) -> None:
         """Writes the kept objects, and behind them the joints."""
         for place in self._in_steps("writing the objects", self.kept_places):
             out.object(self._class_at(place), self._size_at(place), self._resolved(self.holdings(place)))
@@ -493,20 +549,6 @@ class Heap:
             )
             return "%s%s (thread %s)" % (kind, frame, thread)
         return kind
-
-
-def graph_of(file: BinaryIO, name: str, progress: Progress) -> Graph:
-    """The whole heap of a dump as a graph, arrays of primitives too; by numpy where it is there."""
-    if numpy_is_there():
-        from .whole_graph import graph_of as by_numpy
-
-        return by_numpy(file, name, progress)
-    wishes = Wishes(parser_for("", "").parse_args(["--", name, ""]), limited=False)
-    heap = Heap(Dump(file, name, progress), wishes, progress)
-    heap.find_objects()
-    out = DumpGraph()
-    heap.write(out)
-    return out.finish(heap.named_roots())
 
 
 def convert(file: BinaryIO, asked: argparse.Namespace, progress: Progress) -> None:

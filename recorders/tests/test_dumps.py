@@ -36,8 +36,8 @@ def run(command, *words):
     return status, said.getvalue()
 
 
-def dump_java(folder, name, *words, main="SessionLeak"):
-    """Runs a program in a JVM of its own, and dumps its heap."""
+def dump_java(folder, name, *words, main="SessionLeak", all_objects=False):
+    """Runs a program in a JVM of its own, and dumps its heap: the live objects, or garbage too."""
     dump = os.path.join(folder, name + ".hprof")
     process = subprocess.Popen(
         ["java", "-Xmx512m", "-XX:+UseSerialGC", "-cp", folder, main, *words],
@@ -48,7 +48,10 @@ def dump_java(folder, name, *words, main="SessionLeak"):
         if process.stdout.readline().strip() != b"ready":
             raise AssertionError("the program did not start")
         subprocess.run(
-            ["jcmd", str(process.pid), "GC.heap_dump", dump], stdout=subprocess.PIPE, check=True, timeout=120
+            ["jcmd", str(process.pid), "GC.heap_dump", *["-all"] * all_objects, dump],
+            stdout=subprocess.PIPE,
+            check=True,
+            timeout=120,
         )
     finally:
         process.stdin.close()
@@ -380,7 +383,7 @@ class ManyLeaks(InFolder):
         with open(os.path.join(PROGRAMS, "PluginLeaks.java")) as file:
             names = ["PluginLeaks$" + name for name in re.findall(r"static class (\w+) extends Held ", file.read())]
         leaked = [name for name in names if "Released" not in name]
-        self.assertEqual((len(leaked), len(names)), (8, 16))
+        self.assertEqual((len(leaked), len(names)), (11, 22))
         subprocess.run(
             ["javac", "-Xlint:none", "-d", self.folder, os.path.join(PROGRAMS, "PluginLeaks.java")],
             check=True,
@@ -406,6 +409,8 @@ class ManyLeaks(InFolder):
             ("OfLoader", r"\[3\] -> \d+ PluginLeaks\$Loader \(defined class\) -> \d+ " + plugin),
         ):
             self.assertRegex(self.done.named, r"dead \d+ PluginLeaks\$%s: %s%s" % (name, kept, path))
+        for name in ("OfClassData", "OfListInClassData", "OfCircleInClassData"):
+            self.assertRegex(self.done.named, r"dead \d+ PluginLeaks\$%s: root held by the JVM\b.* -> " % name)
         for words in (
             ["--only", "PluginLeaks$Of", "--only", "PluginLeaks$ReleasedOf"],
             ["--owned-by", "PluginLeaks$OfLoader=PluginLeaks$OfArray"],
@@ -430,20 +435,15 @@ class ManyLeaks(InFolder):
         self.all_is_reached()
 
     def all_is_reached(self):
-        """All objects of the trace of a live dump are reached, but for what is held weakly, or by a class in fields of which a dump doesn't tell."""
-        types, held, is_held, reached, work = {}, {}, set(), set(), []
+        """All objects of the trace of a live dump are reached, but for what is held weakly."""
+        types, held, reached, work = {}, {}, set(), []
         for event in events(self.path("trace.jsonl")):
             if event["op"] == "alloc":
                 types[event["id"]] = event["type"]
             elif event["op"] == "store":
                 held.setdefault(event["at"], []).append(event["to"])
-                is_held.add(event["to"])
             elif event["op"] == "root":
                 work.append(event["to"])
-        unseen = re.compile(
-            r"java\.lang\.String|java\.lang\.ref\.SoftReference|java\.util\.ImmutableCollections\$List.*"
-        )
-        work += [number for number, name in types.items() if number not in is_held and unseen.fullmatch(name)]
         while work:
             one = work.pop()
             if one not in reached:
@@ -473,14 +473,18 @@ class ManyLeaks(InFolder):
 
     @needs_program
     @needs_commands("node")
-    def test_twenty_three_more_on_node(self):
+    def test_twenty_six_more_on_node(self):
         program, dump = os.path.join(PROGRAMS, "more_leaks.js"), self.path("many.heapsnapshot")
         with open(program) as file:
             leaked = re.findall(r"'(Of\w+)'", re.search(r"const NAMES = \[(.*?)\]", file.read(), re.DOTALL).group(1))
-        self.assertEqual(len(leaked), 23)
+        self.assertEqual(len(leaked), 26)
         subprocess.run(["node", program, dump], check=True, timeout=300, stdout=subprocess.PIPE)
         names = leaked + ["Released" + name for name in leaked]
-        self.assertEqual(sorted(set(self.found(heapsnapshot_to_trace, dump, names))), sorted(leaked))
+        # With --only, an object may be left out whose prototype leads on; and where something is owned, no object leads to its class.
+        only = ["--only", "Of", "--only", "ReleasedOf"]
+        owned = ["--owned-by", "AbortController=OfGetter"]
+        for words in ([], only, ["--without", "Object"], owned):
+            self.assertEqual(sorted(set(self.found(heapsnapshot_to_trace, dump, names, *words))), sorted(leaked), words)
 
     @needs_program
     @needs_commands("java", "javac", "jcmd")

@@ -9,8 +9,8 @@ from unittest import mock
 
 from gcaudit_trace.graphs.dominators import kept_alone
 from gcaudit_trace.progress import Progress
-from heapsnapshot_to_trace.convert import graph_of as graph_of_snapshot
-from hprof_to_trace.convert import graph_of
+from heapsnapshot_to_trace.whole_graph import graph_of as graph_of_snapshot
+from hprof_to_trace.whole_graph import graph_of
 from tests.support import PROGRAMS, InFolder, needs_commands
 from tests.test_dumps import dump_java
 
@@ -41,9 +41,34 @@ OF_NODE = [
 ]
 
 
+# What of a dump VisualVM's library doesn't know: the JVM's own threads, for which a dump has no root; what the JVM holds for classes in
+# places of which a dump doesn't tell; that an array keeps the class of its elements; and that what waits for its finalizer is held.
+MORE_ROOTS = re.compile(
+    r"held by the JVM( #\d+)?$|thread (C[12] CompilerThread\d+|(Service|Monitor Deflation|Sweeper) [Tt]hread)$"
+)
+HELD_BY_JVM = re.compile(
+    r"java\.lang\.(String|ref\.SoftReference|reflect\.Constructor|ClassValue\$ClassValueMap|Class\$AnnotationData)"
+    r"|java\.util\.(HashMap|ImmutableCollections\$List(12|N))|javax\.[\w.$]+\[\]"  # constants of enumerations
+    r"|PluginLeaks\$Of(CircleIn)?ClassData"
+)
+
+
+def is_more(graph, node, edge):
+    """Whether VisualVM doesn't follow a reference."""
+    label = graph.label_texts[graph.labels[edge]]
+    return label == ".referent" or label == "<class>" and graph.type_of(node).endswith("[]")
+
+
 def counts(graph):
-    """By type all objects, and those that roots reach; without the classes themselves."""
-    names = [Counter(map(graph.type_of, nodes)) for nodes in (range(len(graph)), kept_alone(graph).order)]
+    """By type all objects, those that roots reach, and those that are reached without what VisualVM doesn't know; without the classes themselves."""
+    known, work = set(), [node for name, node in graph.roots if not MORE_ROOTS.match(name)]
+    while work:
+        node = work.pop()
+        if node not in known:
+            known.add(node)
+            edges = range(graph.starts[node], graph.starts[node + 1])
+            work += [graph.targets[edge] for edge in edges if not is_more(graph, node, edge)]
+    names = [Counter(map(graph.type_of, nodes)) for nodes in (range(len(graph)), kept_alone(graph).order, known)]
     return [Counter({name: count for name, count in one.items() if not name.startswith("class ")}) for one in names]
 
 
@@ -56,13 +81,13 @@ class Java(InFolder):
         if subprocess.run(["javac", "-Xlint:none", "-d", self.folder, *sources], stderr=subprocess.DEVNULL).returncode:
             self.skipTest("the compiler knows no records")
 
-    def counts_of(self, dump):
+    def graph_of(self, dump):
         with open(dump, "rb") as file:
-            return counts(graph_of(file, dump, Progress("test")))
+            return graph_of(file, dump, Progress("test"))
 
     @unittest.skipUnless(os.path.exists(LIBRARY), "VisualVM is not there (Debian: visualvm)")
     def test_visualvm(self):
-        """As many objects of each class, and all that VisualVM reaches is reached. What is reached beyond that isn't compared."""
+        """As many objects of each class, and as many reached of each, but for what is named above; that leads to nothing unexpected."""
         source = os.path.join(PROGRAMS, "ReachedByVisualVM.java")
         subprocess.run(["javac", "-Xlint:none", "-cp", LIBRARY, "-d", self.folder, source], check=True, timeout=300)
         for words in OF_JAVA:
@@ -74,9 +99,19 @@ class Java(InFolder):
                 name, count, of_these = line.rsplit(" ", 2)
                 found[name] += int(count)
                 reached[name] += int(of_these)
-            all_of_them, ours = self.counts_of(dump)
+            graph = self.graph_of(dump)
+            all_of_them, ours, known = counts(graph)
             self.assertEqual(+all_of_them, +found, words)
-            self.assertEqual(reached - ours, Counter(), words)
+            self.assertEqual(+known, +reached, words)
+            self.assertEqual(known - ours, Counter(), words)
+            held = {graph.type_of(node) for name, node in graph.roots if name.startswith("held by the JVM")}
+            self.assertEqual([name for name in held if not HELD_BY_JVM.fullmatch(name)], [], words)
+            due = Counter(
+                graph.type_of(graph.targets[edge])
+                for edge, label in enumerate(graph.labels)
+                if graph.label_texts[label] == ".referent"
+            )
+            self.assertLessEqual(set(due), {"MoreLeaks$OfDueFinalizer"}, words)
             os.unlink(dump)
 
     def test_the_histogram_of_the_jvm(self):
@@ -97,7 +132,7 @@ class Java(InFolder):
             lines = re.findall(r"^ *\d+: +(\d+) +\d+ +(MoreLeaks\S*)", file.read(), re.MULTILINE)
         wanted = Counter({name: int(count) for count, name in lines})
         self.assertGreater(len(wanted), 20)
-        found = self.counts_of(dump)[0]
+        found = counts(self.graph_of(dump))[0]
         self.assertEqual(
             {name: found[name] for name in wanted if "Lambda" not in name},
             {name: count for name, count in wanted.items() if "Lambda" not in name},

@@ -10,12 +10,13 @@ import types
 import unittest
 import warnings
 import weakref
+from collections import deque
 
 from tests.support import PROGRAM, RECORDERS, InFolder, events, needs_program, python_with
 from tests.programs import service
 
 from gcaudit_recorder import HeapViolation, Recorder, TraceError, UncheckedWarning, audited
-from gcaudit_recorder.contents import type_name
+from gcaudit_recorder.contents import shape_of, size_of, type_name
 from gcaudit_trace import audit
 from gcaudit_trace.graphs.trace_heap import heaps
 
@@ -635,6 +636,46 @@ class Traces(InFolder):
         self.assertEqual(said(Recorder.abandon), [])
         self.assertEqual(said(lambda recorder: self.assertRaises(HeapViolation, recorder.check, PROGRAM)), [])
 
+    def test_growth_of_what_warms_up(self):
+        """A buffer of the last lines doesn't grow when it is full, though its texts are a little longer then; what fills goes on before."""
+
+        class Service:
+            def __init__(self):
+                self.lines, self.kept, self.requests = deque(maxlen=5), [], 0
+
+            def visit(self):
+                self.requests += 1
+                self.lines.append("a visitor was here, in request %d" % self.requests)
+
+            def leak(self):
+                self.visit()
+                self.kept.append("a visitor was here, in request %d" % self.requests)
+
+        def grown(rounds, kind, **how):
+            service = Service()
+            service.requests = 90
+            recorder = self.recorder(service=service)
+            growth = str(recorder.growth(rounds, getattr(service, kind), **how))
+            recorder.abandon()
+            return growth
+
+        self.assertEqual(grown(10, "visit"), "nothing became more")
+        self.assertEqual(grown(2, "visit", warm_up=9), "nothing became more")  # from 99 to 101
+        self.assertIn("+1 str a round", grown(2, "visit"))
+        self.assertRegex(
+            grown(10, "leak"), r"^\+1 str a round, [\d.,]+ bytes, held by \S+Service\.kept \(1 -> 2 -> .* -> 11\)"
+        )
+
+    def test_a_deque_has_its_bytes_by_its_length(self):
+        """While one end is filled and the other emptied it has a block more now and then, and that is no growth."""
+        lines, found = deque(maxlen=5), set()
+        for at in range(200):
+            lines.append(at)
+            found.add(size_of(lines, shape_of(lines)))
+        self.assertEqual(len(found), 1)
+        many = deque(range(200))
+        self.assertEqual(size_of(many, shape_of(many)), sys.getsizeof(many))
+
     def test_growth_counts_texts_numbers_and_buffers(self):
         """By what holds them; a value that several hold counts once. Sizes are those that Python tells."""
 
@@ -768,6 +809,7 @@ class Traces(InFolder):
             lambda: Recorder("a\0b"),
             lambda: recorder.growth(0, list),
             lambda: recorder.growth(2, 5),
+            lambda: recorder.growth(2, list, warm_up=0),
             lambda: recorder.region("Entry").__enter__(),
             lambda: recorder.region(5).__enter__(),
             lambda: recorder.region([5]).__enter__(),

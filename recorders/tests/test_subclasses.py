@@ -82,6 +82,26 @@ class Java(Subclasses, InFolder):
         subprocess.run(["javac", "-d", self.folder, os.path.join(PROGRAMS, "Subclasses.java")], check=True, timeout=300)
         return [dump_java(self.folder, kind, kind, main="Subclasses") for kind in ("leak", "clean")]
 
+    def test_an_interface(self):
+        """No object is of an interface itself, and a dump doesn't say what implements it: what is asserted of that would always hold."""
+        leak, clean = self.make_dumps()
+        for words in (
+            ["--dead", "Subclasses$Listener+"],
+            ["--limit", "Subclasses$Listener+=0"],
+            ["--unshared", "Subclasses$Listener+"],
+        ):
+            status, said = run(hprof_to_trace, leak, self.path("none.jsonl"), *words)
+            self.assertEqual(status, 2, said)
+            self.assertIn("Subclasses$Listener may be an interface", said)
+            self.assertFalse(os.path.exists(self.path("none.jsonl")))
+        # A class without fields and subclasses can't be told from an interface; where nobody minds, it is none.
+        for dump, name, status in ((leak, "Unused+", 2), (leak, "Heard+", 0), (clean, "Session+", 0)):
+            self.assertEqual(
+                run(hprof_to_trace, dump, self.path("trace.jsonl"), "--dead", "Subclasses$" + name)[0], status, name
+            )
+        words = ["--dead", "Subclasses$Unused+", "--may-be-missing"]
+        self.assertEqual(run(hprof_to_trace, leak, self.path("trace.jsonl"), *words)[0], 0)
+
 
 @needs_commands("node")
 class Node(Subclasses, InFolder):

@@ -75,7 +75,7 @@ class Wishes:
         self.kind = kind_of(asked)
         self._only = tuple(asked.only)
         self._without = tuple(asked.without)
-        self._may_be_missing = asked.may_be_missing
+        self.may_be_missing = asked.may_be_missing
         self.dead = set(asked.dead)
         self.unshared = set(asked.unshared)
         self.limits = dict(self._limit(text) for text in asked.limit)
@@ -144,7 +144,7 @@ class Wishes:
 
     def need_known(self, known: Set[str]) -> None:
         """Refuses a class or a prefix that the dump knows nothing of: what is asserted would hold whatever the program does."""
-        if self._may_be_missing:
+        if self.may_be_missing:
             return
         named = {without_plus(name) for name in self.named}
         missing = ["%s%s" % (name, _nearest(name, known)) for name in sorted(named - known)]

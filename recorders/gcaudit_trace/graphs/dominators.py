@@ -89,31 +89,33 @@ def _holders(graph: Graph, place_of: array, count: int) -> _Holders:
         return _Holders(*holders(graph, place_of, count))
     least = array("I", [_NONE]) * count
     begins = array("Q", bytes(8 * (count + 1)))
-    for holder, place in _edges(graph, place_of):
-        if holder < least[place]:
-            least[place] = holder
-        if holder > place:
-            begins[place] += 1
+    for holder, places in _held_places(graph, place_of):
+        for place in places:
+            if holder < least[place]:
+                least[place] = holder
+            if holder > place:
+                begins[place] += 1
     total = 0
     for place in range(count + 1):
         total += begins[place]
         begins[place] = total
     behind = array("I", bytes(4 * total))
-    for holder, place in _edges(graph, place_of):
-        if holder > place:
-            begins[place] -= 1
-            behind[begins[place]] = holder
+    for holder, places in _held_places(graph, place_of):
+        for place in places:
+            if holder > place:
+                begins[place] -= 1
+                behind[begins[place]] = holder
     return _Holders(least, begins, behind)
 
 
-def _edges(graph: Graph, place_of: Sequence[int]) -> Iterator[Tuple[int, int]]:
-    """The references by places: who holds, and what is held."""
-    starts, targets = graph.starts, graph.targets
-    for node in range(len(graph)):
-        holder = place_of[node]
-        if holder != _NONE:
-            for edge in range(starts[node], starts[node + 1]):
-                yield holder, place_of[targets[edge]]
+def _held_places(graph: Graph, place_of: Sequence[int]) -> Iterator[Tuple[int, Iterator[int]]]:
+    """The references by places: who holds, and what each holds."""
+    starts, targets, place_at = graph.starts, graph.targets, place_of.__getitem__
+    start = 0
+    for holder, end in zip(place_of, starts[1:]):
+        if end > start and holder != _NONE:
+            yield holder, map(place_at, targets[start:end])
+        start = end
 
 
 def _dominators(graph: Graph, order: Sequence[int], place_of: array, parents: Sequence[int]) -> Sequence[int]:

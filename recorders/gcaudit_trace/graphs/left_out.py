@@ -81,6 +81,19 @@ class LeftOut:
             elif held < 0:
                 led_to[-1 - held] += 1
 
+    def take_kept(self, held: Iterable[int]) -> None:
+        """The codes of what kept objects hold."""
+        led_to = self._led_to
+        for code in held:
+            if code < 0:
+                led_to[~code] += 1
+
+    def held(self) -> Tuple[Sequence[int], Sequence[int]]:
+        """Where the references of each begin, and the codes of what all of them hold."""
+        if not self._starts:
+            self._starts = array("Q", accumulate(self._counts, initial=0))
+        return self._starts, self._held
+
     def take_root(self, held: int) -> None:
         """A root leads there; a joint there stays."""
         if held < 0:
@@ -91,7 +104,7 @@ class LeftOut:
 
         This may take some seconds, and calls `tell` now and then.
         """
-        self._starts = array("Q", accumulate(self._counts, initial=0))
+        self.held()
         self._resolve(tell)
         led_to_joints = [0] * len(self._joints)
         for code, count in zip(self._resolved, self._led_to):

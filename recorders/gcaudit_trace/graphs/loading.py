@@ -47,7 +47,7 @@ def last_graph(path: str, progress: Progress) -> Graph:
     """What the last collection of a trace traces, or the heap of a dump: all of its objects, reached or not."""
     with _opened(path) as (file, converter):
         if file is not None and converter is not None:
-            return importlib.import_module(converter + ".convert").graph_of(file, path, progress)
+            return importlib.import_module(converter + ".whole_graph").graph_of(file, path, progress)
     with trace_file(path) as trace:
         size = os.path.getsize(trace)
         last = 0

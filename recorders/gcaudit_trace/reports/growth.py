@@ -7,6 +7,8 @@ from ..graphs.graph import Graph
 from ..graphs.paths import Holder, Tree, is_between
 
 SHOWN = 20
+# Of objects that don't become more, a round: a number in a text has a digit more, and the table of a dict is made larger once.
+_FEW_BYTES, _MANY_BYTES = 64, 65536
 BYTES, OBJECTS = "bytes", "objects"
 
 # A type, and what holds its objects by name.
@@ -31,20 +33,31 @@ class Grown(NamedTuple):
 class Growth:
     """Compares heaps that follow on one another; `step` is what lies between two of them, as a round.
 
-    At most `top` lines are shown, those that grew most first, `by` BYTES or OBJECTS; without sizes by objects.
+    At most `top` lines are shown, those that grew most first, `by` BYTES or OBJECTS; without sizes by objects. Rounds of the same
+    work are `alike`: then what has warmed up isn't shown.
     """
 
     def __init__(
-        self, heaps: Sequence[Counts], step: str, kept: Sequence[KeptAlone] = (), by: str = BYTES, top: int = SHOWN
+        self,
+        heaps: Sequence[Counts],
+        step: str,
+        kept: Sequence[KeptAlone] = (),
+        by: str = BYTES,
+        top: int = SHOWN,
+        alike: bool = False,
     ) -> None:
         self._heaps = list(heaps)
         self._step = step
         self._kept = list(kept)
         self._by = by
         self._top = top
+        self._alike = alike
 
     def grown(self) -> List[Grown]:
-        """What has more objects or bytes in the last heap than in the first, and never became less in these.
+        """What has more objects or bytes from heap to heap, and never became less in these.
+
+        Where rounds are alike, what no longer grows in the second half of the heaps has warmed up. Bytes alone, without more objects,
+        count only where they grow steadily then: tables and texts become a little larger now and then, whatever a program does.
 
         What is held by objects that don't grow comes first: the others grow since their holders do. Then most bytes first. By
         objects most of these come first, and lists and what else only stands in between behind the program's own objects.
@@ -54,7 +67,7 @@ class Growth:
         for key in {key for heap in self._heaps for key in heap}:
             counts = [heap.get(key, (0, 0)) for heap in self._heaps]
             numbers, sizes = tuple(one[0] for one in counts), tuple(one[1] for one in counts)
-            if _grows(numbers) or _grows(sizes):
+            if self._grow(numbers, sizes):
                 more, more_bytes = (numbers[-1] - numbers[0]) / steps, (sizes[-1] - sizes[0]) / steps
                 found.append(Grown(key[0], key[1], numbers, sizes, more, more_bytes))
         grown_types = {one.type_name for one in found if one.more > 0}
@@ -66,6 +79,11 @@ class Growth:
             return (one.holder.type_name in grown_types, *amount, one.type_name, one.holder)
 
         return sorted(found, key=order)
+
+    def _grow(self, numbers: Sequence[int], sizes: Sequence[int]) -> bool:
+        if not self._alike:
+            return _grows(numbers) or _grows(sizes)
+        return _grows_late(numbers) or _grows_late(sizes) and _grows_steadily(sizes)
 
     def __str__(self) -> str:
         found = self.grown()
@@ -113,6 +131,18 @@ class Growth:
 def _grows(numbers: Sequence[int]) -> bool:
     """Whether the last is more than the first, and none less than the one before."""
     return numbers[-1] > numbers[0] and all(before <= after for before, after in zip(numbers, numbers[1:]))
+
+
+def _grows_late(numbers: Sequence[int]) -> bool:
+    """Whether they grow in the second half too."""
+    return _grows(numbers) and numbers[-1] > numbers[(len(numbers) - 1) // 2]
+
+
+def _grows_steadily(sizes: Sequence[int]) -> bool:
+    """Whether bytes become more in most of the steps, or many of them at once, as where a buffer is doubled."""
+    steps = [after - before for before, after in zip(sizes, sizes[1:])]
+    average = sum(steps) / len(steps)
+    return average >= _FEW_BYTES and (2 * sum(step > 0 for step in steps) > len(steps) or average >= _MANY_BYTES)
 
 
 def _number(value: float) -> str:

@@ -1,5 +1,6 @@
 """What is in a heap by type, and what each root reaches."""
-from typing import Any, Dict, Iterator, List, Optional, Sequence, Tuple
+from collections import Counter
+from typing import Any, Iterator, List, Optional, Sequence, Tuple
 
 from ..graphs.dominators import Kept, kept_alone, kept_by_type
 from ..graphs.graph import Graph
@@ -24,15 +25,14 @@ def summary(graph: Graph, top: int) -> str:
 
 
 def _types(graph: Graph, kept: Kept, top: int) -> str:
-    counts: Dict[int, List[int]] = {}
-    for node, kind in enumerate(graph.kinds):
-        one = counts.setdefault(kind, [0, 0])
-        one[0] += 1
-        one[1] += graph.sizes[node] if graph.sizes is not None else 0
+    counts = Counter(graph.kinds)
+    sizes = [0] * len(graph.type_names)
+    for kind, size in zip(graph.kinds, graph.sizes or ()):
+        sizes[kind] += size
     alone = kept_by_type(graph, kept)
     rows: List[Tuple[Any, ...]] = [
-        (objects, size, *alone.get(graph.type_names[kind], (0, 0)), graph.type_names[kind])
-        for kind, (objects, size) in counts.items()
+        (objects, sizes[kind], *alone.get(graph.type_names[kind], (0, 0)), graph.type_names[kind])
+        for kind, objects in counts.items()
     ]
     by = 1 if graph.sizes is not None else 0
     rows.sort(key=lambda row: (-row[by], -row[0], row[-1]))

@@ -22,6 +22,9 @@ public class PluginLeaks {
     static class OfThreadOfPlugin extends Held { }
     static class OfHiddenClass extends Held { }
     static class OfClassValue extends Held { }
+    static class OfClassData extends Held { }
+    static class OfListInClassData extends Held { }
+    static class OfCircleInClassData extends Held { final Object[] own = {this}; }
 
     // The twins.
     static class ReleasedOfInstance extends Held { }
@@ -32,6 +35,9 @@ public class PluginLeaks {
     static class ReleasedOfThreadOfPlugin extends Held { }
     static class ReleasedOfHiddenClass extends Held { }
     static class ReleasedOfClassValue extends Held { }
+    static class ReleasedOfClassData extends Held { }
+    static class ReleasedOfListInClassData extends Held { }
+    static class ReleasedOfCircleInClassData extends Held { final Object[] own = {this}; }
 
     /** What a loader of its own defines anew for each plugin. */
     public static class Plugin implements Runnable {
@@ -100,6 +106,11 @@ public class PluginLeaks {
         return instanceOf(hidden);
     }
 
+    /** An object of a hidden class that was given these data, which the JVM holds for the class. */
+    static Object hiddenWithData(Object data) throws Exception {
+        return instanceOf(MethodHandles.lookup().defineHiddenClassWithClassData(codeOf("PluginLeaks$Plugin"), data, true).lookupClass());
+    }
+
     /** A thread of a pool that goes on with the loader of the plugin that asked it first. */
     static ExecutorService poolOf(Class<?> plugin) throws Exception {
         ExecutorService pool = Executors.newFixedThreadPool(1, work -> {
@@ -121,6 +132,9 @@ public class PluginLeaks {
         poolOf(pluginThatHolds(new OfThreadOfPlugin()));
         KEPT.add(hiddenThatHolds(new OfHiddenClass()));
         values.get(PluginLeaks.class);
+        KEPT.add(hiddenWithData(new OfClassData()));
+        KEPT.add(hiddenWithData(List.of(new OfListInClassData())));
+        KEPT.add(hiddenWithData(new OfCircleInClassData()));
     }
 
     static void release() throws Exception {
@@ -136,6 +150,9 @@ public class PluginLeaks {
         passingValues.get(PluginLeaks.class);
         passingValues.remove(PluginLeaks.class);
         passingValues = null;
+        PASSING.add(hiddenWithData(new ReleasedOfClassData()));
+        PASSING.add(hiddenWithData(List.of(new ReleasedOfListInClassData())));
+        PASSING.add(hiddenWithData(new ReleasedOfCircleInClassData()));
         PASSING.clear();
     }
 

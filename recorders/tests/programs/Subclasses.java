@@ -3,7 +3,7 @@ import java.util.List;
 
 /** Sessions of which every object is of a subclass, some of them anonymous. It says "ready" and waits until its input ends. */
 public class Subclasses {
-    static class Session { void end() { } }
+    static class Session { int visits; void end() { visits = 0; } }
 
     static class SessionProxy extends Session { }
 
@@ -21,6 +21,10 @@ public class Subclasses {
 
     static class Unused { }
 
+    interface Listener { }
+
+    static class Heard implements Listener { }
+
     static final List<Object> KEPT = new ArrayList<>(), RECENT = new ArrayList<>();
     static final Box BOX = new BoxProxy();
     static final Class<?>[] LOADED = {new Unused[0].getClass().getComponentType(), new Session[0].getClass().getComponentType()};
@@ -31,6 +35,7 @@ public class Subclasses {
             KEPT.add(new Session() { @Override void end() { KEPT.clear(); } });
             KEPT.add(new OtherConfig());
             RECENT.add(new ItemProxy());
+            RECENT.add(new Heard());
         }
         KEPT.add(new Config());
         BOX.item = new ItemProxy();

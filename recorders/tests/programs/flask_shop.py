@@ -6,10 +6,14 @@ import logging
 import queue
 import sys
 import threading
+from collections import deque
 
 from flask import Flask, g
 
 from gcaudit_recorder import HeapViolation, Recorder
+
+
+LAST = 4  # so many lines of the log, and so many errors, are kept
 
 
 class Session:
@@ -59,17 +63,14 @@ class Visitor:
 
 
 class Lines(logging.Handler):
-    """Keeps lines of the log: the text of the last one, or all records with what they speak of."""
+    """Keeps lines of the log: the texts of the last ones, or all records with what they speak of."""
 
     def __init__(self, texts):
         super().__init__()
-        self.texts, self.lines = texts, []
+        self.texts, self.lines = texts, deque(maxlen=LAST if texts else None)
 
     def emit(self, record):
-        if self.texts:
-            self.lines[:] = [record.getMessage()]
-        else:
-            self.lines.append(record)
+        self.lines.append(record.getMessage() if self.texts else record)
 
 
 class Shop:
@@ -81,7 +82,7 @@ class Shop:
         self.listeners = []
         self.pages = {}
         self.callbacks = []
-        self.errors = []
+        self.errors = deque(maxlen=None if leaks else LAST)
         self.jobs = queue.Queue()
         self.lines = Lines(texts=not leaks)
         self.log = logging.Logger("shop")
@@ -142,10 +143,7 @@ class Shop:
 
         @app.errorhandler(ValueError)
         def failed(error):
-            if self.leaks:
-                self.errors.append(error)
-            else:
-                self.errors[:] = [str(error)]
+            self.errors.append(error if self.leaks else "%s, in request %d" % (error, self.requests))
             return "failed", 400
 
         @app.route("/mail")
@@ -160,7 +158,7 @@ class Shop:
         def visit():
             visitor = Visitor()
             self.made(visitor)
-            self.log.warning("%s was here", visitor)
+            self.log.warning("%s was here, in request %d", visitor, self.requests)
             return "seen"
 
         return app
@@ -177,7 +175,7 @@ def main(way, leaks, folder):
     with Recorder(folder + "/shop.jsonl", "everything") as recorder:
         shop = Shop(leaks == "leak", recorder.assert_dead if way == "assertions" else lambda made: None)
         if way == "growth":
-            print(recorder.growth(2, shop.visit))
+            print(recorder.growth(2, shop.visit, warm_up=LAST))
             return
         shop.visit()
         shop.made = lambda made: None

@@ -9,7 +9,8 @@ const http = require('http');
 
 const NAMES = ['OfOnceListener', 'OfAsyncLocalStorage', 'OfPendingAwait', 'OfStream', 'OfAgentQueue', 'OfPort', 'OfImmediate', 'OfTimeout',
   'OfAsyncGenerator', 'OfIterator', 'OfAbortSignal', 'OfRegistryValue', 'OfErrorCause', 'OfPrivateField', 'OfPrototype', 'OfGetter',
-  'OfModuleCache', 'OfWeakRefKey', 'OfPromiseRace', 'OfSharedClosure', 'OfAsyncResource', 'OfProcessListener', 'OfDefaultArgument'];
+  'OfModuleCache', 'OfWeakRefKey', 'OfPromiseRace', 'OfSharedClosure', 'OfAsyncResource', 'OfProcessListener', 'OfDefaultArgument',
+  'OfPropertyOfPrototype', 'OfClassOfObject', 'OfMethodOfPrototype'];
 const classes = {};
 for (const name of NAMES) {
   for (const prefix of ['', 'Released']) classes[prefix + name] = new Function('return class ' + prefix + name + ' { }')();
@@ -50,6 +51,9 @@ function hold(name, held) {
     case 'OfSharedClosure': { const used = () => held; const small = () => 1; used(); return keep(small); }
     case 'OfAsyncResource': { const resource = new AsyncResource(name); resource.bound = resource.runInAsyncScope.bind(resource, () => held); return keep(resource); }
     case 'OfProcessListener': { const on = () => held; process.on('warning', on); return () => process.removeListener('warning', on); }
+    case 'OfPropertyOfPrototype': return keep(Object.create(Object.create({ held })));
+    case 'OfClassOfObject': { class Local { static kept = held; } return keep(new Local()); }
+    case 'OfMethodOfPrototype': { class Local { get() { return held; } } return keep([new Local()]); }
     case 'OfDefaultArgument': return keep(((inner) => (given = inner) => given)(held));
   }
 }
