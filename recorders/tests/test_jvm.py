@@ -10,7 +10,7 @@ import tempfile
 import unittest
 import xml.etree.ElementTree as ElementTree
 
-from tests.support import JUNIT_JARS, PROGRAM, PROGRAMS, RECORDERS, InFolder, needs_commands, needs_program
+from tests.support import JUNIT_JARS, PROGRAM, PROGRAMS, RECORDERS, InFolder, events, needs_commands, needs_program
 
 JVM = os.path.join(RECORDERS, "jvm")
 SOURCES = os.path.join(PROGRAMS, "jvm")
@@ -225,18 +225,76 @@ class Asserting(WithLibrary):
         self.assertEqual((status, said), (0, "clean\n"))
 
 
+class Checks(WithLibrary):
+    """Several checks of one audit."""
+
+    def checks(self, *words, **properties):
+        """What the checks of a program say, and the operations of the last trace."""
+        kept = self.path("kept")
+        shutil.rmtree(kept, ignore_errors=True)
+        status, said = self.java("Checks", *words, properties={"gcaudit.keep": kept, **properties})
+        self.assertEqual(status, 0, said)
+        traces = sorted(glob.glob(os.path.join(kept, "*", "heap.jsonl")), key=os.path.getsize)
+        return said.split("----\n")[:-1], events(traces[-1])
+
+    @unittest.skipUnless(has_compiler, "not there: cc")
+    def test_a_leak_of_the_second_check_and_its_twin(self):
+        (first, second), trace = self.checks("late")
+        self.assertEqual(first, "clean\n")
+        self.assertRegex(
+            second, r"(?m)^gc 2 unshared (\d+) Checks\$Node refs 2: root .* class Checks \.LEFT .* \| root .*\.RECENT "
+        )
+        self.assertRegex(second, r"(?m)^end gcs 2 violations 1$")
+        self.assertEqual(sum(event["op"] == "collect" for event in trace), 2)
+        self.assertEqual(self.checks("mended")[0], ["clean\n", "clean\n"])
+
+    @unittest.skipUnless(has_compiler, "not there: cc")
+    def test_an_object_keeps_its_id_until_it_is_gone(self):
+        (first, second, third), trace = self.checks("gone")
+        found = re.search(r"(?m)^gc 1 dead (\d+) Checks\$Session: root .* \[0\] -> \1 Checks\$Session$", first)
+        self.assertIsNotNone(found, first)
+        number = int(found.group(1))
+        self.assertRegex(
+            second, r"(?m)^gc 2 dead %d Checks\$Session: root .*Object\[\] \[49\] -> %d " % (number, number)
+        )
+        self.assertEqual(third, "clean\n")
+        self.assertEqual(sum(event["op"] == "collect" for event in trace), 3)
+        sessions = [event["id"] for event in trace if event["op"] == "alloc" and event["type"] == "Checks$Session"]
+        self.assertEqual(sessions, [number])
+        self.assertEqual([e["id"] for e in trace if e["op"] == "assert-dead"], [number])
+
+    @unittest.skipUnless(has_compiler, "not there: cc")
+    def test_an_owner_that_is_gone(self):
+        (first, second, third), _ = self.checks("owner")
+        self.assertEqual(first, "clean\n")
+        owner = re.search(r"(?m)^gc 2 ownedby (\d+ Checks\$Item owner \d+): root .*\.RECENT -> ", second)
+        self.assertIsNotNone(owner, second)
+        self.assertRegex(third, r"(?m)^gc 3 ownedby %s gone: root .*\.RECENT -> " % re.escape(owner.group(1)))
+
+    def test_without_the_agent_each_check_has_a_trace(self):
+        (first, second, third), trace = self.checks("gone", **{"gcaudit.agent": "/no/such/agent"})
+        for said in (first, second):
+            self.assertRegex(said, r"(?m)^gc 1 dead \d+ Checks\$Session: ")
+        self.assertEqual(third, "clean\n")
+        self.assertEqual(sum(event["op"] == "collect" for event in trace), 1)
+
+    def test_nothing_stays_of_an_audit_that_is_never_closed(self):
+        self.assertEqual(self.java("Checks", "open"), (0, "clean\n----\n"))  # which looks at what is left
+
+
 @unittest.skipUnless(has_compiler, "not there: cc")
 class Regions(WithLibrary):
     def test_regions(self):
         status, said = self.java("Regions")
         self.assertEqual(status, 0, said)
-        first, second, third, fourth = said.split("----\n")
+        first, second, third, fourth, many = said.split("----\n")
         self.assertEqual(first, "clean\n")
         self.assertRegex(second, r"(?m)^gc 1 dead \d+ Regions\$Entry: root .* class Regions \.LOG -> .*$")
         self.assertRegex(second, r"(?m)^    and 2 more in the same way$")
         self.assertRegex(third, r"(?m)^gc 1 dead \d+ Regions\$Outer: root ")
         self.assertNotIn("Entry", third)
         self.assertEqual(fourth, "clean\n")
+        self.assertRegex(many, r"(?m)^    and 69999 more in the same way$")
 
     def test_without_the_agent(self):
         status, said = self.java("Regions", properties={"gcaudit.agent": "/no/such/agent"})

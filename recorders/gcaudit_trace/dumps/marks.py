@@ -154,6 +154,15 @@ class MarkedTrace(DumpTrace):
         """The numbers in the trace of what a region has allocated."""
         raise NotImplementedError
 
+    def key_of(self, number: int) -> int:
+        """The key by which a later dump of the process knows an object; 0 where none does."""
+        raise NotImplementedError
+
+    def _alloc(self, class_name: str, size: int, slots: int) -> int:
+        """An object that a later dump knows has a slot to spare, which can lead to further ones."""
+        key = self.key_of(self.trace.last_id + 1)
+        return self.trace.alloc(self._type_of(class_name), slots + (1 if key else 0), 0, size, key)
+
     def must_be_dead(self, assertion: Assertion) -> Iterable[int]:
         """The numbers of its objects which are alive, where the assertion says that they are dead."""
         if assertion.kind == "allocated":

@@ -8,21 +8,71 @@ const v8 = require('node:v8');
 const { HeapAuditError, HeapViolation } = require('./errors.js');
 
 const MOST_SECONDS = 1800;
-const HEAD = /^checked (\d+) assertions\n/;
-const LAST = /^end gcs 1 violations (\d+)$/;
+const HEAD = /^checked (\d+) assertions at collection (\d+): (\d+) violations\n/;
+const LAST = /^end gcs (\d+) violations \d+$/;
+const TRACE = 'heap.jsonl';
 const CARRIED = path.join(__dirname, 'recorders.zip');
 const OF_REPOSITORY = path.join(__dirname, '..', '..');
 
-/** Writes a snapshot of the heap, and has it read and audited by processes of their own. */
-async function check(lines, options) {
-  const keep = options.keep ?? process.env.GCAUDIT_KEEP;
-  const folder = newFolder(keep);
-  try {
-    await audit(lines, options, folder, keep ? `\nThe snapshot, its trace and the report are in ${folder}` : '');
-  } finally {
-    if (!keep) {
-      fs.rmSync(folder, { recursive: true, force: true });
+/**
+ * Writes snapshots of the heap for the checks of an audit, and has them read and audited by processes of their own. The trace of
+ * the checks before is kept for the next one, which continues it.
+ */
+class GcauditChecker {
+  #options;
+  #keep;
+  #earlier; // the folder with the trace of the checks before
+  #isClosed = false;
+
+  constructor(options) {
+    this.#options = options;
+    this.#keep = options.keep ?? process.env.GCAUDIT_KEEP;
+  }
+
+  async check(lines) {
+    const folder = newFolder(this.#keep);
+    let isChecked = false;
+    try {
+      await audit(lines, this.#options, folder, this.#earlier, this.#keep ? `\nThe snapshot, its trace and the report are in ${folder}` : '');
+      isChecked = true;
+    } catch (error) {
+      isChecked = error instanceof HeapViolation;
+      throw error;
+    } finally {
+      this.#end(folder, isChecked && !this.#isClosed);
     }
+  }
+
+  /** Of a folder that isn't kept the trace alone stays, for the next check. */
+  #end(folder, isNeeded) {
+    if (isNeeded) {
+      this.deleteTraces();
+      this.#earlier = folder;
+    }
+    if (!this.#keep) {
+      for (const name of fs.readdirSync(folder)) {
+        if (name !== TRACE || !isNeeded) {
+          fs.rmSync(path.join(folder, name), { recursive: true, force: true });
+        }
+      }
+      if (!isNeeded) {
+        fs.rmdirSync(folder);
+      }
+    }
+  }
+
+  /** No check follows. */
+  close() {
+    this.#isClosed = true;
+    this.deleteTraces();
+  }
+
+  /** Deletes the trace of the checks before, where it isn't kept. */
+  deleteTraces() {
+    if (this.#earlier !== undefined && !this.#keep) {
+      fs.rmSync(this.#earlier, { recursive: true, force: true });
+    }
+    this.#earlier = undefined;
   }
 }
 
@@ -38,19 +88,19 @@ function newFolder(keep) {
   }
 }
 
-async function audit(lines, options, folder, where) {
-  const snapshot = path.join(folder, 'heap.heapsnapshot');
+async function audit(lines, options, folder, earlier, where) {
   try {
     fs.writeFileSync(path.join(folder, 'marks.jsonl'), lines.map((line) => `${JSON.stringify(line)}\n`).join(''));
-    v8.writeHeapSnapshot(snapshot);
+    v8.writeHeapSnapshot(path.join(folder, 'heap.heapsnapshot'));
   } catch (error) {
     throw new HeapAuditError(`no heap snapshot could be written: ${error.message}`, { cause: error });
   }
-  const status = await run(snapshot, options, folder);
+  const status = await run(options, folder, earlier);
   const said = fs.readFileSync(path.join(folder, 'report.txt'), 'utf8');
+  const head = HEAD.exec(said);
   const last = LAST.exec(lastLine(said));
-  const isWhole = last !== null && Number(HEAD.exec(said)?.[1]) === lines.length;
-  if (!isWhole || (status !== 0 && status !== 1) || (status === 0) !== (last[1] === '0')) {
+  const isWhole = head !== null && last !== null && last[1] === head[2] && Number(head[1]) === lines.length;
+  if (!isWhole || (status !== 0 && status !== 1) || (status === 0) !== (head[3] === '0')) {
     const reason = lastLine(fs.readFileSync(path.join(folder, 'errors.txt'), 'utf8')) || 'nothing was said';
     throw new HeapAuditError(`the heap could not be audited (status ${status}): ${reason}${where}`);
   }
@@ -65,10 +115,14 @@ function lastLine(text) {
 }
 
 /** Runs the reader of snapshots, which runs gcaudit. The answer is its status. */
-function run(snapshot, options, folder) {
+function run(options, folder, earlier) {
   const python = options.python ?? process.env.GCAUDIT_PYTHON ?? 'python3';
   const seconds = Number(options.seconds ?? process.env.GCAUDIT_SECONDS ?? MOST_SECONDS);
-  const words = ['-B', '-m', 'heapsnapshot_to_trace.marked', snapshot, path.join(folder, 'marks.jsonl'), path.join(folder, 'heap.jsonl')];
+  const words = ['-B', '-m', 'heapsnapshot_to_trace.marked'];
+  words.push(...['heap.heapsnapshot', 'marks.jsonl', TRACE].map((name) => path.join(folder, name)));
+  if (earlier !== undefined) {
+    words.push('--after', path.join(earlier, TRACE));
+  }
   const files = ['report.txt', 'errors.txt'].map((name) => fs.openSync(path.join(folder, name), 'w'));
   return new Promise((resolve, reject) => {
     const child = spawn(python, words, { stdio: ['ignore', ...files], env: environment(options) });
@@ -109,4 +163,4 @@ function environment(options) {
   return found;
 }
 
-module.exports = { check };
+module.exports = { GcauditChecker };

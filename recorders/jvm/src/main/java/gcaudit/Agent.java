@@ -8,7 +8,7 @@ import java.nio.file.Path;
 import java.nio.file.StandardCopyOption;
 import java.util.Locale;
 
-/** The agent in C, which tags objects: what has no tag was allocated since. */
+/** The agent in C, which tags objects: what has no tag was allocated since, and a tag can be an object's number. */
 final class Agent {
     /** The property with the path of the agent's library. */
     static final String PROPERTY = "gcaudit.agent";
@@ -34,6 +34,33 @@ final class Agent {
     synchronized Object[] end(long epoch) {
         return endRegion(epoch);
     }
+
+    /** From now on until {@link #endNumbers} objects keep their numbers. */
+    synchronized void beginNumbers() {
+        beginNumbering();
+    }
+
+    synchronized void endNumbers() {
+        endNumbering();
+    }
+
+    /** All objects that are there. */
+    synchronized Object[] objects() {
+        return findObjects();
+    }
+
+    /** The number of each of these objects: one that it has already, or a new one. */
+    synchronized long[] numbersOf(Object[] objects) {
+        return findNumbers(objects);
+    }
+
+    private static native void beginNumbering();
+
+    private static native void endNumbering();
+
+    private static native Object[] findObjects();
+
+    private static native long[] findNumbers(Object[] objects);
 
     private static native long beginRegion();
 
