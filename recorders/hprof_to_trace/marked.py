@@ -23,6 +23,7 @@ from gcaudit_trace.dumps.marks import (
     MarkedWishes,
     TooManyObjects,
     more_to_leave_out,
+    say_too_many,
 )
 from gcaudit_trace.progress import Progress
 
@@ -230,6 +231,7 @@ def convert(
             break
         except TooManyObjects as many:
             left_out = more_to_leave_out(many.counts, wanted, left_out)
+    say_too_many(left_out, progress)
     say_left_out(heap.left_out, stay, heap.left, wishes, progress)
     out = _Trace(asked.trace, wishes, assertions, heap)
     with out:

@@ -165,6 +165,24 @@ class Leaks(WithLibrary):
         self.assertTrue(said.endswith("all are gone\n"), said)
 
 
+class LargeHeap(WithLibrary):
+    def test_more_objects_than_gcaudit_takes(self):
+        """Some classes are left out, and the session that an object of theirs holds is found."""
+        status, said = self.java("LargeHeap")
+        self.assertEqual(status, 0, said)
+        self.assertRegex(
+            said,
+            r"(?m)^gc 1 dead (\d+) LargeHeap\$Session: root class LargeHeap -> .* class LargeHeap \.LOG "
+            r".*\[500000\] \.attached -> \1 LargeHeap\$Session$",
+        )
+        self.assertRegex(
+            said,
+            r"(?m)^the heap has more objects than gcaudit takes, 1048576, so those of LargeHeap\$Entry are left out; "
+            r"references go on through them$",
+        )
+        self.assertTrue(said.endswith("\nclean\n"), said)
+
+
 class Asserting(WithLibrary):
     def test_each_kind_of_assertion(self):
         status, said = self.java("Asserting", "kinds")

@@ -98,6 +98,23 @@ class Leaks(WithPackage):
         self.assertTrue(said.endswith("all are gone\n"), said)
 
 
+class LargeHeap(WithPackage):
+    def test_more_objects_than_gcaudit_takes(self):
+        """Some types are left out, and the session that an object of theirs holds is found."""
+        status, said = self.node("large_heap.js")
+        self.assertEqual(status, 0, said)
+        self.assertRegex(
+            said,
+            r"(?m)^gc 1 dead (\d+) Session: root .* \d+ Array \[500000\] \.attached -> \1 Session$",
+        )
+        self.assertRegex(
+            said,
+            r"(?m)^the heap has more objects than gcaudit takes, 1048576, so those of Entry are left out; "
+            r"references go on through them$",
+        )
+        self.assertTrue(said.endswith("\nclean\n"), said)
+
+
 class Asserting(WithPackage):
     def test_each_kind_of_assertion(self):
         status, said = self.node("asserting.js", "kinds")

@@ -116,6 +116,15 @@ class MarkedWishes(Wishes):
             raise TooManyObjects(counts)
 
 
+def say_too_many(left_out: Set[str], progress: Progress) -> None:
+    """Says which classes are left out since the heap has more objects than gcaudit takes; the libraries tell it to their users."""
+    if left_out:
+        progress.say(
+            "the heap has more objects than gcaudit takes, %d, so those of %s are left out; references go on through them"
+            % (MOST_OBJECTS, ", ".join(sorted(left_out)))
+        )
+
+
 def more_to_leave_out(counts: Dict[str, int], wanted: Set[str], left_out: Set[str]) -> Set[str]:
     """The most frequent classes of which nothing is asserted, until the others are less than half of what gcaudit takes.
 

@@ -10,6 +10,7 @@ const { HeapAuditError, HeapViolation } = require('./errors.js');
 const MOST_SECONDS = 1800;
 const HEAD = /^checked (\d+) assertions at collection (\d+): (\d+) violations\n/;
 const LAST = /^end gcs (\d+) violations \d+$/;
+const LEFT_OUT = /the heap has more objects than gcaudit takes.*/;
 const TRACE = 'heap.jsonl';
 const CARRIED = path.join(__dirname, 'recorders.zip');
 const OF_REPOSITORY = path.join(__dirname, '..', '..');
@@ -106,8 +107,14 @@ async function audit(lines, options, folder, earlier, where) {
   }
   if (status === 1) {
     const report = said.replace(HEAD, '');
-    throw new HeapViolation(`gcaudit found a violation:\n${report.trim()}${where}`, report);
+    throw new HeapViolation(`gcaudit found a violation:\n${report.trim()}${leftOut(folder)}${where}`, report);
   }
+}
+
+/** What the reader said of types that it left out, as a line; empty where the heap isn't too large. */
+function leftOut(folder) {
+  const found = LEFT_OUT.exec(fs.readFileSync(path.join(folder, 'errors.txt'), 'utf8'));
+  return found === null ? '' : `\n${found[0]}`;
 }
 
 function lastLine(text) {

@@ -32,6 +32,7 @@ final class Checker {
     private static final int MOST_SECONDS = 1800;
     private static final Pattern HEAD = Pattern.compile("checked (\\d+) assertions at collection (\\d+): (\\d+) violations\n");
     private static final Pattern LAST = Pattern.compile("end gcs (\\d+) violations \\d+");
+    private static final Pattern LEFT_OUT = Pattern.compile("the heap has more objects than gcaudit takes.*");
     private static final String UNREACHED = "(alive, and no root of the dump leads to it)";
     private static final String TRACE = "heap.jsonl";
 
@@ -122,8 +123,14 @@ final class Checker {
         }
         if (status == 1) {
             String report = said.substring(head.end());
-            throw new HeapViolation("gcaudit found a violation:\n" + report.trim() + where, report);
+            throw new HeapViolation("gcaudit found a violation:\n" + report.trim() + leftOut(folder) + where, report);
         }
+    }
+
+    /** What the reader said of classes that it left out, as a line; empty where the heap isn't too large. */
+    private static String leftOut(Path folder) {
+        Matcher found = LEFT_OUT.matcher(read(folder.resolve("errors.txt")));
+        return found.find() ? "\n" + found.group() : "";
     }
 
     /** What the processes said last on standard error. */
