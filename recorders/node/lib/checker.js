@@ -13,6 +13,7 @@ const LAST = /^end gcs (\d+) violations \d+$/;
 const LEFT_OUT = /the heap has more objects than gcaudit takes.*/;
 const TRACE = 'heap.jsonl';
 const CARRIED = path.join(__dirname, 'recorders.zip');
+const BUNDLED = path.join(__dirname, 'programs', `${process.platform}-${process.arch}`, 'run_bundled');
 const OF_REPOSITORY = path.join(__dirname, '..', '..');
 
 /**
@@ -153,7 +154,10 @@ function run(options, folder, earlier) {
   }).finally(() => files.forEach((file) => fs.closeSync(file)));
 }
 
-/** The environment of the reader: with the recorders that are named, else those that the package or the repository has. */
+/**
+ * The environment of the reader: with the recorders that are named, else those that the package or the repository has; and with
+ * the program gcaudit that is named, else the one that the package has, else that on the path.
+ */
 function environment(options) {
   const found = { ...process.env };
   let place = options.recorders ?? process.env.GCAUDIT_RECORDERS;
@@ -166,6 +170,8 @@ function environment(options) {
   }
   if (options.program !== undefined) {
     found.GCAUDIT = path.resolve(options.program);
+  } else if (!found.GCAUDIT && fs.existsSync(BUNDLED)) {
+    found.GCAUDIT = BUNDLED;
   }
   return found;
 }

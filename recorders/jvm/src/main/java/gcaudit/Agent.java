@@ -2,11 +2,7 @@ package gcaudit;
 
 import java.io.File;
 import java.io.IOException;
-import java.io.InputStream;
-import java.nio.file.Files;
 import java.nio.file.Path;
-import java.nio.file.StandardCopyOption;
-import java.util.Locale;
 
 /** The agent in C, which tags objects: what has no tag was allocated since, and a tag can be an object's number. */
 final class Agent {
@@ -82,17 +78,11 @@ final class Agent {
 
     /** Loads the library that the jar has for this system; false where it has none. */
     private static boolean loadFromJar() throws IOException {
-        String name = "native/" + System.getProperty("os.name").toLowerCase(Locale.ROOT).replace(' ', '-') + "-"
-                + System.getProperty("os.arch") + "/" + System.mapLibraryName("gcaudit");
-        try (InputStream found = Agent.class.getResourceAsStream(name)) {
-            if (found == null) {
-                return false;
-            }
-            Path copy = Files.createTempFile("gcaudit-", ".agent");
-            copy.toFile().deleteOnExit();
-            Files.copy(found, copy, StandardCopyOption.REPLACE_EXISTING);
-            System.load(copy.toString());
-            return true;
+        Path copy = Bundled.unpackAgent();
+        if (copy == null) {
+            return false;
         }
+        System.load(copy.toString());
+        return true;
     }
 }

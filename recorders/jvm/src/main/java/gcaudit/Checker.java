@@ -2,7 +2,6 @@ package gcaudit;
 
 import java.io.File;
 import java.io.IOException;
-import java.io.InputStream;
 import java.lang.management.ManagementFactory;
 import java.nio.charset.StandardCharsets;
 import java.nio.file.FileVisitResult;
@@ -195,10 +194,7 @@ final class Checker {
         builder.redirectOutput(folder.resolve("report.txt").toFile());
         builder.redirectError(folder.resolve("errors.txt").toFile());
         addRecorders(builder, folder);
-        String program = System.getProperty(PROGRAM);
-        if (program != null) {
-            builder.environment().put("GCAUDIT", new File(program).getAbsolutePath());
-        }
+        addProgram(builder, folder);
         int seconds = Integer.getInteger(SECONDS, MOST_SECONDS);
         Process process;
         try {
@@ -224,19 +220,25 @@ final class Checker {
         }
     }
 
+    /** The program gcaudit: the one that a property names, else that of the variable GCAUDIT, else the one that the jar has, else that on the path. */
+    private static void addProgram(ProcessBuilder builder, Path folder) {
+        String program = System.getProperty(PROGRAM);
+        if (program != null) {
+            builder.environment().put("GCAUDIT", new File(program).getAbsolutePath());
+        } else if (!builder.environment().containsKey("GCAUDIT")) {
+            Path unpacked = Bundled.unpackProgram(folder);
+            if (unpacked != null) {
+                builder.environment().put("GCAUDIT", unpacked.toString());
+            }
+        }
+    }
+
     /** The recorders in Python: those that a property names, else those that the jar carries, else what Python has installed. */
     private static void addRecorders(ProcessBuilder builder, Path folder) {
         String place = System.getProperty(RECORDERS);
         if (place == null) {
-            try (InputStream found = Checker.class.getResourceAsStream("recorders.zip")) {
-                if (found != null) {
-                    Path copy = folder.resolve("recorders.zip");
-                    Files.copy(found, copy);
-                    place = copy.toString();
-                }
-            } catch (IOException error) {
-                throw new HeapAuditException("the reader of heap dumps can't be unpacked: " + error, error);
-            }
+            Path unpacked = Bundled.unpackRecorders(folder);
+            place = unpacked == null ? null : unpacked.toString();
         } else {
             place = new File(place).getAbsolutePath();
         }
