@@ -9,6 +9,7 @@ import sys
 import tempfile
 import unittest
 import xml.etree.ElementTree as ElementTree
+import zipfile
 
 from tests.support import JUNIT_JARS, PROGRAM, PROGRAMS, RECORDERS, InFolder, events, needs_commands, needs_program
 
@@ -17,6 +18,8 @@ SOURCES = os.path.join(PROGRAMS, "jvm")
 has_junit = all(map(os.path.exists, JUNIT_JARS))
 has_compiler = shutil.which("cc") is not None
 KINDS = 62
+JAVA_8 = 52  # the version of its class files
+MAVEN = "/usr/share/maven-repo/org/apache/maven/plugins/maven-jar-plugin"
 LIMIT = 900  # seconds for a program; nothing in it waits by the clock, so a busy machine only takes longer
 
 # What the report says of each leak of ServiceLeaks.java: its type, and the end of its path.
@@ -355,6 +358,45 @@ class JUnit(WithLibrary):
         self.assertEqual(status, 1, said)
         for messages in cases.values():
             self.assertIn("nothing was asserted", messages[0])
+
+
+def class_files(jar):
+    """The version of each class in a jar."""
+    with zipfile.ZipFile(jar) as packed:
+        names = [name for name in packed.namelist() if name.endswith(".class")]
+        return {name: packed.read(name)[7] for name in names if not name.endswith("package-info.class")}
+
+
+class Jar(WithLibrary):
+    def test_the_classes_are_for_java_8(self):
+        versions = class_files(self.jar)
+        self.assertIn("gcaudit/HeapAudit.class", versions)
+        self.assertEqual(set(versions.values()), {JAVA_8})
+
+
+@needs_commands("mvn", "cc")
+@unittest.skipUnless(
+    os.path.isdir(MAVEN), "Maven's plugins are not there (Debian's libmaven-jar-plugin-java and others)"
+)
+@unittest.skipUnless(has_junit, "JUnit 5 is not there (Debian's package junit5)")
+class Maven(WithLibrary):
+    def test_maven_builds_the_library_without_a_network(self):
+        top = os.path.dirname(RECORDERS)
+        for name in ("LICENCE.md", "recorders"):
+            copy = shutil.copytree if os.path.isdir(os.path.join(top, name)) else shutil.copy
+            copy(os.path.join(top, name), self.path(name))
+        jvm = self.path(os.path.join("recorders", "jvm"))
+        need(run(os.path.join(jvm, "build_resources"), os.path.join(jvm, "target", "resources")))
+        words = ["-s", os.path.join(jvm, "debian-settings.xml"), "-f", os.path.join(jvm, "pom.xml")]
+        words += ["-Dmaven.repo.local=" + self.path("repository")]
+        need(run("mvn", "--batch-mode", "--offline", "-Daether.offline.protocols=file", *words, "package"))
+        jar = glob.glob(os.path.join(jvm, "target", "gcaudit-*.jar"))[0]
+        versions = class_files(jar)
+        self.assertEqual(set(versions.values()), {JAVA_8})
+        self.assertEqual(set(versions), set(class_files(self.jar)))
+        self.jar = jar
+        self.assertEqual(self.java("Regions", "few")[0], 0)  # with the agent
+        self.assertRegex(self.java("Asserting", "leak")[1], r"gc 1 dead \d+ Asserting\$Node: ")
 
 
 @needs_commands("jcmd")
