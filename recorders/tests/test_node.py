@@ -268,7 +268,31 @@ class Runners(WithPackage):
         self.assertEqual(status, 1)
         self.assertRegex(said, self.path_of_session)
 
+    @needs_commands("jest")
+    def test_jest(self):
+        with open(self.path("package.json"), "w") as file:
+            file.write("{}")
+        shutil.copy(os.path.join(SOURCES, "shop.jest.js"), self.path("shop.test.js"))
+        words = ["jest", "--ci", "--runInBand", "--watchman=false"]
+        status, said = self.run_with_package(*words, folder=self.folder)
+        self.assertEqual(status, 0, said)
+        status, said = self.run_with_package(*words, folder=self.folder, LEAKS="1")
+        self.assertEqual(status, 1, said)
+        self.assertRegex(said, self.path_of_session)
+        self.assertRegex(said, r"(?m)^Tests: +1 failed, 1 passed, 2 total$")
+
+
 class Package(WithPackage):
+    @needs_commands("tsc")
+    def test_its_types(self):
+        os.makedirs(self.path("node_modules"))
+        os.symlink(NODE, self.path("node_modules/gcaudit"))
+        shutil.copy(os.path.join(SOURCES, "shop.ts"), self.folder)
+        words = ["--noEmit", "--strict", "--target", "es2022", "--lib", "es2022,dom"]
+        for module in (["--module", "node16"], ["--module", "commonjs", "--moduleResolution", "node"]):
+            status, said = run("tsc", *words, *module, "shop.ts", cwd=self.folder)
+            self.assertEqual((status, said), (0, ""))
+
     def test_it_is_built_and_imported_both_ways(self):
         self.assertEqual(run(os.path.join(NODE, "build"), self.folder)[0], 0)
         modules = self.path("node_modules")
