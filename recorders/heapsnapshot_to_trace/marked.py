@@ -3,6 +3,7 @@
 A mark is a property of the library's registry: its name, which no other property has, leads to a WeakRef, and that to the marked
 object by a weak edge. Neither is in the trace.
 """
+import argparse
 import sys
 from array import array
 from typing import Any, BinaryIO, Dict, Iterable, Iterator, List, Set
@@ -18,6 +19,7 @@ from gcaudit_trace.dumps.marks import (
     MarkedWishes,
     TooManyObjects,
     more_to_leave_out,
+    say_too_many,
 )
 from gcaudit_trace.progress import Progress
 
@@ -157,6 +159,11 @@ class MarkedSnapshot(Snapshot):
     def _text_of(self, node: int) -> str:
         return self.texts.get(self.names[node], "")
 
+    def id_of(self, number: int) -> int:
+        """The number that V8 gives an object of the trace, from snapshot to snapshot; 0 for what isn't an object of V8."""
+        found = self.ids[self.kept_nodes[number - 1]] if number <= len(self.kept_nodes) else 0
+        return found if found % 2 else 0
+
     def closure_name(self, number: int) -> str:
         """The name under which the objects of a class stand, by the number of its constructor."""
         return self._text_of(self.kept_nodes[number - 1])
@@ -190,6 +197,9 @@ class _Trace(MarkedTrace):
             raise TraceError("an object of which something is asserted is left out")
         return number
 
+    def key_of(self, number: int) -> int:
+        return self._snapshot.id_of(number)
+
     def class_of(self, mark: Mark) -> str:
         return self._snapshot.closure_name(self.number_of(mark))
 
@@ -200,7 +210,7 @@ class _Trace(MarkedTrace):
 
 
 def convert(
-    file: BinaryIO, name: str, trace: str, assertions: List[Assertion], progress: Progress, with_classes: bool
+    file: BinaryIO, asked: argparse.Namespace, assertions: List[Assertion], progress: Progress, with_classes: bool
 ) -> Marked:
     """Writes the trace of a snapshot with the assertions about its marks. Where it has too many objects, some classes are left out.
 
@@ -212,7 +222,7 @@ def convert(
     while True:
         wishes = MarkedWishes(assertions, _is_own, left_out)
         wishes.owners = {} if with_classes else _LEAVE_OUT_CLASSES
-        snapshot = MarkedSnapshot(file, name, wishes, progress, marks, with_classes)
+        snapshot = MarkedSnapshot(file, asked.dump, wishes, progress, marks, with_classes)
         try:
             snapshot.read()
             snapshot.find_marks()
@@ -220,8 +230,9 @@ def convert(
             break
         except TooManyObjects as many:
             left_out = more_to_leave_out(many.counts, wanted, left_out)
+    say_too_many(left_out, progress)
     say_left_out(snapshot.left_out, stay, snapshot.left, wishes, progress)
-    out = _Trace(trace, wishes, assertions, snapshot)
+    out = _Trace(asked.trace, wishes, assertions, snapshot)
     with out:
         snapshot.write(out)
         out.finish(snapshot.roots(), progress)

@@ -2,11 +2,15 @@
 
 A mark is an object of the class gcaudit.Mark: a reference with a `number` whose `referent` is the marked object. The library's
 own objects are not in the trace.
+
+Where the library has an agent that numbers objects, the static field `objects` of the class gcaudit.Numbering has all objects in
+the dump, and a file their numbers in the same order, each of eight bytes. An object keeps its number from dump to dump.
 """
+import argparse
 import struct
 import sys
 from array import array
-from typing import BinaryIO, Dict, Iterable, Iterator, List, Set, Tuple
+from typing import BinaryIO, Dict, Iterable, Iterator, List, Sequence, Set, Tuple
 
 from gcaudit_trace import TraceError
 from gcaudit_trace.commands import marked
@@ -19,13 +23,15 @@ from gcaudit_trace.dumps.marks import (
     MarkedWishes,
     TooManyObjects,
     more_to_leave_out,
+    say_too_many,
 )
 from gcaudit_trace.progress import Progress
 
 from .convert import Heap
-from .reader import INSTANCE, OBJECT, PRIMITIVE_ARRAY, SIZES, Dump
+from .reader import INSTANCE, OBJECT, OBJECT_ARRAY, PRIMITIVE_ARRAY, SIZES, Dump
 
 _MARK = "gcaudit.Mark"
+_NUMBERING, _NUMBERED = "gcaudit.Numbering", ".objects"
 _OWN = ("gcaudit.", "class gcaudit.")
 _CLASS = "class "
 _STRING = "java.lang.String"
@@ -38,12 +44,17 @@ def _is_own(name: str) -> bool:
 class MarkedHeap(Heap):
     """The heap of a dump with marks. After `find_objects`, `targets` has the identifier of each mark's object, 0 where it is gone."""
 
-    def __init__(self, dump: Dump, wishes: MarkedWishes, progress: Progress, marked: Set[Mark]) -> None:
+    def __init__(
+        self, dump: Dump, wishes: MarkedWishes, progress: Progress, marked: Set[Mark], numbers: Sequence[int]
+    ) -> None:
         super().__init__(dump, wishes, progress)
         self._is_own = wishes.is_own
         self._marked = marked
         self._arrays_start = 0  # among `kept_places`: behind them are arrays of primitives, which hold nothing
         self.targets: Dict[Mark, int] = {}
+        self._numbers = numbers
+        self._numbered_place = 0  # where the record of the array of all numbered objects stands
+        self.keys = array("Q")  # the number of each kept object; 0 where it has none
 
     def find_objects(self) -> None:
         super().find_objects()
@@ -59,6 +70,7 @@ class MarkedHeap(Heap):
         for target in self.targets.values():
             if target and self.codes.get(target) < 1:
                 raise TraceError("%s has an object of which something is asserted, and it is left out" % self.dump.name)
+        self._find_numbers()
 
     def _may_hold(self, class_id: int) -> bool:
         name = self.dump.class_name(class_id)
@@ -87,6 +99,35 @@ class MarkedHeap(Heap):
                             ">" + self.dump.id_code, self.dump.data, place + referent_at
                         )[0]
         return found
+
+    def _find_numbers(self) -> None:
+        """Finds the numbers of the kept objects. The array of all objects holds nothing in the trace."""
+        self.keys = array("Q", bytes(8 * len(self.kept_places)))
+        if not self._numbers:
+            return
+        held = [
+            to
+            for number in self.classes
+            if self.dump.class_name(number) == _NUMBERING
+            for label, to in self.classes[number].held
+            if label == _NUMBERED
+        ]
+        place = self._place_of(held[0]) if held else 0
+        objects = self._elements(place)[1] if place and self.dump.data[place - 1] == OBJECT_ARRAY else ()
+        if len(objects) != len(self._numbers):
+            raise TraceError(
+                "%s lists %d numbered objects, and there are %d numbers"
+                % (self.dump.name, len(objects), len(self._numbers))
+            )
+        self._numbered_place = place
+        for identifier, number in zip(objects, self._numbers):
+            code = self.codes.get(identifier)
+            if code > 0:
+                self.keys[code - 1] = number
+
+    def _elements(self, place: int) -> Tuple[int, Tuple[int, ...]]:
+        class_id, elements = super()._elements(place)
+        return class_id, () if place == self._numbered_place else elements
 
     def _keep_arrays(self, targets: Set[int]) -> None:
         """Keeps these arrays of primitives, of which something is asserted; the others hold nothing, and are left out."""
@@ -149,6 +190,9 @@ class _Trace(MarkedTrace):
     def number_of(self, mark: Mark) -> int:
         return self._heap.codes.get(self._heap.targets[mark])
 
+    def key_of(self, number: int) -> int:
+        return self._heap.keys[number - 1] if number <= len(self._heap.keys) else 0
+
     def class_of(self, mark: Mark) -> str:
         return self._heap.dump.class_name(self._heap.targets[mark])
 
@@ -161,14 +205,15 @@ class _Trace(MarkedTrace):
 
 
 def convert(
-    file: BinaryIO, name: str, trace: str, assertions: List[Assertion], progress: Progress, with_classes: bool
+    file: BinaryIO, asked: argparse.Namespace, assertions: List[Assertion], progress: Progress, with_classes: bool
 ) -> Marked:
     """Writes the trace of a dump with the assertions about its marks. Where it has too many objects, some classes are left out.
 
     The references from objects to their classes are left out where something is owned, unless they are asked for.
     """
-    dump = Dump(file, name, progress)
-    numbers = {mark for one in assertions for mark in one.marks()}
+    dump = Dump(file, asked.dump, progress)
+    marks = {mark for one in assertions for mark in one.marks()}
+    numbers = _read_numbers(asked.numbers) if asked.numbers else ()
     wanted = {
         name[len(_CLASS) :] if name.startswith(_CLASS) else name
         for one in assertions
@@ -179,19 +224,40 @@ def convert(
         wishes = MarkedWishes(assertions, _is_own, left_out)
         if with_classes:
             wishes.owners = {}
-        heap = MarkedHeap(dump, wishes, progress, numbers)
+        heap = MarkedHeap(dump, wishes, progress, marks, numbers)
         try:
             heap.find_objects()
             stay = heap.pass_over()
             break
         except TooManyObjects as many:
             left_out = more_to_leave_out(many.counts, wanted, left_out)
+    say_too_many(left_out, progress)
     say_left_out(heap.left_out, stay, heap.left, wishes, progress)
-    out = _Trace(trace, wishes, assertions, heap)
+    out = _Trace(asked.trace, wishes, assertions, heap)
     with out:
         heap.write(out)
         out.finish(heap.named_roots(), progress)
     return out.marked(out.waiting, out.soft)
+
+
+def _read_numbers(path: str) -> Sequence[int]:
+    numbers = array("Q")
+    try:
+        with open(path, "rb") as file:
+            numbers.frombytes(file.read())
+    except (OSError, ValueError) as error:
+        raise TraceError("%s can't be read: %s" % (path, error)) from None
+    if sys.byteorder == "little":
+        numbers.byteswap()
+    return numbers
+
+
+def _add_options(parser: argparse.ArgumentParser) -> None:
+    parser.add_argument(
+        "--numbers",
+        metavar="FILE",
+        help="the numbers of the objects that the dump lists, which they keep from dump to dump",
+    )
 
 
 def main(words=None) -> int:
@@ -200,6 +266,7 @@ def main(words=None) -> int:
         "Audits an HPROF dump in which gcaudit's library for Java has marked objects.",
         convert,
         words,
+        _add_options,
     )
 
 

@@ -15,13 +15,13 @@ from gcaudit_trace.progress import Progress
 
 from .__main__ import main as hprof_to_trace
 
-_PROGRAM = "gcaudit-jvm"
+PROGRAM = "gcaudit-jvm"
 _ASSERTING = ("dead", "limit", "unshared", "owned_by")
 
 
 def parser() -> argparse.ArgumentParser:
     made = argparse.ArgumentParser(
-        prog=_PROGRAM,
+        prog=PROGRAM,
         description="Has a JVM that runs write its heap, and audits it: the program needs no change. With --growth it has the heap "
         "written some times, and says what became more. All other words are those of hprof_to_trace, as --dead and --only.",
     )
@@ -54,7 +54,7 @@ def main(words: Optional[List[str]] = None) -> int:
             _dump(asked, dump)
             return hprof_to_trace([dump, trace, *others]) or view.main([trace, *_view_words(asked)])
 
-    return command_line.run(_PROGRAM, work)
+    return command_line.run(PROGRAM, work)
 
 
 def _need_question(asked: argparse.Namespace, others: List[str]) -> None:
@@ -65,7 +65,7 @@ def _need_question(asked: argparse.Namespace, others: List[str]) -> None:
         if others:
             raise TraceError("--growth takes no %s" % others[0])
         return
-    words = parser_for(_PROGRAM, "").parse_args(["dump", "trace", *others])
+    words = parser_for(PROGRAM, "").parse_args(["dump", "trace", *others])
     if words.snapshot:
         raise TraceError("a snapshot can't be audited; hprof_to_trace makes one of a dump")
     if not any(getattr(words, name) for name in _ASSERTING):
@@ -104,7 +104,7 @@ def _dump(asked: argparse.Namespace, dump: str) -> None:
 
 def _dumps(asked: argparse.Namespace, folder: str) -> List[str]:
     """As many dumps as are asked for, some time apart."""
-    progress = Progress(_PROGRAM)
+    progress = Progress(PROGRAM)
     dumps: List[str] = []
     for number in range(1, asked.growth + 1):
         if dumps:

@@ -15,7 +15,7 @@ from gcaudit_trace.version import VERSION
 class Words(unittest.TestCase):
     def test_version_and_help(self):
         found = completions.parsers()
-        self.assertEqual(len(found), 8)
+        self.assertEqual(len(found), 9)
         for name, parser in found.items():
             for word, expected in (("--version", "%s %s\n" % (name, VERSION)), ("--help", "usage: %s " % name)):
                 said = io.StringIO()
@@ -54,6 +54,9 @@ class Completions(InFolder):
         self.assertEqual(self.completed("gcaudit-view", "--react", ""), ["force", "halt", "report"])
         self.assertEqual(self.completed("gcaudit-from-hprof", "--owned"), ["--owned-by"])
         self.assertEqual(self.completed("gcaudit-view", "compl"), ["completions"])
+        self.assertEqual(self.completed("gcaudit-jvm", "--gr"), ["--growth"])
+        self.assertEqual(self.completed("gcaudit-jvm", "--de"), ["--dead"])
+        self.assertEqual(self.completed("gcaudit-jvm", "--snap"), [])
 
     def test_zsh_has_all_options(self):
         text = completions.zsh()

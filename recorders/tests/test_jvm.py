@@ -9,14 +9,17 @@ import sys
 import tempfile
 import unittest
 import xml.etree.ElementTree as ElementTree
+import zipfile
 
-from tests.support import JUNIT_JARS, PROGRAM, PROGRAMS, RECORDERS, InFolder, needs_commands, needs_program
+from tests.support import JUNIT_JARS, PROGRAM, PROGRAMS, RECORDERS, InFolder, events, needs_commands, needs_program
 
 JVM = os.path.join(RECORDERS, "jvm")
 SOURCES = os.path.join(PROGRAMS, "jvm")
 has_junit = all(map(os.path.exists, JUNIT_JARS))
 has_compiler = shutil.which("cc") is not None
 KINDS = 62
+JAVA_8 = 52  # the version of its class files
+MAVEN = "/usr/share/maven-repo/org/apache/maven/plugins/maven-jar-plugin"
 LIMIT = 900  # seconds for a program; nothing in it waits by the clock, so a busy machine only takes longer
 
 # What the report says of each leak of ServiceLeaks.java: its type, and the end of its path.
@@ -165,6 +168,24 @@ class Leaks(WithLibrary):
         self.assertTrue(said.endswith("all are gone\n"), said)
 
 
+class LargeHeap(WithLibrary):
+    def test_more_objects_than_gcaudit_takes(self):
+        """Some classes are left out, and the session that an object of theirs holds is found."""
+        status, said = self.java("LargeHeap")
+        self.assertEqual(status, 0, said)
+        self.assertRegex(
+            said,
+            r"(?m)^gc 1 dead (\d+) LargeHeap\$Session: root class LargeHeap -> .* class LargeHeap \.LOG "
+            r".*\[500000\] \.attached -> \1 LargeHeap\$Session$",
+        )
+        self.assertRegex(
+            said,
+            r"(?m)^the heap has more objects than gcaudit takes, 1048576, so those of LargeHeap\$Entry are left out; "
+            r"references go on through them$",
+        )
+        self.assertTrue(said.endswith("\nclean\n"), said)
+
+
 class Asserting(WithLibrary):
     def test_each_kind_of_assertion(self):
         status, said = self.java("Asserting", "kinds")
@@ -225,18 +246,76 @@ class Asserting(WithLibrary):
         self.assertEqual((status, said), (0, "clean\n"))
 
 
+class Checks(WithLibrary):
+    """Several checks of one audit."""
+
+    def checks(self, *words, **properties):
+        """What the checks of a program say, and the operations of the last trace."""
+        kept = self.path("kept")
+        shutil.rmtree(kept, ignore_errors=True)
+        status, said = self.java("Checks", *words, properties={"gcaudit.keep": kept, **properties})
+        self.assertEqual(status, 0, said)
+        traces = sorted(glob.glob(os.path.join(kept, "*", "heap.jsonl")), key=os.path.getsize)
+        return said.split("----\n")[:-1], events(traces[-1])
+
+    @unittest.skipUnless(has_compiler, "not there: cc")
+    def test_a_leak_of_the_second_check_and_its_twin(self):
+        (first, second), trace = self.checks("late")
+        self.assertEqual(first, "clean\n")
+        self.assertRegex(
+            second, r"(?m)^gc 2 unshared (\d+) Checks\$Node refs 2: root .* class Checks \.LEFT .* \| root .*\.RECENT "
+        )
+        self.assertRegex(second, r"(?m)^end gcs 2 violations 1$")
+        self.assertEqual(sum(event["op"] == "collect" for event in trace), 2)
+        self.assertEqual(self.checks("mended")[0], ["clean\n", "clean\n"])
+
+    @unittest.skipUnless(has_compiler, "not there: cc")
+    def test_an_object_keeps_its_id_until_it_is_gone(self):
+        (first, second, third), trace = self.checks("gone")
+        found = re.search(r"(?m)^gc 1 dead (\d+) Checks\$Session: root .* \[0\] -> \1 Checks\$Session$", first)
+        self.assertIsNotNone(found, first)
+        number = int(found.group(1))
+        self.assertRegex(
+            second, r"(?m)^gc 2 dead %d Checks\$Session: root .*Object\[\] \[49\] -> %d " % (number, number)
+        )
+        self.assertEqual(third, "clean\n")
+        self.assertEqual(sum(event["op"] == "collect" for event in trace), 3)
+        sessions = [event["id"] for event in trace if event["op"] == "alloc" and event["type"] == "Checks$Session"]
+        self.assertEqual(sessions, [number])
+        self.assertEqual([e["id"] for e in trace if e["op"] == "assert-dead"], [number])
+
+    @unittest.skipUnless(has_compiler, "not there: cc")
+    def test_an_owner_that_is_gone(self):
+        (first, second, third), _ = self.checks("owner")
+        self.assertEqual(first, "clean\n")
+        owner = re.search(r"(?m)^gc 2 ownedby (\d+ Checks\$Item owner \d+): root .*\.RECENT -> ", second)
+        self.assertIsNotNone(owner, second)
+        self.assertRegex(third, r"(?m)^gc 3 ownedby %s gone: root .*\.RECENT -> " % re.escape(owner.group(1)))
+
+    def test_without_the_agent_each_check_has_a_trace(self):
+        (first, second, third), trace = self.checks("gone", **{"gcaudit.agent": "/no/such/agent"})
+        for said in (first, second):
+            self.assertRegex(said, r"(?m)^gc 1 dead \d+ Checks\$Session: ")
+        self.assertEqual(third, "clean\n")
+        self.assertEqual(sum(event["op"] == "collect" for event in trace), 1)
+
+    def test_nothing_stays_of_an_audit_that_is_never_closed(self):
+        self.assertEqual(self.java("Checks", "open"), (0, "clean\n----\n"))  # which looks at what is left
+
+
 @unittest.skipUnless(has_compiler, "not there: cc")
 class Regions(WithLibrary):
     def test_regions(self):
         status, said = self.java("Regions")
         self.assertEqual(status, 0, said)
-        first, second, third, fourth = said.split("----\n")
+        first, second, third, fourth, many = said.split("----\n")
         self.assertEqual(first, "clean\n")
         self.assertRegex(second, r"(?m)^gc 1 dead \d+ Regions\$Entry: root .* class Regions \.LOG -> .*$")
         self.assertRegex(second, r"(?m)^    and 2 more in the same way$")
         self.assertRegex(third, r"(?m)^gc 1 dead \d+ Regions\$Outer: root ")
         self.assertNotIn("Entry", third)
         self.assertEqual(fourth, "clean\n")
+        self.assertRegex(many, r"(?m)^    and 69999 more in the same way$")
 
     def test_without_the_agent(self):
         status, said = self.java("Regions", properties={"gcaudit.agent": "/no/such/agent"})
@@ -279,6 +358,45 @@ class JUnit(WithLibrary):
         self.assertEqual(status, 1, said)
         for messages in cases.values():
             self.assertIn("nothing was asserted", messages[0])
+
+
+def class_files(jar):
+    """The version of each class in a jar."""
+    with zipfile.ZipFile(jar) as packed:
+        names = [name for name in packed.namelist() if name.endswith(".class")]
+        return {name: packed.read(name)[7] for name in names if not name.endswith("package-info.class")}
+
+
+class Jar(WithLibrary):
+    def test_the_classes_are_for_java_8(self):
+        versions = class_files(self.jar)
+        self.assertIn("gcaudit/HeapAudit.class", versions)
+        self.assertEqual(set(versions.values()), {JAVA_8})
+
+
+@needs_commands("mvn", "cc")
+@unittest.skipUnless(
+    os.path.isdir(MAVEN), "Maven's plugins are not there (Debian's libmaven-jar-plugin-java and others)"
+)
+@unittest.skipUnless(has_junit, "JUnit 5 is not there (Debian's package junit5)")
+class Maven(WithLibrary):
+    def test_maven_builds_the_library_without_a_network(self):
+        top = os.path.dirname(RECORDERS)
+        for name in ("LICENCE.md", "recorders"):
+            copy = shutil.copytree if os.path.isdir(os.path.join(top, name)) else shutil.copy
+            copy(os.path.join(top, name), self.path(name))
+        jvm = self.path(os.path.join("recorders", "jvm"))
+        need(run(os.path.join(jvm, "build_resources"), os.path.join(jvm, "target", "resources")))
+        words = ["-s", os.path.join(jvm, "debian-settings.xml"), "-f", os.path.join(jvm, "pom.xml")]
+        words += ["-Dmaven.repo.local=" + self.path("repository")]
+        need(run("mvn", "--batch-mode", "--offline", "-Daether.offline.protocols=file", *words, "package"))
+        jar = glob.glob(os.path.join(jvm, "target", "gcaudit-*.jar"))[0]
+        versions = class_files(jar)
+        self.assertEqual(set(versions.values()), {JAVA_8})
+        self.assertEqual(set(versions), set(class_files(self.jar)))
+        self.jar = jar
+        self.assertEqual(self.java("Regions", "few")[0], 0)  # with the agent
+        self.assertRegex(self.java("Asserting", "leak")[1], r"gc 1 dead \d+ Asserting\$Node: ")
 
 
 @needs_commands("jcmd")

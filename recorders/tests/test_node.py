@@ -1,4 +1,5 @@
 """The library for Node: leaks are found with their paths, twins pass, and nothing is green by mistake."""
+import glob
 import os
 import re
 import shutil
@@ -7,7 +8,7 @@ import sys
 import unittest
 import xml.etree.ElementTree as ElementTree
 
-from tests.support import PROGRAM, PROGRAMS, RECORDERS, InFolder, needs_commands, needs_program
+from tests.support import PROGRAM, PROGRAMS, RECORDERS, InFolder, events, needs_commands, needs_program
 
 NODE = os.path.join(RECORDERS, "node")
 SOURCES = os.path.join(PROGRAMS, "node")
@@ -52,7 +53,10 @@ def node_version():
 @unittest.skipIf(0 < node_version() < 18, "node is older than 18")
 class WithPackage(InFolder):
     def node(self, *words, **variables):
-        """Runs node with the package; a variable that is None isn't set."""
+        return self.run_with_package("node", *words, **variables)
+
+    def run_with_package(self, *words, folder=SOURCES, **variables):
+        """Runs a command with the package; a variable that is None isn't set."""
         given = dict(
             os.environ, GCAUDIT_PACKAGE=NODE, GCAUDIT=PROGRAM, GCAUDIT_PYTHON=sys.executable, TMPDIR=self.folder
         )
@@ -60,7 +64,7 @@ class WithPackage(InFolder):
         given.pop("PYTHONPATH", None)
         given.pop("NODE_TEST_CONTEXT", None)
         environment = {name: value for name, value in given.items() if value is not None}
-        done = run("node", *words, env=environment, cwd=SOURCES)
+        done = run(*words, env=environment, cwd=folder)
         left = [name for name in os.listdir(self.folder) if name.startswith("gcaudit-") and not name.endswith(".tgz")]
         self.assertEqual(left, [])  # the snapshot is deleted
         return done
@@ -92,6 +96,23 @@ class Leaks(WithPackage):
         ):
             self.assertRegex(paths[kind], path)
         self.assertTrue(said.endswith("all are gone\n"), said)
+
+
+class LargeHeap(WithPackage):
+    def test_more_objects_than_gcaudit_takes(self):
+        """Some types are left out, and the session that an object of theirs holds is found."""
+        status, said = self.node("large_heap.js")
+        self.assertEqual(status, 0, said)
+        self.assertRegex(
+            said,
+            r"(?m)^gc 1 dead (\d+) Session: root .* \d+ Array \[500000\] \.attached -> \1 Session$",
+        )
+        self.assertRegex(
+            said,
+            r"(?m)^the heap has more objects than gcaudit takes, 1048576, so those of Entry are left out; "
+            r"references go on through them$",
+        )
+        self.assertTrue(said.endswith("\nclean\n"), said)
 
 
 class Asserting(WithPackage):
@@ -161,6 +182,55 @@ class Asserting(WithPackage):
         self.assertEqual(self.node("asserting.js", "well", GCAUDIT="/no", GCAUDIT_PYTHON="/no"), (0, "clean\n"))
 
 
+class Checks(WithPackage):
+    """Several checks of one audit."""
+
+    def checks(self, *words):
+        """What the checks of a program say, and the operations of the last trace."""
+        kept = self.path("kept")
+        shutil.rmtree(kept, ignore_errors=True)
+        status, said = self.node("checks.js", *words, GCAUDIT_KEEP=kept)
+        self.assertEqual(status, 0, said)
+        traces = sorted(glob.glob(os.path.join(kept, "*", "heap.jsonl")), key=os.path.getsize)
+        return said.split("----\n")[:-1], events(traces[-1])
+
+    def test_a_leak_of_the_second_check_and_its_twin(self):
+        (first, second), trace = self.checks("late")
+        self.assertEqual(first, "clean\n")
+        self.assertRegex(second, r"(?m)^gc 2 unshared \d+ Node refs 2: root .* \| root ")
+        self.assertRegex(second, r"(?m)^end gcs 2 violations 1$")
+        self.assertEqual(sum(event["op"] == "collect" for event in trace), 2)
+        self.assertEqual(self.checks("mended")[0], ["clean\n", "clean\n"])
+
+    def test_an_object_keeps_its_id_until_it_is_gone(self):
+        (first, second, third), trace = self.checks("gone")
+        found = re.search(r"(?m)^gc 1 dead (\d+) Session: root .* \[0\] -> \1 Session$", first)
+        self.assertIsNotNone(found, first)
+        number = int(found.group(1))
+        self.assertRegex(second, r"(?m)^gc 2 dead %d Session: root .*\[50\] -> %d " % (number, number))
+        self.assertEqual(third, "clean\n")
+        self.assertEqual(sum(event["op"] == "collect" for event in trace), 3)
+        sessions = [event["id"] for event in trace if event["op"] == "alloc" and event["type"] == "Session"]
+        self.assertEqual(sessions, [number])
+        self.assertEqual([event["id"] for event in trace if event["op"] == "assert-dead"], [number])
+
+    def test_an_owner_that_is_gone(self):
+        (first, second, third), _ = self.checks("owner")
+        self.assertEqual(first, "clean\n")
+        owner = re.search(r"(?m)^gc 2 ownedby (\d+ Item owner \d+): root .*\.recent -> ", second)
+        self.assertIsNotNone(owner, second)
+        self.assertRegex(third, r"(?m)^gc 3 ownedby %s gone: root .*\.recent -> " % re.escape(owner.group(1)))
+
+    def test_a_region_at_two_checks(self):
+        (first, second), trace = self.checks("region")
+        self.assertRegex(first, r"(?m)^gc 1 dead \d+ Entry: root ")
+        self.assertEqual(second, "clean\n")
+        self.assertEqual(sum(event["op"] == "collect" for event in trace), 2)
+
+    def test_nothing_stays_of_an_audit_that_is_never_abandoned(self):
+        self.assertEqual(self.node("checks.js", "open"), (0, "clean\n----\n"))  # which looks at what is left
+
+
 class Runners(WithPackage):
     path_of_session = r"gc 1 dead \d+ Session: root .* Bus \.listeners -> \d+ Array \[0\] -> \d+ Session"
 
@@ -198,8 +268,31 @@ class Runners(WithPackage):
         self.assertEqual(status, 1)
         self.assertRegex(said, self.path_of_session)
 
+    @needs_commands("jest")
+    def test_jest(self):
+        with open(self.path("package.json"), "w") as file:
+            file.write("{}")
+        shutil.copy(os.path.join(SOURCES, "shop.jest.js"), self.path("shop.test.js"))
+        words = ["jest", "--ci", "--runInBand", "--watchman=false"]
+        status, said = self.run_with_package(*words, folder=self.folder)
+        self.assertEqual(status, 0, said)
+        status, said = self.run_with_package(*words, folder=self.folder, LEAKS="1")
+        self.assertEqual(status, 1, said)
+        self.assertRegex(said, self.path_of_session)
+        self.assertRegex(said, r"(?m)^Tests: +1 failed, 1 passed, 2 total$")
+
 
 class Package(WithPackage):
+    @needs_commands("tsc")
+    def test_its_types(self):
+        os.makedirs(self.path("node_modules"))
+        os.symlink(NODE, self.path("node_modules/gcaudit"))
+        shutil.copy(os.path.join(SOURCES, "shop.ts"), self.folder)
+        words = ["--noEmit", "--strict", "--target", "es2022", "--lib", "es2022,dom"]
+        for module in (["--module", "node16"], ["--module", "commonjs", "--moduleResolution", "node"]):
+            status, said = run("tsc", *words, *module, "shop.ts", cwd=self.folder)
+            self.assertEqual((status, said), (0, ""))
+
     def test_it_is_built_and_imported_both_ways(self):
         self.assertEqual(run(os.path.join(NODE, "build"), self.folder)[0], 0)
         modules = self.path("node_modules")

@@ -3,6 +3,8 @@ import argparse
 import sys
 from typing import Dict, List, Optional
 
+from hprof_to_trace import service
+
 from ..dumps.options import parser_for
 from . import growth, named, summary, view
 
@@ -15,11 +17,18 @@ def parsers() -> Dict[str, argparse.ArgumentParser]:
     found = {made.prog: made for made in (named.parser(), summary.parser(), growth.parser(), view.parser())}
     for name, other in _CONVERTERS.items():
         found[name], found[other] = parser_for(name, ""), parser_for(other, "")
+    asking = service.parser()
+    found[asking.prog] = asking
     return found
 
 
 def _options(parser: argparse.ArgumentParser) -> List[argparse.Action]:
-    return [action for action in parser._actions if action.option_strings]
+    """The options of a command. That which asks a JVM takes those of the converter too, but for the one that it refuses."""
+    found = [action for action in parser._actions if action.option_strings]
+    if parser.prog == service.PROGRAM:
+        known = {action.option_strings[-1] for action in found} | {"--snapshot"}
+        found += [action for action in _options(parser_for("", "")) if action.option_strings[-1] not in known]
+    return found
 
 
 def bash() -> str:

@@ -116,6 +116,15 @@ class MarkedWishes(Wishes):
             raise TooManyObjects(counts)
 
 
+def say_too_many(left_out: Set[str], progress: Progress) -> None:
+    """Says which classes are left out since the heap has more objects than gcaudit takes; the libraries tell it to their users."""
+    if left_out:
+        progress.say(
+            "the heap has more objects than gcaudit takes, %d, so those of %s are left out; references go on through them"
+            % (MOST_OBJECTS, ", ".join(sorted(left_out)))
+        )
+
+
 def more_to_leave_out(counts: Dict[str, int], wanted: Set[str], left_out: Set[str]) -> Set[str]:
     """The most frequent classes of which nothing is asserted, until the others are less than half of what gcaudit takes.
 
@@ -153,6 +162,15 @@ class MarkedTrace(DumpTrace):
     def allocated(self, region: Assertion) -> Iterable[int]:
         """The numbers in the trace of what a region has allocated."""
         raise NotImplementedError
+
+    def key_of(self, number: int) -> int:
+        """The key by which a later dump of the process knows an object; 0 where none does."""
+        raise NotImplementedError
+
+    def _alloc(self, class_name: str, size: int, slots: int) -> int:
+        """An object that a later dump knows has a slot to spare, which can lead to further ones."""
+        key = self.key_of(self.trace.last_id + 1)
+        return self.trace.alloc(self._type_of(class_name), slots + (1 if key else 0), 0, size, key)
 
     def must_be_dead(self, assertion: Assertion) -> Iterable[int]:
         """The numbers of its objects which are alive, where the assertion says that they are dead."""

@@ -125,13 +125,16 @@ class DumpTrace(DumpFile):
             self._waiting.close()
 
     def object(self, class_name: str, size: int, contents: List[Tuple[str, int, bool]]) -> None:
-        number = self.trace.alloc(self._type_of(class_name), len(contents), 0, size)
+        number = self._alloc(class_name, size, len(contents))
         for name in self._named_by(class_name):
             self._of_class[name].append(number)
         try:
             self._contents.fill(number, contents)
         except OSError as error:
             raise self._whole.failed(error) from None
+
+    def _alloc(self, class_name: str, size: int, slots: int) -> int:
+        return self.trace.alloc(self._type_of(class_name), slots, 0, size)
 
     def finish(self, roots: Iterable[Tuple[str, int]], progress: Progress) -> None:
         """Writes the stores, the roots, the assertions and the collection, and gives the file its name."""

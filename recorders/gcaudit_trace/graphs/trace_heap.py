@@ -2,7 +2,7 @@
 import json
 from array import array
 from bisect import bisect_left
-from typing import Any, Callable, Dict, Iterator
+from typing import Any, Callable, Dict, Iterator, Optional
 
 from ..errors import TraceError
 from .graph import Graph, Names
@@ -138,9 +138,11 @@ class TraceHeap:
         return graph
 
 
-def heaps(trace: str, at: Callable[[int], None] = lambda done: None) -> Iterator[TraceHeap]:
-    """The heap before each collection of a trace. `at` is told now and then how many bytes were read."""
-    heap = TraceHeap()
+def heaps(
+    trace: str, at: Callable[[int], None] = lambda done: None, heap: Optional[TraceHeap] = None
+) -> Iterator[TraceHeap]:
+    """The heap before each collection of a trace, in one that is new or that is given. `at` is told now and then how many bytes were read."""
+    heap = TraceHeap() if heap is None else heap
     try:
         for event in _events(trace, at):
             if event["op"] == "collect":

@@ -26,13 +26,18 @@ class TraceWriter(Counted):
                 self._quoted[text] = quoted
         return quoted
 
-    def alloc(self, type_name: str, slots: int, thread: int = 0, size: Optional[int] = None) -> int:
-        """A new object; the answer is its id. Its size in bytes stands there for other readers; gcaudit ignores it."""
+    def alloc(self, type_name: str, slots: int, thread: int = 0, size: Optional[int] = None, key: int = 0) -> int:
+        """A new object; the answer is its id.
+
+        Its size in bytes, and the key by which later dumps of its process know it, are for other readers; gcaudit ignores them.
+        """
         number = self._see_object(type_name, slots)
         on_thread = ',"thread":%d' % thread if thread else ""
-        sized = "" if size is None else ',"bytes":%d' % size
+        more = "" if size is None else ',"bytes":%d' % size
+        if key:
+            more += ',"key":%d' % key
         self._write(
-            f'{{"op":"alloc","id":{number},"type":{self._quoted.get(type_name) or self._quote(type_name)},"slots":{slots}{on_thread}{sized}}}\n'
+            f'{{"op":"alloc","id":{number},"type":{self._quoted.get(type_name) or self._quote(type_name)},"slots":{slots}{on_thread}{more}}}\n'
         )
         return number
 

@@ -1,6 +1,6 @@
 'use strict';
 
-const { check } = require('./checker.js');
+const { GcauditChecker } = require('./checker.js');
 const { collect, nextJob } = require('./collector.js');
 const { HeapAuditError } = require('./errors.js');
 const { GcauditMark } = require('./marks.js');
@@ -11,11 +11,13 @@ class GcauditList extends Array {}
 class GcauditSet extends Set {}
 
 const open = new GcauditSet();
+const atExit = Symbol('atExit');
 
 process.on('exit', (status) => {
   let unchecked = 0;
   for (const audit of open) {
     unchecked += audit.unchecked;
+    audit[atExit]();
   }
   if (unchecked > 0) {
     process.stderr.write(`gcaudit: ${unchecked} assertions were never checked: await check() of each HeapAudit\n`);
@@ -89,6 +91,7 @@ class GcauditRegion {
 /** Assertions about objects of the running program. */
 class HeapAudit {
   #options;
+  #checker;
   #assertions = new GcauditList();
   #wasAsserted = false;
   #isClosed = false;
@@ -97,6 +100,7 @@ class HeapAudit {
 
   constructor(options = {}) {
     this.#options = options;
+    this.#checker = new GcauditChecker(options);
     open.add(this);
   }
 
@@ -158,7 +162,7 @@ class HeapAudit {
     if (this.#assertions.length > 0) {
       await nextJob();
       await nextJob();
-      await check(this.#assertions.map((assertion) => assertion.line()), this.#options);
+      await this.#checker.check(this.#assertions.map((assertion) => assertion.line()));
     }
   }
 
@@ -168,7 +172,13 @@ class HeapAudit {
     for (const assertion of this.#assertions) {
       assertion.drop();
     }
+    this.#checker.close();
     open.delete(this);
+  }
+
+  /** The process ends: nothing of this audit stays but what is kept. */
+  [atExit]() {
+    this.#checker.deleteTraces();
   }
 
   #add(kind, object, owner, limit) {

@@ -12,6 +12,7 @@ public class Regions {
     static final class Scratch { }
 
     static final List<Object> LOG = new ArrayList<>(100);
+    static final int MANY = 70_000;     // more than JNI is asked to make references for
 
     static void handle(int entries) {
         Scratch scratch = new Scratch();
@@ -30,6 +31,7 @@ public class Regions {
         }
     }
 
+    /** With an argument the first of the regions alone. */
     public static void main(String[] words) {
         handle(1);
         LOG.add(new Outer());
@@ -39,6 +41,9 @@ public class Regions {
                 handle(0);
             }
             print(audit);
+        }
+        if (words.length > 0) {
+            return;
         }
         System.out.println("----");
         try (HeapAudit audit = HeapAudit.start()) {
@@ -64,6 +69,13 @@ public class Regions {
                 handle(3);
             }
             LOG.clear();
+            print(audit);
+        }
+        System.out.println("----");
+        try (HeapAudit audit = HeapAudit.start()) {
+            try (HeapAudit.Region region = audit.region("java.lang.Object[]")) {
+                handle(MANY);
+            }
             print(audit);
         }
     }

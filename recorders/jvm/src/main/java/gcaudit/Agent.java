@@ -2,13 +2,9 @@ package gcaudit;
 
 import java.io.File;
 import java.io.IOException;
-import java.io.InputStream;
-import java.nio.file.Files;
 import java.nio.file.Path;
-import java.nio.file.StandardCopyOption;
-import java.util.Locale;
 
-/** The agent in C, which tags objects: what has no tag was allocated since. */
+/** The agent in C, which tags objects: what has no tag was allocated since, and a tag can be an object's number. */
 final class Agent {
     /** The property with the path of the agent's library. */
     static final String PROPERTY = "gcaudit.agent";
@@ -35,6 +31,33 @@ final class Agent {
         return endRegion(epoch);
     }
 
+    /** From now on until {@link #endNumbers} objects keep their numbers. */
+    synchronized void beginNumbers() {
+        beginNumbering();
+    }
+
+    synchronized void endNumbers() {
+        endNumbering();
+    }
+
+    /** All objects that are there. */
+    synchronized Object[] objects() {
+        return findObjects();
+    }
+
+    /** The number of each of these objects: one that it has already, or a new one. */
+    synchronized long[] numbersOf(Object[] objects) {
+        return findNumbers(objects);
+    }
+
+    private static native void beginNumbering();
+
+    private static native void endNumbering();
+
+    private static native Object[] findObjects();
+
+    private static native long[] findNumbers(Object[] objects);
+
     private static native long beginRegion();
 
     private static native Object[] endRegion(long epoch);
@@ -55,17 +78,11 @@ final class Agent {
 
     /** Loads the library that the jar has for this system; false where it has none. */
     private static boolean loadFromJar() throws IOException {
-        String name = "native/" + System.getProperty("os.name").toLowerCase(Locale.ROOT).replace(' ', '-') + "-"
-                + System.getProperty("os.arch") + "/" + System.mapLibraryName("gcaudit");
-        try (InputStream found = Agent.class.getResourceAsStream(name)) {
-            if (found == null) {
-                return false;
-            }
-            Path copy = Files.createTempFile("gcaudit-", ".agent");
-            copy.toFile().deleteOnExit();
-            Files.copy(found, copy, StandardCopyOption.REPLACE_EXISTING);
-            System.load(copy.toString());
-            return true;
+        Path copy = Bundled.unpackAgent();
+        if (copy == null) {
+            return false;
         }
+        System.load(copy.toString());
+        return true;
     }
 }

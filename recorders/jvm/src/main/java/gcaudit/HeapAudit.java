@@ -25,6 +25,7 @@ import java.lang.ref.ReferenceQueue;
 public final class HeapAudit implements AutoCloseable {
     private final ReferenceQueue<Object> queue = new Queue();
     private final Assertions assertions = new Assertions();
+    private final Checker checker = new Checker();
     private boolean mayBeEmpty;
     private boolean isUnchecked;    // something was asserted since the last check
     private boolean wasAsserted;
@@ -125,8 +126,15 @@ public final class HeapAudit implements AutoCloseable {
     /**
      * Collects, and checks all that was asserted so far. An assertion holds as long as its object lives, so each later
      * check looks at it again.
+     *
+     * <p>With the agent the checks of an audit have one trace, with a collection for each check that made a heap dump, and an
+     * object keeps its id from check to check. Without the agent each check has a trace of its own.
      */
     public synchronized void check() {
+        check(false);
+    }
+
+    private void check(boolean isLast) {
         needOpen();
         if (openRegions > 0) {
             throw new HeapAuditException("a region is open: close it before the check");
@@ -136,8 +144,20 @@ public final class HeapAudit implements AutoCloseable {
         }
         isUnchecked = false;
         Collector.collectFor(assertions, queue);
-        if (assertions.size() > 0) {
-            Checker.check(assertions);
+        while (assertions.size() > 0) {
+            int left = assertions.size();
+            try {
+                checker.check(assertions, isLast);
+                return;
+            } catch (HeapViolation violation) {
+                if (!checker.mayBeGone(violation)) {
+                    throw violation;
+                }
+                Collector.collectFor(assertions, queue);
+                if (assertions.size() == left) {
+                    throw violation;
+                }
+            }
         }
     }
 
@@ -149,7 +169,7 @@ public final class HeapAudit implements AutoCloseable {
         }
         try {
             if (isUnchecked || !wasAsserted || openRegions > 0) {
-                check();
+                check(true);
             }
         } finally {
             abandon();
@@ -158,8 +178,16 @@ public final class HeapAudit implements AutoCloseable {
 
     /** Ends the audit without a check, as where the program failed before it. */
     public synchronized void abandon() {
-        isClosed = true;
-        Unchecked.remove(this);
+        if (!isClosed) {
+            isClosed = true;
+            checker.close();
+            Unchecked.remove(this);
+        }
+    }
+
+    /** The JVM ends: nothing of this audit stays but what is kept. */
+    synchronized void deleteTraces() {
+        checker.deleteTraces();
     }
 
     /** How many assertions wait for a check. */

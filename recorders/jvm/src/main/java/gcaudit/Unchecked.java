@@ -3,7 +3,7 @@ package gcaudit;
 import java.security.AccessController;
 import java.security.PrivilegedAction;
 
-/** Audits that weren't closed. At the end of the JVM each that has an unchecked assertion is told, and the status is 1. */
+/** Audits that weren't closed. At the end of the JVM their traces are deleted, each unchecked assertion is told, and the status is 1. */
 final class Unchecked extends Thread {
     private static Link first;
     private static boolean isHooked;
@@ -74,7 +74,7 @@ final class Unchecked extends Thread {
     /** Halts, since the status of a JVM that ends can't be changed in another way. */
     @Override
     public void run() {
-        int unchecked = count();
+        int unchecked = endAll();
         if (unchecked > 0) {
             System.err.println("gcaudit: " + unchecked + " assertions were never checked: close each HeapAudit, or call check()");
             System.err.flush();
@@ -82,10 +82,12 @@ final class Unchecked extends Thread {
         }
     }
 
-    private static synchronized int count() {
+    /** Ends the audits; the answer is how many of their assertions were never checked. */
+    private static synchronized int endAll() {
         int found = 0;
         for (Link at = first; at != null; at = at.next) {
             found += at.audit.unchecked();
+            at.audit.deleteTraces();
         }
         return found;
     }
