@@ -1,3 +1,4 @@
+pub mod Asked
 pub mod Auditors
 pub mod Facts
 pub mod Outcome

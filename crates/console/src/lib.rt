@@ -1,5 +1,5 @@
-//! What a program and a person say to each other beside the report: the words of the command line, what is wrong with them, and why a
-//! stream failed. No statement about a run rests on this crate.
+//! Runs a program on its command line and its streams, and tells a person what the output doesn't say: which argument is refused, and why a
+//! stream failed.
 #![tactic(auto)]
 
 mod ending;
@@ -7,9 +7,11 @@ mod memory;
 mod options;
 mod program;
 mod stream;
+mod telling;
 mod words;
 
-pub use ending::Messages;
+pub use ending::exit_code;
 pub use options::{OptionRule, Options, Takes};
-pub use program::{Input, Output, answer_words, run_program};
+pub use program::{Streams, run_program};
 pub use stream::Remembering;
+pub use telling::{Arguments, Program};

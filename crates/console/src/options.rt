@@ -20,30 +20,17 @@ pub struct OptionRule {
 /// The options of a program.
 #[derive(Clone, Copy)]
 pub struct Options {
-    pub program: &'static str,
     pub rules: &'static [OptionRule],
     /// What is wrong with words that are refused though each is taken by itself.
     pub together: &'static str,
 }
 
-impl Options {
-    /// Tells a person on standard error which of the words is refused, and why.
-    pub fn tell_refused(&self, rt: &HostRuntime, words: &[&str]) {
-        let program = self.program;
-        let together = self.together;
-        let _ = match first_fault(rt.alloc(), self.rules, words) {
-            Some(fault) => eprintln!(rt; "{program}: {fault}; --help lists the options"),
-            None => eprintln!(rt; "{program}: {together}; --help lists the options"),
-        };
-    }
-}
-
-// What is wrong with a word of a command line.
+/// What is wrong with a word of a command line.
 #[derive(Clone, Copy)]
-enum Fault<'a> {
-    // No option has this name; the second is the nearest, where one is near.
+pub(crate) enum Fault<'a> {
+    /// No option has this name; the second is the nearest, where one is near.
     Unknown(&'a str, Option<&'static str>),
-    // The word is no option and no value of one.
+    /// The word is no option and no value of one.
     NotTaken(&'a str),
     Twice(&'static str),
     NoValue(&'static str),
@@ -58,8 +45,12 @@ fn name_and_value(written: &str) -> (&str, Option<&str>) {
     }
 }
 
-// What is wrong with the first word, the program's name left out, that these options don't take as they stand.
-fn first_fault<'a>(alloc: Global, rules: &[OptionRule], words: &'a [&'a str]) -> Option<Fault<'a>> {
+/// What is wrong with the first word, the program's name left out, that these options don't take as they stand.
+pub(crate) fn first_fault<'a>(
+    alloc: Global,
+    rules: &[OptionRule],
+    words: &'a [&'a str],
+) -> Option<Fault<'a>> {
     let mut value_of: Option<OptionRule> = None;
     for (at, word) in words.iter().enumerate().skip(1) {
         let word = *word;

@@ -1,77 +1,59 @@
-use crate::ending::Messages;
+ghost use Rattle.std.specs.Prelude.{◌≡◌, ◌⊎◌, IfOk};
+ghost use Rattle.std.specs.Process.{exit_status};
+ghost use Rattle.console.specs.Numbers.{HasNoWords};
+
 use crate::memory::keep_freed_memory;
 use crate::stream::Remembering;
-use crate::words::{NoWords, borrowed_words, exit_code_of, program_words};
-use heap_base::Status;
-use std::io::{Stdin, Stdout};
+use crate::words::{NoWords, borrowed_words, exit_code_without_words, program_words};
+use std::io::{Stderr, Stdin, Stdout};
 use std::process::ExitCode;
-use streams::{StdSink, StdSource};
 
-/// Standard input as a source.
-pub type Input<'a> = StdSource<&'a mut Remembering<Stdin>>;
-
-/// Standard output as a sink.
-pub type Output<'a> = StdSink<&'a mut Remembering<Stdout>>;
-
-/// Answers the words of the command line, the program's name first, and gives the exit status of the answer. Where the words can't be had,
-/// there is no answer.
-pub fn answer_words<F>(rt: &HostRuntime, program: &str, answer: F) -> ExitCode
-where
-    F: FnOnce(&[&str]) -> Status,
-    requires { (words : _) → F.pre answer words }
-{
-    exit_code_of(rt, program, answer_to_words(rt, answer))
+/// The streams of a program.
+#[derive(Drop)]
+pub struct Streams<I, O, E> {
+    pub input: Remembering<I>,
+    pub output: Remembering<O>,
+    /// Where a person is told what the output doesn't say.
+    pub errors: E,
 }
 
-fn answer_to_words<F>(rt: &HostRuntime, answer: F) -> Result<Status, NoWords>
-where
-    F: FnOnce(&[&str]) -> Status,
-    requires { (words : _) → F.pre answer words }
-{
-    let owned = program_words(rt)?;
-    let words = borrowed_words(rt.alloc(), &owned)?;
-    Ok(answer(&words))
+impl<I, O, E> Streams<I, O, E> {
+    /// Over this reader and these writers, of which none has failed so far.
+    pub fn over(input: I, output: O, errors: E) -> Streams<I, O, E>
+        ensures input { (result.input.stream ≡ input) × (result.input.faults ≡ 0) }
+        ensures output { (result.output.stream ≡ output) × (result.output.faults ≡ 0) }
+    {
+        Streams {
+            input: Remembering::over(input),
+            output: Remembering::over(output),
+            errors,
+        }
+    }
 }
 
-/// Runs a program on the words of the command line and the standard streams, and tells a person on standard error what the output doesn't
-/// say: why the words are refused, by `tell_refused`, or how else the run ended.
-pub fn run_program<F, T>(rt: &HostRuntime, messages: Messages, run: F, tell_refused: T) -> ExitCode
+/// Runs a program on the words of the command line and the streams of the process, and gives what the process ends with: what the call
+/// answers. Where the words can't be had, there is no call.
+pub fn run_program<F>(rt: &HostRuntime, name: &str, run: F) -> ExitCode
 where
-    F: FnOnce(&[&str], &mut Input<'_>, &mut Output<'_>) -> Status,
-    T: FnOnce(&[&str]),
-    requires runs { (words : _) (source : _) (sink : _) → F.pre run words source sink }
-    requires tells { (words : _) → T.pre tell_refused words }
+    F: FnOnce(&[&str], &mut Streams<Stdin, Stdout, Stderr>) -> ExitCode,
+    requires { (words : _) (streams : _) → F.pre run words streams }
+    ensures { ((words : _) × (streams : _) × (left : _) × F.post run words streams result left) ⊎ HasNoWords (exit_status result) }
 {
-    exit_code_of(
-        rt,
-        messages.program,
-        run_on_streams(rt, messages, run, tell_refused),
-    )
+    match answer_to_words(rt, run) {
+        Ok(code) => code,
+        Err(why) => exit_code_without_words(rt, name, why),
+    }
 }
 
-fn run_on_streams<F, T>(
-    rt: &HostRuntime,
-    messages: Messages,
-    run: F,
-    tell_refused: T,
-) -> Result<Status, NoWords>
+fn answer_to_words<F>(rt: &HostRuntime, run: F) -> Result<ExitCode, NoWords>
 where
-    F: FnOnce(&[&str], &mut Input<'_>, &mut Output<'_>) -> Status,
-    T: FnOnce(&[&str]),
-    requires runs { (words : _) (source : _) (sink : _) → F.pre run words source sink }
-    requires tells { (words : _) → T.pre tell_refused words }
+    F: FnOnce(&[&str], &mut Streams<Stdin, Stdout, Stderr>) -> ExitCode,
+    requires { (words : _) (streams : _) → F.pre run words streams }
+    ensures { IfOk result (λ code. (words : _) × (streams : _) × (left : _) × F.post run words streams code left) }
 {
     keep_freed_memory(rt.alloc());
     let owned = program_words(rt)?;
     let words = borrowed_words(rt.alloc(), &owned)?;
-    let mut stdin = Remembering::over(rt.stdin());
-    let mut stdout = Remembering::over(rt.stdout());
-    let mut source = StdSource::over(&mut stdin);
-    let mut sink = StdSink::over(&mut stdout);
-    let status = run(&words, &mut source, &mut sink);
-    match status {
-        Status::Usage => tell_refused(&words),
-        _ => messages.tell(rt, status, stdin.why(), stdout.why()),
-    }
-    Ok(status)
+    let mut streams = Streams::over(rt.stdin(), rt.stdout(), rt.stderr());
+    Ok(run(&words, &mut streams))
 }

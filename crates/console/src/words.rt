@@ -1,3 +1,6 @@
+ghost use Rattle.std.specs.Process.{exit_status};
+ghost use Rattle.console.specs.Numbers.{HasNoWords};
+
 use crate::ending::exit_code;
 use heap_base::Status;
 use std::alloc::{AllocFailed, Global};
@@ -54,17 +57,14 @@ pub(crate) fn borrowed_words<'a>(
     Ok(words)
 }
 
-/// The exit status of a run, or of one that never began since its words can't be had. Then a person is told on standard error, but where
-/// memory is out, when nothing is written on either stream.
-pub(crate) fn exit_code_of(
-    rt: &HostRuntime,
-    program: &str,
-    run: Result<Status, NoWords>,
-) -> ExitCode {
-    match run {
-        Ok(status) => exit_code(status),
-        Err(NoWords::OutOfMemory) => exit_code(Status::NoMemory),
-        Err(NoWords::NotText) => {
+/// What the process ends with where the words of the command line can't be had. A person is told on standard error, but where memory is
+/// out, when nothing is written on either stream.
+pub(crate) fn exit_code_without_words(rt: &HostRuntime, program: &str, why: NoWords) -> ExitCode
+    ensures { HasNoWords (exit_status result) }
+{
+    match why {
+        NoWords::OutOfMemory => exit_code(Status::NoMemory),
+        NoWords::NotText => {
             let _ = eprintln!(rt; "{program}: a word of the command line is not UTF-8");
             ExitCode::from(NO_WORDS)
         }

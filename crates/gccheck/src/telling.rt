@@ -3,35 +3,35 @@ use report_check::MOST_DIGITS;
 use settings::MOST_PATHS;
 use std::io;
 
-pub const PROGRAM: &str = "gccheck";
+pub const NAME: &str = "gccheck";
 
 /// That a file could not be read, where a read of it failed.
-pub fn tell_read(rt: &HostRuntime, name: &str, why: Option<io::Error>) {
+pub fn tell_read<E: Eprint>(errors: &E, name: &str, why: Option<io::Error>) {
     if let Some(why) = why {
-        let _ = eprintln!(rt; "{PROGRAM}: {name} could not be read: {why}");
+        let _ = eprintln!(errors; "{NAME}: {name} could not be read: {why}");
     }
 }
 
-pub fn tell_write(rt: &HostRuntime, why: Option<io::Error>) {
+pub fn tell_write<E: Eprint>(errors: &E, why: Option<io::Error>) {
     let _ = match why {
-        Some(why) => eprintln!(rt; "{PROGRAM}: standard output could not be written: {why}"),
-        None => eprintln!(rt; "{PROGRAM}: standard output could not be written"),
+        Some(why) => eprintln!(errors; "{NAME}: standard output could not be written: {why}"),
+        None => eprintln!(errors; "{NAME}: standard output could not be written"),
     };
 }
 
-pub fn tell_memory(rt: &HostRuntime) {
-    let _ = eprintln!(rt; "{PROGRAM}: out of memory");
+pub fn tell_memory<E: Eprint>(errors: &E) {
+    let _ = eprintln!(errors; "{NAME}: out of memory");
 }
 
 /// Which of the words are refused, by how many there are, the program's name among them.
-pub fn tell_words(rt: &HostRuntime, count: usize) {
+pub fn tell_words<E: Eprint>(errors: &E, count: usize) {
     let _ = match count {
-        0..=2 => eprintln!(rt;
-            "{PROGRAM}: the names of a trace and of a report are needed; --help says more"
+        0..=2 => eprintln!(errors;
+            "{NAME}: the names of a trace and of a report are needed; --help says more"
         ),
-        4 => eprintln!(rt;
-            "{PROGRAM}: the number of paths is one from 0 to {MOST_PATHS}, in at most {MOST_DIGITS} digits; --help says more"
+        4 => eprintln!(errors;
+            "{NAME}: the number of paths is one from 0 to {MOST_PATHS}, in at most {MOST_DIGITS} digits; --help says more"
         ),
-        _ => eprintln!(rt; "{PROGRAM}: there are too many words; --help says more"),
+        _ => eprintln!(errors; "{NAME}: there are too many words; --help says more"),
     };
 }

@@ -22,7 +22,7 @@ use trace_reader::LineReader;
 use trace_run::{LastText, Program, Taken, TraceRun};
 
 /// A trace that a snapshot is made of has at most so many bytes: 2^28.
-pub(crate) const LONGEST_TRACE: u64 = 268_435_456;
+pub const LONGEST_TRACE: u64 = 268_435_456;
 
 /// The heap that the operations so far made. Contracts see its table.
 #[derive(Drop)]

@@ -20,6 +20,7 @@ mod types;
 mod whole;
 mod write;
 
+pub use from_trace::LONGEST_TRACE;
 pub use laws::{
     a_snapshot_comes_back_from_its_trace, a_snapshot_is_written_at_the_end,
     a_trace_of_a_snapshot_has_its_operations, a_trace_of_a_snapshot_is_short,

@@ -5,7 +5,6 @@ use heap_base::MOST_WORKERS;
 
 /// The options of an audit, for whoever wrote a word that is refused. Which words are taken is for `settings_of` to say.
 pub const AUDIT_OPTIONS: Options = Options {
-    program: "gcaudit",
     rules: &RULES,
     together: "--gen and --size go together",
 };

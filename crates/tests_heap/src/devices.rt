@@ -1,8 +1,9 @@
 //! Sources and sinks over std's readers and writers, call by call.
 
+use console::Remembering;
 use std::cell::Cell;
 use std::io;
-use streams::{Failed, Sink, Source, StdSink, StdSource, put_all};
+use streams::{Failed, Sink, Source, put_all};
 
 // How many bytes each read gives, of four reads into a buffer of four bytes, and 9 where a read fails.
 fn four_reads<S: Source>(source: &mut S) -> [usize; 4] {
@@ -16,14 +17,14 @@ fn four_reads<S: Source>(source: &mut S) -> [usize; 4] {
 
 #[test]
 fn a_reader_of_std_is_adapted(rt: HostRuntime) {
-    let mut source = StdSource::over(b"abcde".as_slice());
+    let mut source = Remembering::over(b"abcde".as_slice());
     assert_eq!(rt; four_reads(&mut source), [4, 1, 0, 0]);
 }
 
 // What two writes of several bytes into three answer, and the bytes.
 fn two_writes_into_three() -> ([Result<(), Failed>; 2], [u8; 3]) {
     let mut space = [0; 3];
-    let mut sink = StdSink::over(space.as_mut_slice());
+    let mut sink = Remembering::over(space.as_mut_slice());
     let answers = [put_all(&mut sink, b"ab"), put_all(&mut sink, b"cd")];
     (answers, space)
 }
@@ -83,7 +84,7 @@ const FAILURES: [io::ErrorKind; 3] = [
 fn two_reads(first: io::ErrorKind) -> ([(Result<usize, Failed>, usize); 2], [u8; 2]) {
     let calls = Cell::new(0);
     let full = false;
-    let mut source = StdSource::over(Device {
+    let mut source = Remembering::over(Device {
         first,
         full,
         calls: &calls,
@@ -106,7 +107,7 @@ fn a_read_that_fails_is_answered_at_once(rt: HostRuntime) {
 // the calls that were made by then.
 fn two_writes(first: io::ErrorKind, full: bool, before: usize) -> [(Result<(), Failed>, usize); 2] {
     let calls = Cell::new(before);
-    let mut sink = StdSink::over(Device {
+    let mut sink = Remembering::over(Device {
         first,
         full,
         calls: &calls,

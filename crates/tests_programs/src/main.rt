@@ -13,7 +13,7 @@ mod summary;
 mod traces;
 
 use audit_run::{Costs, Setup, audit_with};
-use console::{Messages, Options, run_program};
+use console::{Arguments, Program, run_program};
 use heap_base::Status;
 use host::Host;
 use orders::run_orders;
@@ -25,46 +25,33 @@ use std::thread::Threads;
 use steal_pool::{OpenGate, ThreadCost};
 use streams::{Sink, Source, put_all};
 
-const PROGRAM: &str = "tests_programs";
+const NAME: &str = "tests_programs";
 
 const USAGE: &[u8] = b"usage: tests_programs gcaudit|gcresident .. | orders FIRST COUNT\n";
 
-/// What a person is told of an argument that is refused.
-const OPTIONS: Options = Options {
-    program: PROGRAM,
-    ..AUDIT_OPTIONS
-};
-
 fn main(rt: HostRuntime) -> ExitCode {
-    run_program(
-        &rt,
-        Messages::of_report(PROGRAM),
-        |words, source, sink| {
-            let host = Host {
-                rt: &rt,
-                alloc: rt.alloc(),
-            };
-            run_named(&host, words, source, sink)
-        },
-        |words| OPTIONS.tell_refused(&rt, words.get(1..).unwrap_or(&[])),
-    )
+    run_program(&rt, NAME, |words, streams| {
+        let alloc = rt.alloc();
+        let host = Host { rt: &rt, alloc };
+        let named = words.get(1..).unwrap_or(&[]);
+        let status = run_named(&host, named, &mut streams.input, &mut streams.output);
+        let program = Program::of_report(NAME, Arguments::Options(AUDIT_OPTIONS));
+        program.end(alloc, named, streams, status)
+    })
 }
 
 // Runs what the first argument names on the arguments from there on.
 fn run_named<'a, R: Threads + Wait + Clone + Drop + Send + Sync + 'static, S: Source, K: Sink>(
     host: &Host<'a, R>,
-    words: &[&str],
+    named: &[&str],
     source: &mut S,
     sink: &mut K,
 ) -> Status {
-    match words {
-        [_, named @ ..] => match named {
-            [name, ..] if *name == "gcaudit" => audit(host, named, source, sink),
-            [name, ..] if *name == "gcresident" => audit_resident(host, named, source, sink),
-            [name, first, count] if *name == "orders" => run_orders(host, first, count, sink),
-            _ => refuse(sink),
-        },
-        [] => refuse(sink),
+    match named {
+        [name, ..] if *name == "gcaudit" => audit(host, named, source, sink),
+        [name, ..] if *name == "gcresident" => audit_resident(host, named, source, sink),
+        [name, first, count] if *name == "orders" => run_orders(host, first, count, sink),
+        _ => refuse(sink),
     }
 }
 
