@@ -58,7 +58,12 @@ def classes_of(tests):
 
 def run_class(name):
     ran = subprocess.run(
-        [sys.executable, "-B", "-m", "tests", name], cwd=RECORDERS, stdin=subprocess.DEVNULL, stdout=subprocess.PIPE, stderr=subprocess.STDOUT, text=True
+        [sys.executable, "-B", "-m", "tests", name],
+        cwd=RECORDERS,
+        stdin=subprocess.DEVNULL,
+        stdout=subprocess.PIPE,
+        stderr=subprocess.STDOUT,
+        text=True,
     )
     return name, ran.returncode, ran.stdout
 
@@ -67,7 +72,9 @@ def run_all():
     tests = unittest.defaultTestLoader.discover(os.path.join(RECORDERS, "tests"), top_level_dir=RECORDERS)
     names = sorted(set(classes_of(tests)))
     passed, failed, skipped = 0, 0, {}
-    with ThreadPoolExecutor(len(os.sched_getaffinity(0)) if hasattr(os, "sched_getaffinity") else os.cpu_count()) as runs:
+    with ThreadPoolExecutor(
+        len(os.sched_getaffinity(0)) if hasattr(os, "sched_getaffinity") else os.cpu_count()
+    ) as runs:
         for run in as_completed([runs.submit(run_class, name) for name in names]):
             name, status, said = run.result()
             print("%s\n%s" % (name, said), end="", flush=True)
