@@ -52,7 +52,9 @@ class Installed(unittest.TestCase):
             "hprof_to_trace",
             "heapsnapshot_to_trace",
             "gcaudit-from-hprof",
+            "rubyheap_to_trace",
             "gcaudit-from-heapsnapshot",
+            "gcaudit-from-rubyheap",
             "gcaudit-named",
             "gcaudit-summary",
             "gcaudit-growth",
@@ -65,7 +67,13 @@ class Installed(unittest.TestCase):
             )
 
     def test_the_modules_are_those_installed(self):
-        for name in ("gcaudit_recorder", "gcaudit_trace", "hprof_to_trace", "heapsnapshot_to_trace"):
+        for name in (
+            "gcaudit_recorder",
+            "gcaudit_trace",
+            "hprof_to_trace",
+            "heapsnapshot_to_trace",
+            "rubyheap_to_trace",
+        ):
             said = self.run_words(self.command("python"), "-c", "import %s; print(%s.__file__)" % (name, name))
             self.assertTrue(
                 os.path.realpath(said.strip()).startswith(os.path.realpath(self.commands[: -len("bin")])), said

@@ -9,7 +9,11 @@ from ..dumps.options import parser_for
 from . import growth, named, summary, view
 
 # The converters have an older name besides, which has no completions of its own.
-_CONVERTERS = {"gcaudit-from-hprof": "hprof_to_trace", "gcaudit-from-heapsnapshot": "heapsnapshot_to_trace"}
+_CONVERTERS = {
+    "gcaudit-from-hprof": "hprof_to_trace",
+    "gcaudit-from-heapsnapshot": "heapsnapshot_to_trace",
+    "gcaudit-from-rubyheap": "rubyheap_to_trace",
+}
 
 
 def parsers() -> Dict[str, argparse.ArgumentParser]:

@@ -2,6 +2,7 @@
 import contextlib
 import importlib
 import os
+import re
 from typing import BinaryIO, Iterator, List, Optional, Tuple
 
 from ..errors import TraceError
@@ -11,6 +12,7 @@ from .graph import Graph
 from .trace_heap import heaps
 
 _BEGINNING = 64
+_OF_RUBY = re.compile(rb'\{"(address": ?"0x|type": ?"ROOT")')
 
 
 def _converter_of(beginning: bytes) -> Optional[str]:
@@ -20,6 +22,8 @@ def _converter_of(beginning: bytes) -> Optional[str]:
     text = beginning.lstrip()
     if text.startswith(b"{") and text[1:].lstrip().startswith(b'"snapshot"'):
         return "heapsnapshot_to_trace"
+    if _OF_RUBY.match(text):
+        return "rubyheap_to_trace"
     return None
 
 
@@ -39,7 +43,7 @@ def _opened(path: str) -> Iterator[Tuple[Optional[BinaryIO], Optional[str]]]:
                 % path
             )
         if converter is None and not beginning.lstrip().startswith(b"{") and beginning.strip():
-            raise TraceError("%s is neither a trace nor a heap dump: HPROF, or a snapshot of V8" % path)
+            raise TraceError("%s is neither a trace nor a heap dump: HPROF, a snapshot of V8, or a dump of Ruby" % path)
         yield (file if converter else None), converter
 
 

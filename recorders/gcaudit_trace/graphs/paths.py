@@ -53,6 +53,11 @@ _BETWEEN = frozenset(
         "Float64Array",
         "DataView",
         "string",
+        "Hash",
+        "Proc",
+        "Method",
+        "(environment)",
+        "(hidden array)",
     }
 )
 _BETWEEN_BEGINS = (
