@@ -50,6 +50,16 @@ def python_with(*modules, among=(sys.executable, "/usr/bin/python3")):
     return None
 
 
+def ruby_with(module):
+    """The ruby that has a module; None where there is none."""
+    ruby = shutil.which("ruby")
+    return (
+        ruby
+        if ruby and subprocess.run([ruby, "-e", "require ARGV[0]", module], stderr=subprocess.DEVNULL).returncode == 0
+        else None
+    )
+
+
 class InFolder(unittest.TestCase):
     """A test with a temporary folder, `self.folder`."""
 
