@@ -1,4 +1,4 @@
-"""docs/GUIDE.md does what it says: its files are written, its commands run, and they say what stands there."""
+"""docs/GUIDE.md and the recorder in docs/TRACES.md do what they say: their files are written, their commands run, and they say what stands there."""
 import contextlib
 import os
 import re
@@ -17,10 +17,12 @@ from tests.support import (
     needs_program,
     needs_snapshots,
     python_with,
+    ruby_with,
 )
 
-GUIDE = os.path.join(os.path.dirname(RECORDERS), "docs", "GUIDE.md")
+GUIDE, TRACES = (os.path.join(os.path.dirname(RECORDERS), "docs", name) for name in ("GUIDE.md", "TRACES.md"))
 PYTEST = python_with("pytest")
+MINITEST = ruby_with("minitest")
 MODULES = {
     "gcaudit-named": "gcaudit_trace",
     "gcaudit-view": "gcaudit_trace.commands.view",
@@ -28,14 +30,15 @@ MODULES = {
     "gcaudit-summary": "gcaudit_trace.commands.summary",
     "hprof_to_trace": "hprof_to_trace",
     "heapsnapshot_to_trace": "heapsnapshot_to_trace",
+    "rubyheap_to_trace": "rubyheap_to_trace",
 }
 END = "@@end of a command"
 LIMIT = 900  # seconds for a section; nothing in it waits by the clock, so a busy machine only takes longer
 
 
-def blocks_of(section):
+def blocks_of(section, page=GUIDE):
     """The blocks of a section: their language and their lines."""
-    with open(GUIDE, encoding="utf-8") as file:
+    with open(page, encoding="utf-8") as file:
         text = file.read().split("\n## %s\n" % section)[1].split("\n## ")[0]
     return [
         (found.group(1), found.group(2).split("\n")[:-1])
@@ -65,12 +68,12 @@ class Guide(InFolder):
             file.write("#!/bin/sh\nexec %s\n" % words)
         os.chmod(os.path.join(self.path("bin"), name), 0o755)
 
-    def run_section(self, section, lacks=None, **variables):
+    def run_section(self, section, lacks=None, page=GUIDE, **variables):
         """Writes the files, mends them, and runs the commands, in the order of the page, but for those that name what `lacks`."""
         os.makedirs(self.path("work"), exist_ok=True)
         script, expected = [], []
         is_left_out = False
-        for language, lines in blocks_of(section):
+        for language, lines in blocks_of(section, page):
             if language == "console":
                 for line in lines:
                     if line.startswith("$ ") and lacks is not None and lacks in line:
@@ -86,7 +89,7 @@ class Guide(InFolder):
             elif language == "diff":
                 script.append(self.mended(lines))
             else:
-                name = re.match(r"(?:#|//) (\S+)$", lines[0]).group(1)
+                name = re.match(r"(?:#|//|--) (\S+)$", lines[0]).group(1)
                 with open(os.path.join(self.path("work"), name), "w") as file:
                     file.write("\n".join(lines[1:]) + "\n")
         environment = dict(
@@ -156,6 +159,18 @@ class Guide(InFolder):
         os.makedirs(self.path("work/node_modules"))
         os.symlink(os.path.join(RECORDERS, "node"), self.path("work/node_modules/gcaudit"))
         self.run_section("A program on Node")
+
+    @needs_commands("ruby", "bash")
+    @unittest.skipIf(MINITEST is None, "minitest is not there")
+    def test_ruby(self):
+        self.run_section("A program in Ruby", RUBYLIB=os.path.join(RECORDERS, "ruby", "lib"))
+
+    @needs_commands("lua5.4", "bash")
+    def test_a_recorder_for_another_runtime(self):
+        section = "A recorder for another runtime"
+        self.run_section(section, page=TRACES)
+        recorder = next(lines for language, lines in blocks_of(section, TRACES) if language == "lua")
+        self.assertEqual(len([line for line in recorder[1:] if line]), 50)
 
     @needs_snapshots
     @needs_commands("node", "bash")
