@@ -225,7 +225,6 @@ class Synthetic(InFolder):
         records[1]["references"] = []
         self.assertIn(("Thing", "(class)", "class Thing"), self.labels(self.converted(records)))
 
-
     def test_what_only_the_cache_of_a_constant_holds(self):
         cache = {"address": "0x48", "type": "IMEMO", "imemo_type": "constcache", "class": "0x28"}
         roots = dict(self.RECORDS[0], references=["0x48"])
