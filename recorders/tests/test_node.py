@@ -267,6 +267,11 @@ class Runners(WithPackage):
         status, said = self.node(*words, LEAKS="1", **modules)
         self.assertEqual(status, 1)
         self.assertRegex(said, self.path_of_session)
+        status, said = self.node(*words, "--reporter", "xunit", LEAKS="1", **modules)
+        self.assertEqual(status, 1)
+        cases = {case.get("name"): case.findtext("failure") for case in ElementTree.fromstring(said).iter("testcase")}
+        self.assertEqual([name for name, failure in cases.items() if failure], ["the session is gone"], said)
+        self.assertRegex(cases["the session is gone"], self.path_of_session)
 
     @needs_commands("jest")
     def test_jest(self):
