@@ -1,5 +1,5 @@
 #!/usr/bin/env python3
-"""Measures what the assertions inside programs on the JVM and on Node cost, in processes of so many objects.
+"""Measures what the assertions inside programs on the JVM, on Node and in Ruby cost, in processes of so many objects.
 
 Usage: bench/libraries.py [OBJECTS]     (1,000,000 where it isn't said)
 
@@ -51,6 +51,10 @@ def main(words):
         measured("Node", "node", HERE / "costs.js", objects, GCAUDIT_PACKAGE=str(TOP / "recorders" / "node"))
     else:
         print("left out: there is no node")
+    if shutil.which("ruby"):
+        measured("Ruby", "ruby", "-I", TOP / "recorders" / "ruby" / "lib", HERE / "costs.rb", objects)
+    else:
+        print("left out: there is no ruby")
 
 
 if __name__ == "__main__":

@@ -2,14 +2,13 @@
 import argparse
 from array import array
 from itertools import accumulate
-from typing import BinaryIO, Dict, Iterator, List, Set, Tuple, Union
+from typing import BinaryIO, Dict, Iterator, List, Protocol, Set, Tuple
 
 from gcaudit_trace.dumps.command import say_left_out
-from gcaudit_trace.dumps.graph_output import DumpGraph
-from gcaudit_trace.dumps.options import Wishes, parser_for
-from gcaudit_trace.dumps.output import DumpFile, output_of
-from gcaudit_trace.graphs.graph import Graph, Names
-from gcaudit_trace.graphs.left_out import LeftOut
+from gcaudit_trace.dumps.options import Wishes
+from gcaudit_trace.dumps.output import output_of
+from gcaudit_trace.graphs.graph import Names
+from gcaudit_trace.graphs.left_out import LeftOut, Staying
 from gcaudit_trace.progress import Progress
 
 from .classes import Classes, RubyClass
@@ -34,6 +33,17 @@ _HOLD_AS_CLASS = frozenset({"constcache", "ment", "env", "svar", "cref", "iseq"}
 _NAMES = "NAMES"  # a line of gcaudit's library: what names an object gives to what it refers to
 _OF_GLOBALS = "globals"
 _GLOBAL_TABLE = "global_tbl"
+
+
+class Output(Protocol):
+    """What takes the objects of a dump: a file, or a graph in memory."""
+
+    def object(self, class_name: str, size: int, contents: List[Tuple[str, int, bool]]) -> None:
+        ...
+
+    def joint(self, class_name: str, joint: Staying) -> None:
+        ...
+
 
 Kind = Tuple[str, str, int]  # the type, the kind of structure, and the address of the class; of a class its own
 
@@ -304,7 +314,7 @@ class Heap:
         """The label of a reference of a left-out object."""
         return self._labels.texts[self._left_labels[edge]]
 
-    def write(self, out: Union[DumpFile, DumpGraph]) -> None:
+    def write(self, out: Output) -> None:
         """Writes the kept objects, and after them the joints."""
         for record, kind, code in self._objects("writing the objects"):
             if code <= 0:
@@ -389,16 +399,6 @@ class _GivenNames:
             for place in self._order[self._starts[node] : self._starts[node + 1]]:
                 found.setdefault(self._held[place], []).append(self._labels.texts[self._places[place]])
         return found
-
-
-def graph_of(file: BinaryIO, name: str, progress: Progress) -> Graph:
-    """The whole heap of a dump as a graph, texts and numbers too."""
-    wishes = Wishes(parser_for("", "").parse_args(["--", name, ""]), limited=False)
-    heap = Heap(file, name, wishes, progress)
-    heap.read()
-    out = DumpGraph()
-    heap.write(out)
-    return out.finish(heap.roots())
 
 
 def convert(file: BinaryIO, asked: argparse.Namespace, progress: Progress) -> None:

@@ -3,6 +3,7 @@
 The dump was written by a thread of the library, so the machine's stack (`machine_context`) has nothing of the program on it. It isn't
 read, and neither are the library's own objects.
 """
+import argparse
 import sys
 from typing import BinaryIO, Dict, Iterator, List, Set, Tuple
 
@@ -17,6 +18,7 @@ from gcaudit_trace.dumps.marks import (
     MarkedWishes,
     TooManyObjects,
     more_to_leave_out,
+    say_too_many,
 )
 from gcaudit_trace.progress import Progress
 
@@ -84,16 +86,20 @@ class _Trace(MarkedTrace):
     def class_of(self, mark: Mark) -> str:
         return self._heap.class_of(mark)
 
+    def key_of(self, number: int) -> int:
+        """None, since Ruby gives an address to another object later; so each check has a trace of its own."""
+        return 0
+
 
 def convert(
-    file: BinaryIO, name: str, trace: str, assertions: List[Assertion], progress: Progress, with_classes: bool
+    file: BinaryIO, asked: argparse.Namespace, assertions: List[Assertion], progress: Progress, with_classes: bool
 ) -> Marked:
     """Writes the trace of a dump with the assertions about its marks. Where it has too many objects, some classes are left out."""
     wanted = {name for one in assertions for name in (one.type_name, one.owner_type)}
     left_out: Set[str] = set()
     while True:
         wishes = MarkedWishes(assertions, _is_own, left_out)
-        heap = MarkedHeap(file, name, wishes, progress, assertions)
+        heap = MarkedHeap(file, asked.dump, wishes, progress, assertions)
         try:
             heap.read()
             stay = heap.pass_over()
@@ -101,8 +107,9 @@ def convert(
         except TooManyObjects as many:
             left_out = more_to_leave_out(many.counts, wanted, left_out)
     said: Dict[str, int] = {one: count for one, count in heap.left_out.items() if not _is_own(one)}
+    say_too_many(left_out, progress)
     say_left_out(said, stay, heap.left, wishes, progress)
-    out = _Trace(trace, wishes, assertions, heap)
+    out = _Trace(asked.trace, wishes, assertions, heap)
     with out:
         heap.write(out)
         out.finish(heap.roots(), progress)

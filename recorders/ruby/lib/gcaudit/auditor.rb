@@ -11,7 +11,7 @@ module GcAudit
   # Writes a dump of the heap, and has it read and audited by processes of their own.
   class Auditor
     MOST_SECONDS = 1800
-    HEAD = /\Achecked (\d+) assertions\n/
+    HEAD = /\Achecked (\d+) assertions at collection 1: (\d+) violations\n/
     LAST = /^end gcs 1 violations (\d+)$/
     STEP = 0.02
     private_constant :MOST_SECONDS, :HEAD, :LAST, :STEP
