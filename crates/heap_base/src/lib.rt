@@ -12,7 +12,7 @@ pub use errors::OutOfMemory;
 pub use ids::{ObjId, ThreadNo};
 pub use limits::{
     END_STEPS, LONGEST_LINE, LONGEST_NAME, LONGEST_TRACE, MOST_KINDS, MOST_OBJECTS, MOST_REGIONS,
-    MOST_ROOTS, MOST_SLOTS, MOST_THREADS, MOST_WORKERS, USUAL_PATHS,
+    MOST_ROOTS, MOST_SLOTS, MOST_TASKS, MOST_THREADS, MOST_WORKERS, USUAL_PATHS,
 };
 pub use names::Name;
 pub use status::Status;

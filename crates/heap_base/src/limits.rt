@@ -31,6 +31,9 @@ pub const MOST_KINDS: u32 = 65_536;
 /// So many workers may trace a heap.
 pub const MOST_WORKERS: u32 = 16;
 
+/// The workers of one phase of a collection have together at most so many tasks: two for each object and worker.
+pub const MOST_TASKS: u32 = 2 * MOST_WORKERS * MOST_OBJECTS;
+
 /// A collection shows paths with so many of its violations, where nothing else is asked for.
 pub const USUAL_PATHS: u32 = 100;
 

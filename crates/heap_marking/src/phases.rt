@@ -6,6 +6,7 @@ ghost use Rattle.scan_job.specs.Jobs.{shared_graph, scan_meaning};
 ghost use Rattle.scan_job.specs.Phases.{CanScan};
 ghost use Rattle.scan_job.specs.States.{turns_of};
 ghost use Rattle.steal_pool.specs.Runs.{AreReady};
+ghost use Rattle.heap_base.specs.declared.limits.TheConstants.{MOST_TASKS};
 
 use scan_job::{ScanContext, ScanJob};
 use std::thread::Threads;
@@ -19,7 +20,7 @@ pub(crate) fn run_phases<R: Threads + Sync, G: Gate>(
     first: &mut FirstTasks,
 )
     requires scan { CanScan context.shared.now jobs.old.items crew.old first.old }
-    requires turns { All (λ j. 3 * 2 ^ 25 + 3 < turns_of j) jobs.old.items }
+    requires turns { All (λ j. 3 * MOST_TASKS + 3 < turns_of j) jobs.old.items }
     ensures phases { ThreePhases (shared_graph context.entry.shared.now) jobs.old.items jobs.new.items }
     ensures ready { AreReady scan_meaning context.entry.shared.now jobs.new.items }
 {

@@ -1,5 +1,5 @@
 -- One phase of a trace after another, whoever runs the jobs.
-use Rattle.std.proofs.Common.{◌≡◌, ℕ, ◌+◌, ◌*◌, ◌^◌, ◌<◌, ◌≤◌, List, length, ap, ◌∙◌, subst, arith}
+use Rattle.std.proofs.Common.{◌≡◌, ℕ, ◌+◌, ◌*◌, ◌<◌, ◌≤◌, List, length, ap, ◌∙◌, subst, arith}
 use Rattle.std.specs.List.{All}
 use Rattle.steal_pool.specs.declared.task.Task.{Task}
 use Rattle.steal_pool.specs.FirstLists.{FirstLists}
@@ -10,6 +10,7 @@ use Rattle.scan_job.specs.Shared.{SharedHeap}
 use Rattle.scan_job.specs.States.{ScanState, turns_of}
 use Rattle.scan_job.proofs.Dealing.{length-dealt}
 use Rattle.heap_marking.proofs.NextPhase.{next-begins, same-many}
+use Rattle.heap_base.specs.declared.limits.TheConstants.{MOST_TASKS}
 
 module _ (phase : Phase) {l s : SharedHeap} (same : l ≡ s) where
   -- The jobs bs and their first tasks, with which this phase began over what is lent.
@@ -36,9 +37,9 @@ module _ (phase : Phase) {l s : SharedHeap} (same : l ≡ s) where
       gained = is-done.gains
 
       pub as-many : length ks ≡ length js
-      as-many = same-many 33554433 js ks is-done.turns
+      as-many = same-many (MOST_TASKS + 1) js ks is-done.turns
 
       -- and the next can begin
-      pub goes-on : (n : ℕ) → 2 ^ 25 ≤ n → CanBeginPhase s js first → All (λ j. n + 33554433 < turns_of j) js → CanBeginPhase s ks then × All (λ j. n < turns_of j) ks
+      pub goes-on : (n : ℕ) → MOST_TASKS ≤ n → CanBeginPhase s js first → All (λ j. n + (MOST_TASKS + 1) < turns_of j) js → CanBeginPhase s ks then × All (λ j. n < turns_of j) ks
       goes-on n enough can turns =
           next-begins n s phase js ks first then enough can is-done turns (ap length b.lists ∙ length-dealt (length js) b.firsts) b.first_room

@@ -10,6 +10,7 @@ ghost use Rattle.scan_job.specs.States.{turns_of};
 ghost use Rattle.heap_marking.specs.TracedCells.{ThreePhases};
 ghost use Rattle.parked_crew.specs.TaskCrews.{workers_of};
 ghost use Rattle.resident_crew.specs.Scans.{shared_by_scan};
+ghost use Rattle.heap_base.specs.declared.limits.TheConstants.{MOST_TASKS};
 
 use crate::job::ResidentJob;
 use crate::scan::ResidentScan;
@@ -41,7 +42,7 @@ pub fn run_phases<R: Wait, G: Gate + Send + Drop + 'static>(
     mut first: FirstTasks,
 ) -> Result<Vec<ScanJob>, OutOfMemory>
     requires begin { CanBeginPhase (shared_by_scan (arc_value context.now.shared.now)) jobs.items first }
-    requires turns { All (λ j. 3 * 2 ^ 25 + 3 < turns_of j) jobs.items }
+    requires turns { All (λ j. 3 * MOST_TASKS + 3 < turns_of j) jobs.items }
     requires jobs { length jobs.items ≡ workers_of crew.old }
     ensures phases { IfOk result (λ ms. ThreePhases (graph_in (shared_by_scan (arc_value context.now.shared.now))) jobs.items ms.items) }
     ensures ready { IfOk result (λ ms. AreReady shared_meaning (shared_by_scan (arc_value context.now.shared.now)) ms.items) }

@@ -20,6 +20,7 @@ use Rattle.scan_job.proofs.PhaseRuns.{le-times}
 use Rattle.scan_job.proofs.Starting.{IsStart, all-map, all-cons, all-tail, graph-whole, begun-ready, begun-modes, begun-last, few-tasks, can-run}
 use Rattle.root_phase.specs.Roots.{JobAndLists, MeetsRoots}
 use Rattle.root_phase.proofs.RootMeetings.{turns-left}
+use Rattle.heap_base.specs.declared.limits.TheConstants.{MOST_TASKS}
 
 -- P of all jobs where it is true of the new first one
 all-set : {X : Type 0} (P : X → Type 0) (x : X) (xs : List X) → P x → All P xs → All P (set xs 0 x)
@@ -70,12 +71,12 @@ module _ (s : SharedHeap) (js : List ScanState) (first : FirstLists) (p : RootSt
   lists : p.new.lists ≡ task_lists (length js) (root_firsts g p.met.won)
   lists = p.met.lists ∙ ap (λ n. task_lists n (root_firsts g p.met.won)) p.workers
 
-  old-turns : 2 ^ 25 < turns_of p.old.job
+  old-turns : MOST_TASKS < turns_of p.old.job
   old-turns =
-      let all = all-map (starting_in Root) (λ j. 2 ^ 25 < turns_of j) (λ j. 2 ^ 25 < turns_of j) (λ j l. l) js p.can.turns in
+      let all = all-map (starting_in Root) (λ j. MOST_TASKS < turns_of j) (λ j. MOST_TASKS < turns_of j) (λ j l. l) js p.can.turns in
       let l = length-map js (starting_in Root) in
       let a = p.can.some in
-      subst (λ j. 2 ^ 25 < turns_of j) (sym first-begun) (all 0 p.old.job (omega arith))
+      subst (λ j. MOST_TASKS < turns_of j) (sym first-begun) (all 0 p.old.job (omega arith))
 
   turns-met : turns_of p.old.job ≤ turns_of p.new.job + 1
   turns-met =
@@ -92,8 +93,8 @@ module _ (s : SharedHeap) (js : List ScanState) (first : FirstLists) (p : RootSt
     ready = all-set (λ j. IsReadyFor j s) p.new.job (map (starting_in Root) js) p.ready (begun-ready s Root js p.can.ready);
     modes = all-set (λ j. j.mode ≡ Root) p.new.job (map (starting_in Root) js) (met-roots.mode ∙ first-mode) (begun-modes s Root js);
     turns =
-        all-set (λ j. 2 ^ 25 ≤ turns_of j) p.new.job (map (starting_in Root) js) (let a = old-turns in let b = turns-met in omega arith)
-        (all-map (starting_in Root) (λ j. 2 ^ 25 < turns_of j) (λ j. 2 ^ 25 ≤ turns_of j) (λ j l. omega arith) js p.can.turns);
+        all-set (λ j. MOST_TASKS ≤ turns_of j) p.new.job (map (starting_in Root) js) (let a = old-turns in let b = turns-met in omega arith)
+        (all-map (starting_in Root) (λ j. MOST_TASKS < turns_of j) (λ j. MOST_TASKS ≤ turns_of j) (λ j l. omega arith) js p.can.turns);
     jobs = many;
     some = p.can.some;
     few_jobs = p.can.few;
@@ -128,7 +129,7 @@ module _ (s : SharedHeap) (js : List ScanState) (first : FirstLists) (p : RootSt
           gains = root-phase s js ks p.old.job p.new.job p.met.won p.new.lists n p.can.some p.can.some whole first-begun met-roots lists ran.ran;
           modes = run-modes s Root p.new.lists starts ks (let a = many in let b = p.can.some in omega arith) start.modes ran.ran;
           ready = ran.ready;
-          turns = first-last (most_tasks shared_meaning starts p.new.lists) (2 ^ 25 + 1) js ks p.old.job p.new.job (omega arith) first-begun turns-met ran.turns;
+          turns = first-last (most_tasks shared_meaning starts p.new.lists) (MOST_TASKS + 1) js ks p.old.job p.new.job (omega arith) first-begun turns-met ran.turns;
         };
       }
 

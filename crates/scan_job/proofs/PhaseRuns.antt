@@ -21,6 +21,7 @@ use Rattle.scan_job.specs.States.{ScanState}
 use Rattle.scan_job.proofs.Gaining.{run-modes, owners-fit, owner-phase, held-fit, take_up-phase}
 use Rattle.scan_job.proofs.OwnerCells.{few-owners}
 use Rattle.scan_job.proofs.Starting.{IsStart, first-ready, begun-ready, begun-modes, begun-turns, begun-last, few-tasks, can-run}
+use Rattle.heap_base.specs.declared.limits.TheConstants.{MOST_TASKS}
 
 -- at least as many, where there is a worker
 pub le-times : (n c : ℕ) → 0 < n → c ≤ n * c
@@ -46,10 +47,10 @@ module _ (s : SharedHeap) (mode : Mode) (js : List ScanState) (ts : List Task) (
       run-modes s mode p.load.first (map (starting_in mode) js) ks (let a = p.start.jobs in let b = p.start.some in omega arith) p.start.modes
       (subst (λ zs. Run shared_meaning s (record { jobs = zs; first = p.load.first }) ks) p.are_begun run)
 
-  turns-after : (ks : List ScanState) → TurnsLast shared_meaning (most_tasks shared_meaning p.load.jobs p.load.first) p.load.jobs ks → TurnsLast shared_meaning (2 ^ 25 + 1) js ks
+  turns-after : (ks : List ScanState) → TurnsLast shared_meaning (most_tasks shared_meaning p.load.jobs p.load.first) p.load.jobs ks → TurnsLast shared_meaning (MOST_TASKS + 1) js ks
   turns-after ks last =
       let few = few-tasks s mode (length js) (map (starting_in mode) js) ts p.load.first p.start p.lists in
-      begun-last mode (most_tasks shared_meaning (map (starting_in mode) js) p.load.first) (2 ^ 25 + 1) js ks (omega arith)
+      begun-last mode (most_tasks shared_meaning (map (starting_in mode) js) p.load.first) (MOST_TASKS + 1) js ks (omega arith)
       (subst (λ zs. TurnsLast shared_meaning (most_tasks shared_meaning zs p.load.first) zs ks) p.are_begun last)
 
   -- what the run gains makes the phase done
@@ -74,7 +75,7 @@ module _ (s : SharedHeap) (js : List ScanState) (first : FirstLists) (can : CanB
   starts mode ts few fit = record {
     ready = begun-ready s mode js can.ready;
     modes = begun-modes s mode js;
-    turns = begun-turns s mode js (2 ^ 25) can.turns;
+    turns = begun-turns s mode js MOST_TASKS can.turns;
     jobs = length-map js (starting_in mode);
     some = can.some;
     few_jobs = can.few;

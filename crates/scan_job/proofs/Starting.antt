@@ -3,7 +3,7 @@ use Rattle.std.proofs.Common.{◌≡◌, ℕ, zero, suc, ◌+◌, ◌*◌, ◌^�
 use Rattle.std.specs.List.{All, Contains}
 use Rattle.std.proofs.Math.Nat.{mul-le-mul_left}
 use Rattle.steal_pool.specs.declared.task.Task.{Task}
-use Rattle.heap_base.specs.declared.limits.TheConstants.{MOST_WORKERS}
+use Rattle.heap_base.specs.declared.limits.TheConstants.{MOST_OBJECTS, MOST_TASKS, MOST_WORKERS}
 use Rattle.heap_base.specs.Counting.{total}
 use Rattle.steal_pool.specs.Jobs.{AllFit}
 use Rattle.steal_pool.specs.Runs.{most_tasks, all_first, AreReady, HaveRoom, TurnsLast}
@@ -42,7 +42,7 @@ pub ready-cells : (s : SharedHeap) (js : List ScanState) → AreReady shared_mea
 ready-cells s js ready k d within = let e = (ready k d within).cells in omega arith
 
 module _ (s : SharedHeap) (js : List ScanState) (some : 0 < length js) (ready : AreReady shared_meaning s js) where
-  pub few-cells : cells_in s ≤ 2 ^ 20
+  pub few-cells : cells_in s ≤ MOST_OBJECTS
   few-cells = let r = (first-ready s js some ready).1.placed.few in omega arith
 
   pub graph-whole : IsWhole (graph_in s)
@@ -74,7 +74,7 @@ begun-last mode n m (j ∷ js) (k ∷ ks) l last = (let t = last.0 in omega arit
 pub record IsStart (s : SharedHeap) (mode : Mode) (n : ℕ) (js : List ScanState) (ts : List Task) : Type 0 where
   pub ready : AreReady shared_meaning s js
   pub modes : AreIn mode js
-  pub turns : All (λ j. 2 ^ 25 ≤ turns_of j) js
+  pub turns : All (λ j. MOST_TASKS ≤ turns_of j) js
   pub jobs : length js ≡ n
   pub some : 0 < n
   pub few_jobs : n ≤ MOST_WORKERS
@@ -103,14 +103,14 @@ module _ (s : SharedHeap) (mode : Mode) (n : ℕ) (js : List ScanState) (ts : Li
   some : 0 < length js
   some = let a = start.jobs in let b = start.some in omega arith
 
-  most-cells : n * cells_in s ≤ 2 ^ 24
+  most-cells : n * cells_in s ≤ MOST_WORKERS * MOST_OBJECTS
   most-cells =
       let a = few-cells s js some start.ready in
       let b = start.few_jobs in
       let c = mul-le-mul_left n a in
       omega arith
 
-  pub few-tasks : most_tasks shared_meaning js fs ≤ 2 ^ 25
+  pub few-tasks : most_tasks shared_meaning js fs ≤ MOST_TASKS
   few-tasks =
       let a = dealt-length n ts start.some in
       let b = ap (λ (hs : List (List Task)). total length hs) lists in

@@ -2,7 +2,7 @@
 use Rattle.std.specs.Prelude.{◌≡◌, ℕ, ◌+◌, ◌*◌, ◌^◌, ◌%◌, ◌<◌, ◌≤◌, List, [], ◌∷◌, ◌++◌, length, filter, map, replicate, slice_index_or, slice_set, false, not, ◌&&◌, IsTrue}
 use Rattle.std.specs.List.{All, flat_map}
 use Rattle.steal_pool.specs.declared.task.Task.{Task}
-use Rattle.heap_base.specs.declared.limits.TheConstants.{MOST_WORKERS}
+use Rattle.heap_base.specs.declared.limits.TheConstants.{MOST_TASKS, MOST_WORKERS}
 use Rattle.heap_base.specs.Counting.{AsOften}
 use Rattle.graph_meaning.specs.Reach.{has_id}
 use Rattle.graph_meaning.specs.Roles.{RoleTable}
@@ -32,7 +32,7 @@ pub record CanBeginPhase (s : SharedHeap) (js : List ScanState) (first : FirstLi
   pub some : 0 < length js
   pub few : length js ≤ MOST_WORKERS
   pub ready : AreReady shared_meaning s js
-  pub turns : All (λ j. 2 ^ 25 < turns_of j) js
+  pub turns : All (λ j. MOST_TASKS < turns_of j) js
   pub lists : length first.lists ≡ length js
   pub list_room : cells_in s ≤ first.room
 
@@ -40,7 +40,7 @@ pub record CanBeginPhase (s : SharedHeap) (js : List ScanState) (first : FirstLi
 -- there is a job and a list of first tasks for each worker; and lists and crew have room.
 pub record CanScan (s : ScanShared) (js : List ScanState) (crew : Crew ScanState) (first : FirstLists) : Type 0 where
   pub ready : AreReady scan_meaning s js
-  pub turns : All (λ j. 2 ^ 25 < turns_of j) js
+  pub turns : All (λ j. MOST_TASKS < turns_of j) js
   pub jobs : length js ≡ workers_of crew
   pub lists : length first.lists ≡ workers_of crew
   pub list_room : cells_in (shared_behind s) ≤ first.room
@@ -169,7 +169,7 @@ pub record IsDone (s : SharedHeap) (phase : Phase) (js ks : List ScanState) : Ty
   pub gains : GainsOf (graph_in s) (phase.gains (graph_in s)) js ks
   pub modes : AreIn phase.mode ks
   pub ready : AreReady shared_meaning s ks
-  pub turns : TurnsLast shared_meaning (2 ^ 25 + 1) js ks
+  pub turns : TurnsLast shared_meaning (MOST_TASKS + 1) js ks
 
 -- The jobs js have begun the phase with this workload: it can be run, and whatever run does it, the phase is done.
 pub record HasBegun (s : SharedHeap) (phase : Phase) (js : List ScanState) (load : Workload ScanState) : Type 0 where

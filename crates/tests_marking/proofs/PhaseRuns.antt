@@ -1,5 +1,5 @@
 -- The tests' jobs may go through phases one after another, and their passes stay those of the headers.
-use Rattle.std.proofs.Common.{◌≡◌, ℕ, suc, ◌+◌, ◌*◌, ◌^◌, ◌<◌, ◌≤◌, List, [], ◌∷◌, length, replicate, sym, ap, ◌∙◌, subst, arith}
+use Rattle.std.proofs.Common.{◌≡◌, ℕ, suc, ◌+◌, ◌*◌, ◌<◌, ◌≤◌, List, [], ◌∷◌, length, replicate, sym, ap, ◌∙◌, subst, arith}
 use Rattle.std.specs.List.{All}
 use Rattle.std.proofs.lemmas.List.{length-replicate}
 use Rattle.graph_meaning.specs.Roles.{AreRolesOf}
@@ -19,6 +19,7 @@ use Rattle.scan_job.specs.Shared.{shared_behind}
 use Rattle.scan_job.specs.States.{ScanState, turns_of, passes_of}
 use Rattle.tests_marking.specs.NewJobs.{AreAllJobs}
 use Rattle.scan_job.proofs.Starting.{all-map, all-cons, all-tail}
+use Rattle.heap_base.specs.declared.limits.TheConstants.{MOST_TASKS}
 
 -- a crew and lists for so many workers, with room for a phase
 pub record HasRoom (s : ScanShared) (workers : ℕ) (crew : Crew ScanState) (first : FirstLists) : Type 0 where
@@ -82,11 +83,11 @@ last-length n (j ∷ js) (k ∷ ks) last = ap suc (last-length n js ks last.1)
 -- after a first phase they may go through another
 pub scan-again : (s : ScanShared) (workers : ℕ) (js ks : List ScanState) (crew : Crew ScanState) (first : FirstLists) →
     AreAllJobs workers s.table.now s.headers.now js → HasRoom s workers crew first → AreReady scan_meaning s ks →
-    TurnsLast scan_meaning (2 ^ 25 + 1) js ks → CanScan s ks crew first
+    TurnsLast scan_meaning (MOST_TASKS + 1) js ks → CanScan s ks crew first
 scan-again s workers js ks crew first all room ready last = record {
   ready = ready;
-  turns = λ k d within. (let t = last-turns (2 ^ 25 + 1) js ks (λ i e l. (let left = (all.each i e l).fresh.left in omega arith)) last k d within in omega arith);
-  jobs = last-length (2 ^ 25 + 1) js ks last ∙ all.count ∙ sym room.count;
+  turns = λ k d within. (let t = last-turns (MOST_TASKS + 1) js ks (λ i e l. (let left = (all.each i e l).fresh.left in omega arith)) last k d within in omega arith);
+  jobs = last-length (MOST_TASKS + 1) js ks last ∙ all.count ∙ sym room.count;
   lists = room.lists ∙ sym room.count;
   list_room = room.list_room;
   room = room.room;

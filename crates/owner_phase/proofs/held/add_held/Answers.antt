@@ -3,6 +3,7 @@ use Rattle.scan_job.specs.Phases.{task_lists}
 use Rattle.scan_job.specs.Scans.{task_at}
 use Rattle.owner_phase.proofs.HeldCells.{HeldBy, held-more, few-more, few-so_far, length-more, has-room, dealt-more}
 use Rattle.owner_phase.proofs.held.add_held.Goals as goal
+use Rattle.heap_base.specs.declared.limits.TheConstants.{MOST_OBJECTS}
 
 pub add-requires-clause-worker : goal.add-requires-clause-worker
 add-requires-clause-worker c =
@@ -29,7 +30,7 @@ overflow_add-number c =
     record { job = record { within = c.loop-job-test.true; is = c.job-item.is; won = c.held-cell-items.ensures.within_wins }; held = c.held-cell-items.ensures.held } in
     let l =
     few-so_far c.args.jobs.now c.loop-job.job-index c.job-item.result c.held-cell-items.result.now p c.loop-cell.cell-index
-    c.loop-cell-test.true 1048576 c.requires.cells (c.loop-job.invariant.few 1048576 c.requires.cells) in
+    c.loop-cell-test.true MOST_OBJECTS c.requires.cells (c.loop-job.invariant.few MOST_OBJECTS c.requires.cells) in
     let n = c.loop-cell.invariant.number in
     let jobs = c.requires.jobs in
     let few = c.requires.few in

@@ -1,4 +1,4 @@
-use Rattle.std.proofs.Common.{sym, ◌∙◌, subst, arith}
+use Rattle.std.proofs.Common.{◌+◌, ◌*◌, sym, ◌∙◌, subst, arith}
 use Rattle.std.specs.Arc.{arc_value}
 use Rattle.std.proofs.lemmas.Result.{IfOk-weaker}
 use Rattle.steal_pool.specs.Runs.{Workload}
@@ -12,6 +12,7 @@ use Rattle.resident_crew.proofs.Went.{Begun, can-run, gained, as-many, goes-on}
 use Rattle.resident_crew.proofs.phases.run_phases.Given as given
 use Rattle.resident_crew.proofs.phases.run_phases.Goals as goal
 use Rattle.resident_crew.proofs.phases.run_phases.Goals.{After-begin_owner_phase, After-begin_take_up, After-begin_root_phase}
+use Rattle.heap_base.specs.declared.limits.TheConstants.{MOST_TASKS}
 
 -- how the scans from the owners began
 owners : (g : given.Over) (c : After-begin_owner_phase g)
@@ -45,7 +46,7 @@ pub begin_take_up-requires-clause-begin : goal.begin_take_up-requires-clause-beg
 begin_take_up-requires-clause-begin g c =
     let b = owners g (goal.at.begin_take_up-requires-clause-begin g c).After-begin_owner_phase in
     subst (λ x. CanBeginPhase x c.in_ok-after_owners.after_owners.items c.begin_owner_phase.new.first) (sym c.lend-2.ensures)
-    (goes-on from_owners c.lend.ensures b c.in_ok-after_owners.ensures.ran 67108866 (omega arith) c.requires.begin c.requires.turns).0
+    (goes-on from_owners c.lend.ensures b c.in_ok-after_owners.ensures.ran (2 * MOST_TASKS + 2) (omega arith) c.requires.begin c.requires.turns).0
 
 pub begin_take_up-requires-clause-held : goal.begin_take_up-requires-clause-held
 begin_take_up-requires-clause-held g c =
@@ -69,9 +70,9 @@ pub begin_root_phase-requires : goal.begin_root_phase-requires
 begin_root_phase-requires g c =
     let at = goal.at.begin_root_phase-requires g c in
     let held = all_held c.in_ok-after_owners.after_owners.items in
-    let went = goes-on from_owners c.lend.ensures (owners g at.After-begin_owner_phase) c.in_ok-after_owners.ensures.ran 67108866 (omega arith) c.requires.begin c.requires.turns in
+    let went = goes-on from_owners c.lend.ensures (owners g at.After-begin_owner_phase) c.in_ok-after_owners.ensures.ran (2 * MOST_TASKS + 2) (omega arith) c.requires.begin c.requires.turns in
     subst (λ x. CanBeginPhase x c.in_ok-after_take_up.after_take_up.items c.begin_take_up.new.first) (sym c.lend-3.ensures)
-    (goes-on (from_held held) c.lend-2.ensures (taken_up g at.After-begin_take_up) c.in_ok-after_take_up.ensures.ran 33554433 (omega arith) went.0 went.1).0
+    (goes-on (from_held held) c.lend-2.ensures (taken_up g at.After-begin_take_up) c.in_ok-after_take_up.ensures.ran (MOST_TASKS + 1) (omega arith) went.0 went.1).0
 
 pub run_jobs-requires-3-clause-can : goal.run_jobs-requires-3-clause-can
 run_jobs-requires-3-clause-can g c κs within = (roots g (goal.at.run_jobs-requires-3-clause-can g c).After-begin_root_phase).can_run _ (omega arith)
