@@ -167,9 +167,9 @@ class Recorder:
         forget_shapes()
 
     def growth(self, rounds: int, work: Callable[[], Any], warm_up: int = 1) -> Growth:
-        """Calls `work` to warm up, and then so many times again, and says what became more in each of these: by type, and by what holds it.
+        """Calls `work` to warm up and then `rounds` times, and says what increased in each round: by type, and by what holds it.
 
-        Caches and buffers that fill meanwhile are said too, so `warm_up` is how many calls it takes until they are full. The
+        Caches and buffers that fill meanwhile are reported too, so `warm_up` is how many calls it takes until they are full. The
         growth prints as a table. Nothing is written to the trace.
         """
         self._need_open()

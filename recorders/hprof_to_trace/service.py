@@ -22,21 +22,27 @@ _ASSERTING = ("dead", "limit", "unshared", "owned_by")
 def parser() -> argparse.ArgumentParser:
     made = argparse.ArgumentParser(
         prog=PROGRAM,
-        description="Has a JVM that runs write its heap, and audits it: the program needs no change. With --growth it has the heap "
-        "written some times, and says what became more. All other words are those of hprof_to_trace, as --dead and --only.",
+        description="Makes a running JVM write its heap, and audits it; the program needs no change. With --growth it takes several heaps, "
+        "and says what increased. All other options are those of hprof_to_trace, such as --dead and --only.",
     )
-    made.add_argument("pid", metavar="PID", help="the number of the process, as jcmd -l tells it")
-    made.add_argument("--growth", metavar="N", type=command_line.count, help="compares N heaps, 2 or more")
+    made.add_argument("pid", metavar="PID", help="the number of the process, as jcmd -l shows it")
+    made.add_argument("--growth", metavar="N", type=command_line.count, help="compare N heaps, 2 or more")
     made.add_argument(
-        "--every", metavar="SECONDS", type=command_line.count, default=60, help="the time between two of them, else 60"
+        "--every",
+        metavar="SECONDS",
+        type=command_line.count,
+        default=60,
+        help="the time between two of them (default: 60)",
     )
-    made.add_argument("--keep", metavar="FOLDER", help="where the dumps and the trace are kept; else they are deleted")
     made.add_argument(
-        "--jcmd", metavar="PROGRAM", default="jcmd", help="the program jcmd of the JDK; else the PATH tells it"
+        "--keep", metavar="FOLDER", help="where to keep the dumps and the trace, which are deleted otherwise"
     )
-    made.add_argument("--html", metavar="FILE", help="writes a page that stands alone")
-    made.add_argument("--junit", metavar="FILE", help="writes JUnit XML, with a failed test for each group")
-    made.add_argument("--sarif", metavar="FILE", help="writes SARIF 2.1.0, with a result for each group")
+    made.add_argument(
+        "--jcmd", metavar="PROGRAM", default="jcmd", help="the program jcmd of the JDK (default: from the PATH)"
+    )
+    made.add_argument("--html", metavar="FILE", help="write a self-contained page")
+    made.add_argument("--junit", metavar="FILE", help="write JUnit XML, with a failed test for each group")
+    made.add_argument("--sarif", metavar="FILE", help="write SARIF 2.1.0, with a result for each group")
     command_line.add_version(made)
     command_line.add_gcaudit(made)
     return made

@@ -62,7 +62,7 @@ class FlaskShop(InFolder):
             self.assertRegex(
                 leak, r"(?m)^ *\+1 __main__\.%s a round, [\d,]+ bytes, held by %s \(4 -> 5 -> 6\)$" % (name, holder)
             )
-        self.assertEqual(clean, "nothing became more\n")
+        self.assertEqual(clean, "nothing grew\n")
 
     @needs_program
     def test_by_assertions(self):

@@ -659,8 +659,8 @@ class Traces(InFolder):
             recorder.abandon()
             return growth
 
-        self.assertEqual(grown(10, "visit"), "nothing became more")
-        self.assertEqual(grown(2, "visit", warm_up=9), "nothing became more")  # from 99 to 101
+        self.assertEqual(grown(10, "visit"), "nothing grew")
+        self.assertEqual(grown(2, "visit", warm_up=9), "nothing grew")  # from 99 to 101
         self.assertIn("+1 str a round", grown(2, "visit"))
         self.assertRegex(
             grown(10, "leak"), r"^\+1 str a round, [\d.,]+ bytes, held by \S+Service\.kept \(1 -> 2 -> .* -> 11\)"

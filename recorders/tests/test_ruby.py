@@ -130,7 +130,7 @@ class Dumps(WithRuby):
         for words, reason in (
             (["--dead", "EndedSesion"], "the dump has no class EndedSesion, but EndedSession"),
             (["--only", "Shpo"], "the dump has no class that begins with Shpo"),
-            (["--limit", "Session"], "--limit wants CLASS=N, not Session"),
+            (["--limit", "Session"], "--limit needs CLASS=N, not Session"),
             (["--dead", "Session", "--without", "Session"], "it is left out by --only or --without"),
             (["--snapshot", "--dead", "Session"], "a snapshot has no assertions"),
         ):
@@ -163,7 +163,7 @@ class Dumps(WithRuby):
         os.rename(self.dump, self.path("other.json"))
         shutil.copy(self.path("other.json"), self.dump)
         status, said = self.command("gcaudit_trace.commands.growth", self.path("other.json"), self.dump)
-        self.assertEqual((status, said), (0, "nothing became more\n"))
+        self.assertEqual((status, said), (0, "nothing grew\n"))
 
 
 class Synthetic(InFolder):

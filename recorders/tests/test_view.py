@@ -135,7 +135,7 @@ class Summary(Commands):
             )
         self.assertEqual(os.listdir(self.folder), ["trace.jsonl"])
         done = self.run_module("summary", trace, "--top", "-3")
-        self.assertIn(b"argument --top: a number from 0 on is wanted, not -3\n", done.stderr)
+        self.assertIn(b"argument --top: a number from 0 on is needed, not -3\n", done.stderr)
 
     def test_what_is_refused(self):
         for text in ("", "hello", "{}", '{"op":"alloc","id":1,"type":"A"}\n', '{"snapshot":{}}', "JAVA PROFILE 9"):
@@ -241,7 +241,7 @@ class Growth(Commands):
             self.said("growth", first, second).split("\n")[0],
             "+1 Session a dump, 10 bytes, held by Bus.listeners (2 -> 3)",
         )
-        self.assertEqual(self.said("growth", second, first), "nothing became more\n")
+        self.assertEqual(self.said("growth", second, first), "nothing grew\n")
 
     def test_one_heap_is_refused(self):
         done = self.run_module("growth", self.write(*LEAK, COLLECT))
@@ -272,7 +272,7 @@ class Growth(Commands):
                 str(growth).split("\n")[1],
                 r"^  \+1 dict a round, \d+ bytes, held by \S+Session\.data \(2 -> 3 -> 4 -> 5\)$",
             )
-            self.assertEqual(str(recorder.growth(2, lambda: None)), "nothing became more")
+            self.assertEqual(str(recorder.growth(2, lambda: None)), "nothing grew")
 
 
 @needs_program

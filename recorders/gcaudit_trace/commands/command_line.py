@@ -88,7 +88,7 @@ def keep_apart(read: Iterable[str], written: Iterable[Optional[str]]) -> None:
 def count(text: str) -> int:
     """A word of the command line that is a number from 0 on."""
     if not (text.isascii() and text.isdigit()):
-        raise argparse.ArgumentTypeError("a number from 0 on is wanted, not %s" % text)
+        raise argparse.ArgumentTypeError("a number from 0 on is needed, not %s" % text)
     return int(text)
 
 
@@ -133,27 +133,27 @@ def add_version(parser: argparse.ArgumentParser) -> None:
 def add_gcaudit(parser: argparse.ArgumentParser, paths: int = 100) -> None:
     """The words that say which program gcaudit is run, and how; so many violations have `paths` where nothing is said."""
     parser.add_argument(
-        "--gcaudit", metavar="PROGRAM", help="the program gcaudit; else the variable GCAUDIT or the PATH tells it"
+        "--gcaudit", metavar="PROGRAM", help="the program gcaudit (default: the variable GCAUDIT, then the PATH)"
     )
     parser.add_argument(
-        "--workers", metavar="N", help="so many workers trace the heap, 1 to 16; the report is the same"
+        "--workers", metavar="N", help="how many workers trace the heap, 1 to 16; the report is the same"
     )
     parser.add_argument(
         "--paths",
         metavar="P",
         default=None if paths == 100 else str(paths),
-        help="so many violations of each collection have their paths, 0 to 10000; else %d" % paths,
+        help="how many violations of each collection have paths, 0 to 10000 (default: %d)" % paths,
     )
     parser.add_argument(
         "--react",
         metavar="R",
         choices=("report", "halt", "force"),
-        help="report, halt or force: what is done about violations",
+        help="what to do about violations: report, halt or force",
     )
     parser.add_argument(
         "--may-be-empty",
         action="store_true",
-        help="it is no mistake where the trace asserts nothing, or has no root or no collection",
+        help="allow a trace without an assertion, a root or a collection",
     )
 
 
@@ -178,6 +178,6 @@ def gcaudit_options(asked: argparse.Namespace) -> List[str]:
         if number is None:
             continue
         if not (number.isascii() and number.isdigit() and int(number) <= most and (name == "paths" or int(number) > 0)):
-            raise TraceError("--%s wants a number from %d to %d, not %s" % (name, name == "workers", most, number))
+            raise TraceError("--%s needs a number from %d to %d, not %s" % (name, name == "workers", most, number))
         found += ["--" + name, number]
     return found + (["--react", asked.react] if asked.react else [])

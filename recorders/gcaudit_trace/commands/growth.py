@@ -1,4 +1,4 @@
-"""gcaudit-growth: what became more from one heap to the next, by type, and by what holds it."""
+"""gcaudit-growth: what increased from one heap to the next, by type, and by what holds it."""
 import argparse
 import sys
 
@@ -13,26 +13,30 @@ _PROGRAM = "gcaudit-growth"
 def parser() -> argparse.ArgumentParser:
     made = argparse.ArgumentParser(
         prog=_PROGRAM,
-        description="Compares heaps of one program that follow on one another, and says of which types there "
-        "are more each time, what holds them, and how much they keep alive alone.",
+        description="Compares successive heaps of one program, and says which types increase from heap to heap, "
+        "what holds their objects, and how much these alone keep alive.",
     )
     made.add_argument(
         "heaps",
         metavar="DUMP|TRACE",
         nargs="+",
-        help="two or more heap dumps or traces, of each of which the last collection counts; or one "
-        "trace, whose collections are compared",
+        help="two or more heap dumps or traces, of which the last collection counts; or one trace, "
+        "whose collections are compared",
     )
     made.add_argument(
         "--by",
         choices=(BYTES, OBJECTS),
         default=BYTES,
-        help="what comes first: most bytes more, or most objects; else bytes",
+        help="what comes first: the largest increase in bytes, or in objects (default: bytes)",
     )
     made.add_argument(
-        "--top", metavar="N", type=command_line.count, default=SHOWN, help="so many lines are shown; else %d" % SHOWN
+        "--top",
+        metavar="N",
+        type=command_line.count,
+        default=SHOWN,
+        help="how many lines to show (default: %d)" % SHOWN,
     )
-    made.add_argument("--output", metavar="FILE", help="where it is written, else standard output")
+    made.add_argument("--output", metavar="FILE", help="where to write it (default: standard output)")
     command_line.add_version(made)
     return made
 

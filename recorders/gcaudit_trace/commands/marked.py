@@ -123,7 +123,7 @@ def main(
         "--after", metavar="EARLIER", help="the trace of earlier dumps of the same process, which this one continues"
     )
     parser.add_argument(
-        "--gcaudit", metavar="PROGRAM", help="the program gcaudit; else the variable GCAUDIT or the PATH tells it"
+        "--gcaudit", metavar="PROGRAM", help="the program gcaudit (default: the variable GCAUDIT, then the PATH)"
     )
     add_options(parser)
     asked = parser.parse_args(words)

@@ -19,7 +19,7 @@ def parser() -> argparse.ArgumentParser:
     made.add_argument(
         "trace", metavar="TRACE", nargs="?", default="-", help="the trace; without it or for -, standard input"
     )
-    made.add_argument("--output", metavar="FILE", help="where the report is written, else standard output")
+    made.add_argument("--output", metavar="FILE", help="where to write the report (default: standard output)")
     command_line.add_gcaudit(made)
     made.add_argument(
         "--all-instances", action="store_true", help="a path to each object of a type that has more than its limit"

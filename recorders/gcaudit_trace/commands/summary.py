@@ -13,16 +13,18 @@ _PROGRAM = "gcaudit-summary"
 def parser() -> argparse.ArgumentParser:
     made = argparse.ArgumentParser(
         prog=_PROGRAM,
-        description="Says of a heap dump or of the last collection of a trace how many objects and bytes "
-        "there are of each type, and what each root reaches. What is kept alone is what would be gone with it.",
+        description="Counts the objects and bytes of each type in a heap dump, or in the last collection of a trace, "
+        "and what each root reaches. What something keeps alone would be freed with it.",
     )
     made.add_argument(
-        "heap", metavar="DUMP|TRACE", help="an HPROF dump, a snapshot of V8, or a trace; it may be packed by gzip"
+        "heap",
+        metavar="DUMP|TRACE",
+        help="an HPROF dump, a snapshot of V8, a dump of Ruby, or a trace; it may be compressed with gzip",
     )
     made.add_argument(
-        "--top", metavar="N", type=command_line.count, default=20, help="so many types and roots are shown; else 20"
+        "--top", metavar="N", type=command_line.count, default=20, help="how many types and roots to show (default: 20)"
     )
-    made.add_argument("--output", metavar="FILE", help="where it is written, else standard output")
+    made.add_argument("--output", metavar="FILE", help="where to write it (default: standard output)")
     command_line.add_version(made)
     return made
 

@@ -22,9 +22,9 @@ def parser() -> argparse.ArgumentParser:
     made.add_argument(
         "trace", metavar="TRACE", nargs="?", default="-", help="the trace; without it or for -, standard input"
     )
-    made.add_argument("--html", metavar="FILE", help="writes a page that stands alone")
-    made.add_argument("--junit", metavar="FILE", help="writes JUnit XML, with a failed test for each group")
-    made.add_argument("--sarif", metavar="FILE", help="writes SARIF 2.1.0, with a result for each group")
+    made.add_argument("--html", metavar="FILE", help="write a self-contained page")
+    made.add_argument("--junit", metavar="FILE", help="write JUnit XML, with a failed test for each group")
+    made.add_argument("--sarif", metavar="FILE", help="write SARIF 2.1.0, with a result for each group")
     command_line.add_gcaudit(made, paths=10000)
     command_line.add_version(made)
     return made

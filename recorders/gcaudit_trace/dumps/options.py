@@ -21,8 +21,8 @@ def parser_for(program: str, about: str) -> argparse.ArgumentParser:
     parser.add_argument(
         "--snapshot",
         action="store_true",
-        help="write a heap snapshot in place of a trace: gcsnap to-trace makes a trace of it, "
-        "behind which assertions can be put at any time. It has no assertions itself",
+        help="write a heap snapshot instead of a trace; gcsnap to-trace makes a trace from it at any time, "
+        "to which you can add assertions. The snapshot has none itself",
     )
     said = parser.add_argument_group(
         "what is asserted (each may be given more than once; CLASS+ means the objects of its subclasses too)"
@@ -43,20 +43,24 @@ def parser_for(program: str, about: str) -> argparse.ArgumentParser:
         metavar="OWNER=CLASS",
         action="append",
         default=[],
-        help="no object of the class outlives the hold that the one object of the class OWNER has on it: where a root leads to "
+        help="no object of the class outlives the hold that the one object of the class OWNER has on it: if a root leads to "
         "it past the owner, the owner must lead to it too",
     )
     said.add_argument(
         "--may-be-missing",
         action="store_true",
-        help="it is no mistake where the dump knows nothing of a class or prefix that was named",
+        help="allow classes and prefixes that the dump doesn't have",
     )
     kept = parser.add_argument_group("what is kept (each may be given more than once)")
     kept.add_argument(
-        "--only", metavar="PREFIX", action="append", default=[], help="keep classes whose names begin so, and no others"
+        "--only", metavar="PREFIX", action="append", default=[], help="keep only classes whose names begin with PREFIX"
     )
     kept.add_argument(
-        "--without", metavar="PREFIX", action="append", default=[], help="leave out classes whose names begin so"
+        "--without",
+        metavar="PREFIX",
+        action="append",
+        default=[],
+        help="leave out classes whose names begin with PREFIX",
     )
     command_line.add_version(parser)
     return parser
@@ -83,7 +87,7 @@ class Wishes:
         for text in asked.owned_by:
             owner, equals, ownee = text.partition("=")
             if not (owner and equals and ownee):
-                raise TraceError("--owned-by wants OWNER=CLASS, not %s" % text)
+                raise TraceError("--owned-by needs OWNER=CLASS, not %s" % text)
             self.owners.setdefault(owner, []).append(ownee)
         self.owned = {ownee for ownees in self.owners.values() for ownee in ownees}
         # The classes of which something is asserted, as they were named: with a + where that means their subclasses too.
@@ -100,7 +104,7 @@ class Wishes:
     def _limit(text: str) -> Tuple[str, int]:
         name, equals, number = text.rpartition("=")
         if not (name and equals and number.isascii() and number.isdigit() and int(number) <= MOST_INSTANCES):
-            raise TraceError("--limit wants CLASS=N, not %s" % text)
+            raise TraceError("--limit needs CLASS=N, not %s" % text)
         return name, int(number)
 
     def keeps(self, name: str) -> bool:

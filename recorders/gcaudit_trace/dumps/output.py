@@ -181,7 +181,7 @@ class DumpTrace(DumpFile):
             numbers = self._of_class[owner]
             if len(numbers) != 1:
                 raise TraceError(
-                    "--owned-by wants exactly one object of the class %s, and there are %d" % (owner, len(numbers))
+                    "--owned-by needs exactly one object of the class %s, and there are %d" % (owner, len(numbers))
                 )
             for ownee in ownees:
                 for number in self._of_class[ownee]:

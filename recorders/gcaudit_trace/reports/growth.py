@@ -1,4 +1,4 @@
-"""What became more from one heap to the next, by type, and by what holds it."""
+"""What increased from one heap to the next, by type, and by what holds it."""
 from array import array
 from typing import Dict, Iterable, List, NamedTuple, Sequence, Tuple
 
@@ -20,7 +20,7 @@ KeptAlone = Dict[Key, Tuple[int, int]]
 
 
 class Grown(NamedTuple):
-    """Objects of a type with one holder: their number and bytes in each heap, and what each became more on average."""
+    """Objects of a type with one holder: their number and bytes in each heap, and how much each increased on average."""
 
     type_name: str
     holder: Holder
@@ -96,7 +96,7 @@ class Growth:
                 lines.append("    its objects keep %s more alone a %s%s" % self._kept_more((one.type_name, one.holder)))
         if len(found) > self._top:
             lines.append("and %d more lines" % (len(found) - self._top))
-        return "\n".join(lines) or "nothing became more"
+        return "\n".join(lines) or "nothing grew"
 
     def _line(self, one: Grown) -> str:
         if one.more <= 0:
@@ -182,7 +182,7 @@ def measured(graph: Graph) -> Tuple[Counts, KeptAlone]:
 
 
 def growth_of(graphs: Iterable[Graph], step: str, by: str = BYTES, top: int = SHOWN) -> Growth:
-    """What became more from graph to graph. Each is asked for when the one before was measured."""
+    """What increased from graph to graph. Each is asked for when the one before was measured."""
     heaps: List[Counts] = []
     kept: List[KeptAlone] = []
     for graph in graphs:
