@@ -1,5 +1,5 @@
 //! Small traces that are drawn from a number: objects that share much, with every kind of assertion, and two collections.
-ghost use Rattle.std.specs.Prelude.{◌<◌, ◌≤◌};
+ghost use Rattle.std.specs.Prelude.{◌*◌, ◌<◌, ◌≤◌};
 
 use crate::draws::Draws;
 use heap_base::OutOfMemory;
@@ -18,6 +18,14 @@ const FEWEST_OBJECTS: u32 = 6;
 
 const MOST_OBJECTS: u32 = 40;
 
+/// One trace in so many ends with an object that holds `SPOKES` others: more than a parked worker does in one round, so that the rest is dealt
+/// for the next.
+const HUBS: u32 = 32;
+
+const SPOKES: u32 = 600;
+/// The last spokes are those that are dealt.
+const LAST_SPOKES: u32 = 64;
+
 /// A trace with this number.
 pub fn trace_of(alloc: Global, number: u64) -> Result<Vec<u8>, OutOfMemory> {
     let mut trace = Trace {
@@ -27,6 +35,9 @@ pub fn trace_of(alloc: Global, number: u64) -> Result<Vec<u8>, OutOfMemory> {
     let objects = FEWEST_OBJECTS + trace.draws.below(MOST_OBJECTS - FEWEST_OBJECTS);
     trace.round(1, objects)?;
     trace.round(1 + objects, objects)?;
+    if trace.draws.below(HUBS) == 0 {
+        trace.hub(1 + 2 * objects)?;
+    }
     Ok(trace.text)
 }
 
@@ -43,13 +54,7 @@ impl Trace {
         requires { (0 < objects) × (objects < MOST_OBJECTS) × (from ≤ MOST_OBJECTS) }
     {
         for at in 0..objects {
-            let kind = self.draws.below(TYPES);
-            let parts = [
-                ("{\"op\":\"alloc\",\"slots\":", SLOTS),
-                (",\"id\":", from + at),
-                (",\"type\":\"T", kind),
-            ];
-            self.line(&parts, "\"}")?;
+            self.alloc(from + at, SLOTS)?;
         }
         for at in 0..objects {
             self.stores(from, objects, from + at)?;
@@ -82,14 +87,49 @@ impl Trace {
                 1 => self.drawn(from, objects),
                 _ => self.drawn(from, objects.min(SHARED)),
             };
-            let parts = [
-                ("{\"op\":\"store\",\"at\":", at),
-                (",\"slot\":", slot),
-                (",\"to\":", to),
-            ];
-            self.line(&parts, "}")?;
+            self.store(at, slot, to)?;
         }
         Ok(())
+    }
+
+    // An object that holds many others, each of which holds one of its own. Some of these are asserted unshared.
+    fn hub(&mut self, hub: u32) -> Result<(), OutOfMemory>
+        requires { hub ≤ 2 * MOST_OBJECTS }
+    {
+        self.alloc(hub, SPOKES)?;
+        for spoke in 0..SPOKES {
+            let at = hub + 1 + 2 * spoke;
+            self.alloc(at, 1)?;
+            self.alloc(at + 1, 0)?;
+            self.store(hub, spoke, at)?;
+            self.store(at, 0, at + 1)?;
+        }
+        self.line(&[("{\"op\":\"root\",\"to\":", hub)], ",\"name\":\"hub\"}")?;
+        for _ in 0..LAST_SPOKES / 8 {
+            let spoke = SPOKES - 1 - self.draws.below(LAST_SPOKES);
+            let held = hub + 2 + 2 * spoke;
+            self.line(&[("{\"op\":\"assert-unshared\",\"id\":", held)], "}")?;
+        }
+        self.line(&[], "{\"op\":\"collect\"}")
+    }
+
+    fn alloc(&mut self, id: u32, slots: u32) -> Result<(), OutOfMemory> {
+        let kind = self.draws.below(TYPES);
+        let parts = [
+            ("{\"op\":\"alloc\",\"slots\":", slots),
+            (",\"id\":", id),
+            (",\"type\":\"T", kind),
+        ];
+        self.line(&parts, "\"}")
+    }
+
+    fn store(&mut self, at: u32, slot: u32, to: u32) -> Result<(), OutOfMemory> {
+        let parts = [
+            ("{\"op\":\"store\",\"at\":", at),
+            (",\"slot\":", slot),
+            (",\"to\":", to),
+        ];
+        self.line(&parts, "}")
     }
 
     fn assertions(&mut self, from: u32, objects: u32) -> Result<(), OutOfMemory>
