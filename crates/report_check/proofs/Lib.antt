@@ -2,4 +2,3 @@ pub mod AuditedReports
 pub mod Comparisons
 pub mod Events
 pub mod Lines
-pub mod Running

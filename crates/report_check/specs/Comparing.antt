@@ -1,58 +1,48 @@
 -- A comparison that is under way.
-use Rattle.std.specs.Prelude.{◌≡◌, ℕ, ◌≤◌, List, [], ◌∷◌, ◌++◌, length, Result, Ok, Err, Option, Some, None, IfSome, ⊤}
-use Rattle.std.specs.Io.KnownBytes.{Consumes, IsAtEnd}
+use Rattle.std.specs.Prelude.{◌≡◌, ◌≢◌, ℕ, ◌≤◌, List, [], ◌++◌, length, take, slice_get, Option, Some, None, IfSome, IfNone, option_to_list, ⊤}
+use Rattle.std.specs.Io.KnownBytes.{Consumes}
+use Rattle.heap_base.specs.declared.status.Status.{Status}
+use Rattle.heap_base.specs.declared.status.Status.TheVariants.{Clean, Violated, TraceFault, ReadFault, WriteFault, NoMemory, Usage}
 use Rattle.report_check.specs.Differences.{IsFirstDifference}
 use Rattle.report_check.specs.declared.compared.Compared.{Compared}
 use Rattle.report_check.specs.declared.compared.Compared.TheVariants.{Equal, Differs}
-use Rattle.report_check.specs.declared.compared.CompareError.{CompareError}
 
--- The bytes of the source that were read and are not compared yet, and how many were compared.
-pub record ComparisonState : Type 0 where
+-- The source of the report; what was read of it and is not compared yet; how many bytes were equal; the byte behind them that was taken, where
+-- the report has another there, or none; and how many writes failed although no read did.
+pub record ComparisonState (S : Type 0) : Type 0 where
+  pub report : S
   pub pending : List ℕ
   pub place : ℕ
-
--- A comparison and its source: what the source had at first, and what it has left, where it tells its bytes.
-pub record ComparisonWithSource : Type 0 where
-  pub start : Option (List ℕ)
-  pub left : Option (List ℕ)
-  pub state : ComparisonState
-
-abbrev pub comparison_of : Option (List ℕ) → Option (List ℕ) → ComparisonState → ComparisonWithSource
-comparison_of start left state = record { start = start; left = left; state = state }
+  pub other : Option ℕ
+  pub refused : ℕ
 
 -- nothing was read
-abbrev pub fresh_comparison : ComparisonState
-fresh_comparison = record { pending = []; place = 0 }
+abbrev pub fresh_comparison : {S : Type 0} → S → ComparisonState S
+fresh_comparison report = record { report = report; pending = []; place = 0; other = None; refused = 0 }
 
--- The bytes that were read and are not compared yet, and those that the source has left, where it tells them.
-pub record BytesAhead : Type 0 where
-  pub pending : List ℕ
-  pub left : Option (List ℕ)
+-- The bytes that were taken, where the report tells its own: those that were equal, and the first that was another.
+abbrev pub taken_bytes : Option (List ℕ) → ℕ → Option ℕ → Option (List ℕ)
+taken_bytes None place other = None
+taken_bytes (Some whole) place other = Some (take place whole ++ option_to_list other)
 
-abbrev pub bytes_ahead : List ℕ → Option (List ℕ) → BytesAhead
-bytes_ahead pending left = record { pending = pending; left = left }
+-- What was found of the whole report, where its source told it: so many bytes of it were equal; as long as none was another, those that were
+-- read behind them are pending; and the byte that was another isn't the next of it.
+pub record HasFound (whole left : Option (List ℕ)) (pending : List ℕ) (place : ℕ) (other : Option ℕ) : Type 0 where
+  pub within : IfSome whole (λ bytes. place ≤ length bytes)
+  pub consumed : IfNone other (IfSome whole (λ bytes. Consumes (Some bytes) left (take place bytes ++ pending)))
+  pub apart : IfSome other (λ byte. IfSome whole (λ bytes. slice_get bytes place ≢ Some byte))
 
--- The next byte that is pending or read behind that, where there is one.
-abbrev pub GivesNext : BytesAhead → BytesAhead → Option ℕ → Type 0
-GivesNext old new (Some byte) = (took : List ℕ) × Consumes old.left new.left took × (old.pending ++ took ≡ byte ∷ new.pending)
-GivesNext old new None = (old.pending ≡ []) × (new.pending ≡ []) × Consumes old.left new.left [] × IsAtEnd new.left
-
--- The source, which had these bytes at first, began with this text, and what was read behind it is pending.
-pub record IsEqualSoFar (c : ComparisonWithSource) (text : List ℕ) : Type 0 where
-  pub consumed : Consumes c.start c.left (text ++ c.state.pending)
-  pub place : c.state.place ≡ length text
-
--- Where the source tells its bytes, they first differ here from this text, whatever follows it.
-abbrev pub DiffersWithin : Option (List ℕ) → List ℕ → ℕ → Type 0
-DiffersWithin start text n = (n ≤ length text) × IfSome start (λ bytes. (more : List ℕ) → IsFirstDifference bytes (text ++ more) n)
-
--- What is known behind a text: it is equal so far, or differs.
-abbrev pub HasCompared : ComparisonWithSource → List ℕ → Result Compared CompareError → Type 0
-HasCompared c text (Ok Equal) = IsEqualSoFar c text
-HasCompared c text (Ok (Differs n)) = DiffersWithin c.start text n
-HasCompared c text (Err e) = ⊤
+-- How much of a text was taken, by the status of the run that wrote it: all of it, or a beginning.
+abbrev pub Holds : Status → Option (List ℕ) → List ℕ → Type 0
+Holds Clean taken text = IfSome taken (λ bytes. bytes ≡ text)
+Holds Violated taken text = IfSome taken (λ bytes. bytes ≡ text)
+Holds TraceFault taken text = IfSome taken (λ bytes. bytes ≡ text)
+Holds ReadFault taken text = ⊤
+Holds WriteFault taken text = IfSome taken (λ bytes. (rest : List ℕ) × (bytes ++ rest ≡ text))
+Holds NoMemory taken text = IfSome taken (λ bytes. (rest : List ℕ) × (bytes ++ rest ≡ text))
+Holds Usage taken text = ⊥
 
 -- What is known of the whole text and of all bytes of the source, where it tells them.
 abbrev pub TellsDifference : Option (List ℕ) → List ℕ → Compared → Type 0
-TellsDifference start text Equal = IfSome start (λ bytes. bytes ≡ text)
-TellsDifference start text (Differs n) = IfSome start (λ bytes. IsFirstDifference bytes text n)
+TellsDifference whole text Equal = IfSome whole (λ bytes. bytes ≡ text)
+TellsDifference whole text (Differs n) = IfSome whole (λ bytes. IsFirstDifference bytes text n)

@@ -2,9 +2,6 @@ pub mod Audited
 pub mod Checked
 pub mod Comparing
 pub mod Differences
-pub mod Due
-pub mod Flows
-pub mod Messages
 pub mod Reports
 pub mod States
 pub mod Words

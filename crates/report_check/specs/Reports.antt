@@ -9,8 +9,7 @@ use Rattle.graph_meaning.specs.declared.reaction.React.TheVariants.{Report}
 use Rattle.trace_reader.specs.Items.{items_of}
 use Rattle.report.specs.Report.{report_of}
 use Rattle.trace_run.specs.Outcome.{WritesOnce, sink_change}
-use Rattle.trace_run.specs.Program.{report_by}
-use Rattle.trace_run.specs.Audits.{AuditState, audit_meaning, rules_by}
+use Rattle.trace_run.specs.Audits.{rules_by}
 use Rattle.report_check.specs.Comparing.{TellsDifference}
 use Rattle.report_check.specs.declared.compared.Compared.{Compared}
 use Rattle.report_check.specs.declared.compared.Compared.TheVariants.{Equal, Differs}
@@ -22,11 +21,6 @@ report_with_paths paths bytes = report_of (rules_by paths Report) (items_of LONG
 -- The report of a source compares so with that on the trace of another, where both tell their bytes.
 abbrev pub TellsOfReports : ℕ → Option (List ℕ) → Option (List ℕ) → Compared → Type 0
 TellsOfReports paths trace report compared = IfSome trace (λ bytes. TellsDifference report (report_with_paths paths bytes) compared)
-
--- The report of a source compares so with that of the run from a state over the trace of another, where both tell their bytes.
-abbrev pub TellsOfRun : AuditState → Option (List ℕ) → Option (List ℕ) → Compared → Type 0
-TellsOfRun first trace report compared =
-    IfSome trace (λ bytes. TellsDifference report (report_by audit_meaning first (items_of LONGEST_TRACE bytes)).text compared)
 
 -- the line that says how they compare
 abbrev pub comparison_line : Compared → List ℕ

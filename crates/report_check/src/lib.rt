@@ -1,16 +1,15 @@
 //! The checker of reports: whether a report is the one that is defined for a trace. It runs the trace on one thread, by
-//! collections that know no crew, and compares text by text, so that neither is held whole.
+//! collections that know no crew, into a sink that compares, so that neither is held whole.
 #![tactic(auto)]
 
 mod checking;
 mod compared;
 mod comparing;
-mod comparison;
-mod due;
 mod laws;
-mod line;
+mod lent;
 mod outcome;
 mod pending;
+mod running;
 mod top_call;
 mod words;
 

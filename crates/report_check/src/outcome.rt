@@ -1,9 +1,8 @@
 ghost use Rattle.std.specs.Prelude.{◌≡◌};
 ghost use Rattle.report_check.specs.declared.outcome.CheckError.{CheckError};
-ghost use Rattle.report_check.specs.declared.compared.CompareError.{CompareError};
 
-use crate::compared::CompareError;
 use heap_base::OutOfMemory;
+use streams::Failed;
 
 /// Why a report could not be checked.
 #[derive(Clone, Copy)]
@@ -14,14 +13,11 @@ pub enum CheckError {
     OutOfMemory,
 }
 
-impl From<CompareError> for CheckError {
-    ghost from_gives = { λ e r. r ≡ CheckError.ReadFault → e ≡ CompareError.ReadFault };
+impl From<Failed> for CheckError {
+    ghost from_gives = { λ e r. r ≡ CheckError.ReadFault };
 
-    fn from(error: CompareError) -> CheckError {
-        match error {
-            CompareError::ReadFault => CheckError::ReadFault,
-            CompareError::TooLong => CheckError::OutOfMemory,
-        }
+    fn from(_failed: Failed) -> CheckError {
+        CheckError::ReadFault
     }
 }
 

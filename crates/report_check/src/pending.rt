@@ -1,6 +1,6 @@
-//! The bytes of a source, read in pieces and given one by one.
-ghost use Rattle.std.specs.Prelude.{◌≡◌, ◌≤◌, ◌==◌, ◌++◌, [], ℕ, length, option_to_list, IfNone, IfOk, OnOk};
-ghost use Rattle.std.specs.Io.KnownBytes.{Consumes, IsAtEnd};
+//! The bytes of a source that were read in pieces and are not compared yet.
+ghost use Rattle.std.specs.Prelude.{◌≡◌, ◌≤◌, ◌==◌, [], ℕ, length, drop, IfOk, OnOk, OnErr};
+ghost use Rattle.std.specs.Io.KnownBytes.{Consumes, IsAtEnd, Keeps};
 ghost use Rattle.streams.specs.Causes.{HasCause};
 
 use heap_base::OutOfMemory;
@@ -11,7 +11,7 @@ use streams::{Failed, Source};
 // So many bytes are read at a time.
 const PIECE: usize = 65536;
 
-/// The bytes that were read and not given yet. Contracts see the list of them.
+/// The bytes that were read and not passed yet. Contracts see the list of them.
 #[derive(Drop)]
 pub(crate) struct Pending {
     start: usize,
@@ -50,10 +50,11 @@ impl Pending {
         self.start == self.end
     }
 
-    /// Reads a piece, where none are left: none again only at the end of the source.
+    /// Reads a piece in their place: none only at the end of the source.
     pub(crate) fn fill<B: Source>(&mut self, source: &mut B) -> Result<(), Failed>
         ensures read { OnOk result (Consumes (B.left source.old) (B.left source.new) self.new) }
         ensures at_end { OnOk result (self.new ≡ [] → IsAtEnd (B.left source.new)) }
+        ensures failed { OnErr result ((self.new ≡ []) × Keeps (B.left source.old) (B.left source.new)) }
         ensures cause { HasCause (B.faults source.old) (B.faults source.new) result }
     {
         self.start = 0;
@@ -62,16 +63,18 @@ impl Pending {
         Ok(())
     }
 
-    /// Gives the first.
-    pub(crate) fn pop(&mut self) -> Option<u8>
-        ensures given { self.old ≡ option_to_list result ++ self.new }
-        ensures none { IfNone result (self.old ≡ []) }
+    /// They.
+    pub(crate) fn bytes(&self) -> &[u8]
+        ensures { result.now ≡ self.now }
     {
-        if self.start == self.end {
-            return None;
-        }
-        let byte = self.buffer[self.start];
-        self.start += 1;
-        Some(byte)
+        &self.buffer[self.start..self.end]
+    }
+
+    /// Passes over so many of them.
+    pub(crate) fn pass(&mut self, count: usize)
+        requires { count ≤ length self.old }
+        ensures { self.new ≡ drop count self.old }
+    {
+        self.start += count;
     }
 }

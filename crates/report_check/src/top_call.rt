@@ -6,8 +6,8 @@ ghost use Rattle.report_check.specs.Reports.{Writes, comparison_line, comparison
 ghost use Rattle.report_check.specs.Words.{paths_by};
 
 use crate::compared::Compared;
-use crate::comparing::compare_reports;
 use crate::outcome::CheckError;
+use crate::running::compare_reports;
 use crate::words::paths_of;
 use heap_base::{OutOfMemory, Status};
 use itoa::Buffer;
