@@ -14,11 +14,12 @@ use Rattle.graph_meaning.specs.declared.reaction.React.TheVariants.{Report}
 use Rattle.trace_reader.specs.Items.{items_of}
 use Rattle.trace_run.specs.Audits.{audit_report, rules_by}
 use Rattle.trace_run.specs.Facts.{HasFacts}
-use Rattle.trace_run.specs.Outcome.{EndsAs, Outside, trace_report}
+use Rattle.trace_run.specs.Outcome.{EndsAs, IsCutShort, Outside, trace_report}
 use Rattle.trace_run.proofs.Causes.{facts_follow}
 use Rattle.report_check.specs.Reports.{TellsOfReports, report_with_paths}
 use Rattle.report_check.specs.declared.compared.Compared.{Compared}
 use Rattle.report_check.specs.declared.outcome.CheckError.{CheckError}
+use Rattle.report_check.proofs.CutShort.{part-begins}
 use Rattle.report_check.specs.Differences.{IsFirstDifference}
 use Rattle.report_check.specs.Comparing.{HasFound, Holds, TellsDifference, taken_bytes}
 use Rattle.report_check.specs.declared.compared.Compared.TheVariants.{Equal, Differs}
@@ -215,6 +216,27 @@ module _ (paths : ℕ) (old new : Outside) (whole : Option (List ℕ)) (place : 
   abbrev Ends : Status → Type 0
   Ends answer = EndsAs (trace_report LONGEST_TRACE (audit_report (rules_by paths Report))) old new answer
 
+  -- a read of the trace failed: the whole lines before it have a beginning of the report
+  cut-taken : (bytes : List ℕ) → old.source.bytes ≡ Some bytes → IsCutShort (trace_report LONGEST_TRACE (audit_report (rules_by paths Report))) old new →
+      IfSome (taken_bytes whole place other) (λ taken. (rest : List ℕ) × (taken ++ rest ≡ report_with_paths paths bytes))
+  cut-taken bytes is cut =
+      let (rest, all) = read-of old.source.bytes new.source.bytes bytes cut.bytes is cut.read in
+      let begun = part-begins (rules_by paths Report) cut.bytes rest cut.goes_on in
+      let text = report_with_paths paths bytes in
+      let same : (audit_report (rules_by paths Report) (items_of LONGEST_TRACE (cut.bytes ++ rest))).text ≡ text = ap (report_with_paths paths) (sym all) in
+      longer whole place other _ begun.0 text (all-taken whole old.sink.bytes new.sink.bytes place other _ before after cut.part) (begun.1 ∙ same)
+    where
+      -- the bytes that were read begin the trace
+      read-of : (left after : Option (List ℕ)) (bytes read : List ℕ) → left ≡ Some bytes → Consumes left after read → (rest : List ℕ) × (bytes ≡ read ++ rest)
+      read-of None after bytes read is consumed = absurd cc
+      read-of (Some xs) None bytes read is consumed = absurd consumed
+      read-of (Some xs) (Some rest) bytes read is consumed = let same : xs ≡ bytes = cc in (rest, sym same ∙ consumed)
+
+      longer : (whole : Option (List ℕ)) (place : ℕ) (other : Option ℕ) (part more text : List ℕ) → IfSome (taken_bytes whole place other) (λ taken. taken ≡ part) → part ++ more ≡ text →
+          IfSome (taken_bytes whole place other) (λ taken. (rest : List ℕ) × (taken ++ rest ≡ text))
+      longer None place other part more text is begins = tt
+      longer (Some whole) place other part more text is begins = (more, ap (λ t. t ++ more) is ∙ begins)
+
   holds-of : (bytes : List ℕ) (answer : Status) → old.source.bytes ≡ Some bytes → Ends answer → Holds answer (taken_bytes whole place other) (report_with_paths paths bytes)
   holds-of bytes answer is ends = go answer ends (facts_follow (trace_report LONGEST_TRACE (audit_report (rules_by paths Report))) old new answer bytes is ends).0
     where
@@ -223,7 +245,7 @@ module _ (paths : ℕ) (old new : Outside) (whole : Option (List ℕ)) (place : 
       go Clean ends facts = all-taken whole old.sink.bytes new.sink.bytes place other _ before after (facts.whole (inl refl)).appended
       go Violated ends facts = all-taken whole old.sink.bytes new.sink.bytes place other _ before after (facts.whole (inr refl)).appended
       go TraceFault ends facts = all-taken whole old.sink.bytes new.sink.bytes place other _ before after (facts.fault_report refl)
-      go ReadFault ends facts = tt
+      go ReadFault ends facts = cut-taken bytes is ends.1
       go WriteFault ends facts = part-taken whole old.sink.bytes new.sink.bytes place other _ before after (facts.part (inl refl))
       go NoMemory ends facts = part-taken whole old.sink.bytes new.sink.bytes place other _ before after (facts.part (inr refl))
       go Usage ends facts = absurd ends
@@ -240,20 +262,20 @@ module _ (paths : ℕ) (old new : Outside) (whole : Option (List ℕ)) (place : 
 -- ---- what is known of the whole text
 
 -- a beginning was taken, whichever status the run has
-a-part : (status : Status) (taken text : List ℕ) → Holds status (Some taken) text → status ≢ ReadFault → (rest : List ℕ) × (taken ++ rest ≡ text)
-a-part Clean taken text holds other = ([], append-nil taken ∙ holds)
-a-part Violated taken text holds other = ([], append-nil taken ∙ holds)
-a-part TraceFault taken text holds other = ([], append-nil taken ∙ holds)
-a-part ReadFault taken text holds other = absurd (other refl)
-a-part WriteFault taken text holds other = holds
-a-part NoMemory taken text holds other = holds
-a-part Usage taken text holds other = absurd holds
+a-part : (status : Status) (taken text : List ℕ) → Holds status (Some taken) text → (rest : List ℕ) × (taken ++ rest ≡ text)
+a-part Clean taken text holds = ([], append-nil taken ∙ holds)
+a-part Violated taken text holds = ([], append-nil taken ∙ holds)
+a-part TraceFault taken text holds = ([], append-nil taken ∙ holds)
+a-part ReadFault taken text holds = holds
+a-part WriteFault taken text holds = holds
+a-part NoMemory taken text holds = holds
+a-part Usage taken text holds = absurd holds
 
 pub tells-other : (whole left : Option (List ℕ)) (pending : List ℕ) (place byte n : ℕ) (status : Status) (text : List ℕ) → HasFound whole left pending place (Some byte) →
-    n ≡ place + 1 → status ≢ ReadFault → Holds status (taken_bytes whole place (Some byte)) text → TellsDifference whole text (Differs n)
-tells-other None left pending place byte n status text found is other holds = tt
-tells-other (Some bytes) left pending place byte n status text found is other holds =
-    let part = a-part status (take place bytes ++ byte ∷ []) text holds other in
+    n ≡ place + 1 → Holds status (taken_bytes whole place (Some byte)) text → TellsDifference whole text (Differs n)
+tells-other None left pending place byte n status text found is holds = tt
+tells-other (Some bytes) left pending place byte n status text found is holds =
+    let part = a-part status (take place bytes ++ byte ∷ []) text holds in
     let front = take place bytes in
     let long = length-front bytes place found.within in
     subst (λ (xs : List ℕ). IsFirstDifference xs text n) (take-append-drop place bytes)

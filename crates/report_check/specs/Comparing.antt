@@ -37,7 +37,7 @@ abbrev pub Holds : Status → Option (List ℕ) → List ℕ → Type 0
 Holds Clean taken text = IfSome taken (λ bytes. bytes ≡ text)
 Holds Violated taken text = IfSome taken (λ bytes. bytes ≡ text)
 Holds TraceFault taken text = IfSome taken (λ bytes. bytes ≡ text)
-Holds ReadFault taken text = ⊤
+Holds ReadFault taken text = IfSome taken (λ bytes. (rest : List ℕ) × (bytes ++ rest ≡ text))
 Holds WriteFault taken text = IfSome taken (λ bytes. (rest : List ℕ) × (bytes ++ rest ≡ text))
 Holds NoMemory taken text = IfSome taken (λ bytes. (rest : List ℕ) × (bytes ++ rest ≡ text))
 Holds Usage taken text = ⊥

@@ -68,14 +68,12 @@ impl<S: Source + Drop, J: Chosen> Comparing<S, J> {
         ensures tells { (text : List ℕ) → Holds status (taken_bytes J.whole self.old.place self.old.other) text → IfOk result (TellsDifference J.whole text) }
         ensures cause { result ≡ Err ReadFault → (status ≡ answer.ReadFault) ⊎ Rose J.faults (S.faults self.new.report) }
     {
-        if matches!(status, Status::ReadFault) {
-            return Err(CheckError::ReadFault);
-        }
         if self.other.is_some() {
             return Ok(Compared::Differs(self.place + 1));
         }
         match status {
             Status::Clean | Status::Violated | Status::TraceFault => self.found_at_end(),
+            Status::ReadFault => Err(CheckError::ReadFault),
             Status::WriteFault if self.refused == 0 => Err(CheckError::ReadFault),
             _ => Err(CheckError::OutOfMemory),
         }
