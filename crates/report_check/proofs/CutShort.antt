@@ -11,7 +11,7 @@ use Rattle.trace_reader.specs.Cuts.{HasNoNewline}
 use Rattle.trace_reader.specs.Items.{pieces, items_from, items_of}
 use Rattle.trace_reader.specs.Meaning.{Item}
 use Rattle.trace_reader.proofs.Pieces.{pieces-nil, pieces-last, pieces-line, items_from-append}
-use Rattle.trace_run.specs.Audits.{AuditState, audit_meaning, audit_report, first_audit_state}
+use Rattle.trace_run.specs.Audits.{audit_meaning, audit_report, first_audit_state}
 use Rattle.trace_run.specs.Lines.{is_whole, whole_lines}
 use Rattle.trace_run.specs.Program.{Effect, ProgramMeaning, Report, by_effect, goes_on, halts, refuses, report_by, report_on, run, takes_item}
 use Rattle.trace_run.specs.Progress.{IsWholeLine}

@@ -1,5 +1,5 @@
 -- What an event makes due.
-use Rattle.std.proofs.Common.{◌≡◌, ◌≢◌, ℕ, List, [], ◌∷◌, false, Result, Ok, Err, Some, sym, ◌∙◌, ap}
+use Rattle.std.proofs.Common.{◌≡◌, [], ◌∷◌, false, Result, Ok, Err, Some, sym, ◌∙◌, ap}
 use Rattle.std.specs.Result.{result_err}
 use Rattle.graph_meaning.specs.declared.collection.Collection.{Collection}
 use Rattle.graph_meaning.specs.declared.event.Event.{Event}

@@ -1,5 +1,5 @@
 -- A comparison that is under way.
-use Rattle.std.specs.Prelude.{◌≡◌, ◌≢◌, ℕ, ◌≤◌, List, [], ◌++◌, length, take, slice_get, Option, Some, None, IfSome, IfNone, option_to_list, ⊤}
+use Rattle.std.specs.Prelude.{◌≡◌, ◌≢◌, ℕ, ◌≤◌, List, [], ◌++◌, length, take, slice_get, Option, Some, None, IfSome, IfNone, option_to_list}
 use Rattle.std.specs.Io.KnownBytes.{Consumes}
 use Rattle.heap_base.specs.declared.status.Status.{Status}
 use Rattle.heap_base.specs.declared.status.Status.TheVariants.{Clean, Violated, TraceFault, ReadFault, WriteFault, NoMemory, Usage}

@@ -1,4 +1,4 @@
-use Rattle.std.proofs.Common.{◌≡◌, ℕ, List, [], None, Option, sym, ap, subst, ◌∙◌, refl}
+use Rattle.std.proofs.Common.{◌≡◌, ℕ, [], None, Option, sym, ap, subst, ◌∙◌, refl}
 use Rattle.std.specs.Option.{IfSome}
 use Rattle.report_check.specs.Comparing.{HasFound, taken_bytes}
 use Rattle.report_check.proofs.Comparisons.{tells-equal, tells-more, no_items, some_items}
