@@ -2,6 +2,8 @@
 
 python3 -m tests            all of them, as many classes of tests side by side as there are processors
 python3 -m tests NAME ..    those of these modules or classes, one after another: tests.test_jvm, tests.test_jvm.Regions
+
+With --quick as its first argument it leaves out those of LEFT_OUT, and names them.
 """
 import os
 import re
@@ -12,6 +14,14 @@ from concurrent.futures import ThreadPoolExecutor, as_completed
 
 from tests.support import RECORDERS
 
+# What --quick leaves out: classes and tests of them. Each takes half a minute of a processor or more where gcaudit isn't proved, or tries how the
+# recorders go with a large tool.
+LEFT_OUT = {
+    "tests.test_jvm.LargeHeap",
+    "tests.test_node.LargeHeap",
+}
+# The classes that take longest, so they begin first.
+LONGEST = ()
 COUNTED = re.compile(r"^(\d+) passed, (\d+) failed$")
 SKIPPED = re.compile(r"^skipped: (\d+) tests?: (.*)$")
 
@@ -36,8 +46,29 @@ def say_end(passed, failed, skipped):
     return 1 if failed else 0
 
 
-def run_named(names):
-    tests = unittest.defaultTestLoader.loadTestsFromNames(names)
+def tests_of(suite):
+    """The tests in a suite, and in those in it."""
+    for test in suite:
+        if isinstance(test, unittest.TestSuite):
+            yield from tests_of(test)
+        else:
+            yield test
+
+
+def class_of(test):
+    """The name of a test's class; of a module that can't be read, its own name."""
+    if isinstance(test, unittest.loader._FailedTest):
+        return test._testMethodName
+    return "%s.%s" % (type(test).__module__, type(test).__qualname__)
+
+
+def without(left_out, suite):
+    """The tests of a suite but for these."""
+    return [test for test in tests_of(suite) if not left_out & {class_of(test), test.id()}]
+
+
+def run_named(names, left_out):
+    tests = unittest.TestSuite(without(left_out, unittest.defaultTestLoader.loadTestsFromNames(names)))
     done = unittest.TextTestRunner(stream=sys.stdout, resultclass=Counting).run(tests)
     skipped = {}
     for _, reason in done.skipped:
@@ -45,20 +76,9 @@ def run_named(names):
     return say_end(done.passed, len(done.failures) + len(done.errors) + len(done.unexpectedSuccesses), skipped)
 
 
-def classes_of(tests):
-    """The name of the class of each test; of a module that can't be read, its own name."""
-    for test in tests:
-        if isinstance(test, unittest.TestSuite):
-            yield from classes_of(test)
-        elif isinstance(test, unittest.loader._FailedTest):
-            yield test._testMethodName
-        else:
-            yield "%s.%s" % (type(test).__module__, type(test).__qualname__)
-
-
-def run_class(name):
+def run_class(name, words):
     ran = subprocess.run(
-        [sys.executable, "-B", "-m", "tests", name],
+        [sys.executable, "-B", "-m", "tests", *words, name],
         cwd=RECORDERS,
         stdin=subprocess.DEVNULL,
         stdout=subprocess.PIPE,
@@ -68,14 +88,17 @@ def run_class(name):
     return name, ran.returncode, ran.stdout
 
 
-def run_all():
-    tests = unittest.defaultTestLoader.discover(os.path.join(RECORDERS, "tests"), top_level_dir=RECORDERS)
-    names = sorted(set(classes_of(tests)))
+def run_all(left_out, words):
+    suite = unittest.defaultTestLoader.discover(os.path.join(RECORDERS, "tests"), top_level_dir=RECORDERS)
+    if left_out:
+        print("left out here, in ./test: %s" % ", ".join(sorted(left_out)))
+    # (False comes before True)
+    names = sorted(set(map(class_of, without(left_out, suite))), key=lambda name: (name not in LONGEST, name))
     passed, failed, skipped = 0, 0, {}
     with ThreadPoolExecutor(
         len(os.sched_getaffinity(0)) if hasattr(os, "sched_getaffinity") else os.cpu_count()
     ) as runs:
-        for run in as_completed([runs.submit(run_class, name) for name in names]):
+        for run in as_completed([runs.submit(run_class, name, words) for name in names]):
             name, status, said = run.result()
             print("%s\n%s" % (name, said), end="", flush=True)
             counted = COUNTED.match(said.splitlines()[-1]) if said else None
@@ -90,7 +113,10 @@ def run_all():
 
 def main():
     os.environ.pop("PYTHONWARNINGS", None)
-    return run_named(sys.argv[1:]) if sys.argv[1:] else run_all()
+    is_quick = sys.argv[1:2] == ["--quick"]
+    words, names = sys.argv[1 : 1 + is_quick], sys.argv[1 + is_quick :]
+    left_out = LEFT_OUT if is_quick else set()
+    return run_named(names, left_out) if names else run_all(left_out, words)
 
 
 if __name__ == "__main__":
