@@ -3,7 +3,7 @@
 python3 -m tests            all of them, as many classes of tests side by side as there are processors
 python3 -m tests NAME ..    those of these modules or classes, one after another: tests.test_jvm, tests.test_jvm.Regions
 
-With --quick as its first argument it leaves out those of LEFT_OUT, and names them.
+With --quick as its first argument it leaves out those of LEFT_OUT below. Without a NAME it also says which these are.
 """
 import os
 import re
@@ -14,14 +14,33 @@ from concurrent.futures import ThreadPoolExecutor, as_completed
 
 from tests.support import RECORDERS
 
-# What --quick leaves out: classes and tests of them. Each takes half a minute of a processor or more where gcaudit isn't proved, or tries how the
-# recorders go with a large tool.
+# What --quick leaves out, by class or by test; ./test runs it. With a gcaudit that isn't proved each takes from half a
+# minute to ten minutes of a processor, because a heap is large or is audited several times, or it needs another tool.
 LEFT_OUT = {
+    "tests.test_dumps.Java.test_100000_objects_and_the_limit",
+    "tests.test_dumps.ManyLeaks.test_twenty_six_more_on_node",
+    "tests.test_guide.Guide.test_jvm",
+    "tests.test_guide.Guide.test_node",
+    "tests.test_guide.Guide.test_snapshot",
+    "tests.test_jvm.Checks",
+    "tests.test_jvm.JUnit",
     "tests.test_jvm.LargeHeap",
+    "tests.test_jvm.Maven",
+    "tests.test_node.Checks",
     "tests.test_node.LargeHeap",
+    "tests.test_node.Runners",
+    "tests.test_other_readers.Java",
 }
-# The classes that take longest, so they begin first.
-LONGEST = ()
+# Of the others, the classes that take longest. They begin first.
+LONGEST = {
+    "tests.test_dumps.ManyLeaks",
+    "tests.test_dumps.Node",
+    "tests.test_jvm.Asserting",
+    "tests.test_jvm.Leaks",
+    "tests.test_jvm.Regions",
+    "tests.test_node.Asserting",
+    "tests.test_node.Leaks",
+}
 COUNTED = re.compile(r"^(\d+) passed, (\d+) failed$")
 SKIPPED = re.compile(r"^skipped: (\d+) tests?: (.*)$")
 
@@ -90,11 +109,13 @@ def run_class(name, words):
 
 def run_all(left_out, words):
     suite = unittest.defaultTestLoader.discover(os.path.join(RECORDERS, "tests"), top_level_dir=RECORDERS)
+    gone = left_out - {name for test in tests_of(suite) for name in (class_of(test), test.id())}
+    for name in sorted(gone):
+        print("FAILED: there is no test %s to leave out" % name)
     if left_out:
         print("left out here, in ./test: %s" % ", ".join(sorted(left_out)))
-    # (False comes before True)
     names = sorted(set(map(class_of, without(left_out, suite))), key=lambda name: (name not in LONGEST, name))
-    passed, failed, skipped = 0, 0, {}
+    passed, failed, skipped = 0, len(gone), {}
     with ThreadPoolExecutor(
         len(os.sched_getaffinity(0)) if hasattr(os, "sched_getaffinity") else os.cpu_count()
     ) as runs:
