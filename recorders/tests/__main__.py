@@ -19,17 +19,25 @@ from tests.support import RECORDERS
 LEFT_OUT = {
     "tests.test_dumps.Java.test_100000_objects_and_the_limit",
     "tests.test_dumps.ManyLeaks.test_twenty_six_more_on_node",
+    "tests.test_flask.FlaskShop.test_by_assertions",
     "tests.test_guide.Guide.test_jvm",
     "tests.test_guide.Guide.test_node",
     "tests.test_guide.Guide.test_snapshot",
+    "tests.test_jvm.Asserting.test_the_dump_is_kept_where_a_property_says_so",
     "tests.test_jvm.Checks",
     "tests.test_jvm.JUnit",
     "tests.test_jvm.LargeHeap",
     "tests.test_jvm.Maven",
+    "tests.test_jvm.Regions.test_a_region_that_leaves_many_objects",
+    "tests.test_node.Asserting.test_the_snapshot_is_kept_where_a_variable_says_so",
     "tests.test_node.Checks",
     "tests.test_node.LargeHeap",
+    "tests.test_node.Package.test_it_is_built_and_imported_both_ways",
     "tests.test_node.Runners",
     "tests.test_other_readers.Java",
+    "tests.test_python.Traces.test_100000_objects",
+    "tests.test_ruby.Minitest",
+    "tests.test_ruby.RSpec",
 }
 # Of the others, the classes that take longest. They begin first.
 LONGEST = {

@@ -31,11 +31,25 @@ public class Regions {
         }
     }
 
-    /** With an argument the first of the regions alone. */
+    static void leaveMany() {
+        LOG.clear();
+        try (HeapAudit audit = HeapAudit.start()) {
+            try (HeapAudit.Region region = audit.region("java.lang.Object[]")) {
+                handle(MANY);
+            }
+            print(audit);
+        }
+    }
+
+    /** With the argument few the first of the regions alone, and with many one that leaves many objects. */
     public static void main(String[] words) {
         handle(1);
         LOG.add(new Outer());
         try (HeapAudit audit = HeapAudit.start(); HeapAudit.Region warm = audit.region()) { }
+        if (words.length > 0 && words[0].equals("many")) {
+            leaveMany();
+            return;
+        }
         try (HeapAudit audit = HeapAudit.start()) {
             try (HeapAudit.Region region = audit.region()) {
                 handle(0);
@@ -69,13 +83,6 @@ public class Regions {
                 handle(3);
             }
             LOG.clear();
-            print(audit);
-        }
-        System.out.println("----");
-        try (HeapAudit audit = HeapAudit.start()) {
-            try (HeapAudit.Region region = audit.region("java.lang.Object[]")) {
-                handle(MANY);
-            }
             print(audit);
         }
     }
