@@ -14,18 +14,21 @@ from concurrent.futures import ThreadPoolExecutor, as_completed
 
 from tests.support import RECORDERS
 
-# What --quick leaves out, by class or by test; ./test runs it. With a gcaudit that isn't proved each takes from half a
-# minute to ten minutes of a processor, because a heap is large or is audited several times, or it needs another tool.
+# What --quick leaves out, by class or by test; ./test runs it. With a gcaudit that isn't proved, most of these take
+# from twenty seconds to ten minutes of a processor each, because a heap is large or is audited several times. The
+# others take another tool or a package.
 LEFT_OUT = {
     "tests.test_dumps.Java.test_100000_objects_and_the_limit",
     "tests.test_dumps.ManyLeaks.test_twenty_six_more_on_node",
     "tests.test_flask.FlaskShop.test_by_assertions",
     "tests.test_guide.Guide.test_jvm",
     "tests.test_guide.Guide.test_node",
+    "tests.test_guide.Guide.test_ruby",
     "tests.test_guide.Guide.test_snapshot",
     "tests.test_jvm.Asserting.test_the_dump_is_kept_where_a_property_says_so",
     "tests.test_jvm.Checks",
     "tests.test_jvm.JUnit",
+    "tests.test_jvm.Jar",
     "tests.test_jvm.LargeHeap",
     "tests.test_jvm.Maven",
     "tests.test_jvm.Regions.test_a_region_that_leaves_many_objects",
@@ -35,9 +38,11 @@ LEFT_OUT = {
     "tests.test_node.Package.test_it_is_built_and_imported_both_ways",
     "tests.test_node.Runners",
     "tests.test_other_readers.Java",
+    "tests.test_other_readers.Node",
     "tests.test_python.Traces.test_100000_objects",
     "tests.test_ruby.Minitest",
     "tests.test_ruby.RSpec",
+    "tests.test_subclasses.Node",
 }
 # Of the others, the classes that take longest. They begin first.
 LONGEST = {
