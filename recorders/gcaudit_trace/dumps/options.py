@@ -24,6 +24,13 @@ def parser_for(program: str, about: str) -> argparse.ArgumentParser:
         help="write a heap snapshot instead of a trace; gcsnap to-trace makes a trace from it at any time, "
         "to which you can add assertions. The snapshot has none itself",
     )
+    add_wishes(parser)
+    command_line.add_version(parser)
+    return parser
+
+
+def add_wishes(parser: argparse.ArgumentParser) -> None:
+    """The words that say what is asserted of a dump and what is kept of it."""
     said = parser.add_argument_group(
         "what is asserted (each may be given more than once; CLASS+ means the objects of its subclasses too)"
     )
@@ -62,8 +69,6 @@ def parser_for(program: str, about: str) -> argparse.ArgumentParser:
         default=[],
         help="leave out classes whose names begin with PREFIX",
     )
-    command_line.add_version(parser)
-    return parser
 
 
 def kind_of(asked: argparse.Namespace) -> str:

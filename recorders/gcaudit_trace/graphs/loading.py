@@ -28,7 +28,7 @@ def _converter_of(beginning: bytes) -> Optional[str]:
 
 
 @contextlib.contextmanager
-def _opened(path: str) -> Iterator[Tuple[Optional[BinaryIO], Optional[str]]]:
+def opened_heap(path: str) -> Iterator[Tuple[Optional[BinaryIO], Optional[str]]]:
     """The file of a dump and the package that reads it; neither where it is a trace."""
     if path == "-":
         yield None, None
@@ -49,7 +49,7 @@ def _opened(path: str) -> Iterator[Tuple[Optional[BinaryIO], Optional[str]]]:
 
 def last_graph(path: str, progress: Progress) -> Graph:
     """What the last collection of a trace traces, or the heap of a dump: all of its objects, reached or not."""
-    with _opened(path) as (file, converter):
+    with opened_heap(path) as (file, converter):
         if file is not None and converter is not None:
             return importlib.import_module(converter + ".whole_graph").graph_of(file, path, progress)
     with trace_file(path) as trace:
@@ -65,7 +65,7 @@ def last_graph(path: str, progress: Progress) -> Graph:
 
 def every_graph(path: str, progress: Progress) -> List[Graph]:
     """The heaps at all collections of a trace."""
-    with _opened(path) as (file, _):
+    with opened_heap(path) as (file, _):
         if file is not None:
             raise TraceError("%s is one heap; two heaps at least are compared" % path)
     with trace_file(path) as trace:

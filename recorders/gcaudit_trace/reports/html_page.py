@@ -1,12 +1,12 @@
-"""A view as an HTML page that stands alone: groups that fold, each with its path as a picture, and a search."""
+"""An HTML page that stands alone: groups of a view that fold, each with its path as a picture, and a search."""
 import html
-from typing import TYPE_CHECKING, List
+from typing import TYPE_CHECKING, Iterable, List, Sequence
 
 from ..graphs.path import Path
 from ..traces.names import cut
 
 if TYPE_CHECKING:
-    from .view import Shown, View
+    from .view import View
 
 _WIDTH = 340  # of a picture; it is shown smaller where there is less room
 _BOX = 44
@@ -82,7 +82,16 @@ def page(view: "View") -> str:
         len(view.shown),
         "" if len(view.shown) == 1 else "s",
     )
-    groups = "\n".join(_group(shown, place == 0) for place, shown in enumerate(view.shown))
+    about = "%s, %d collection%s" % (view.trace, view.collections, "" if view.collections == 1 else "s")
+    groups = (
+        folded(shown.title, shown.notes, shown.paths, shown.group.sample.paths, place == 0)
+        for place, shown in enumerate(view.shown)
+    )
+    return page_of(title, [about], groups)
+
+
+def page_of(title: str, about: Iterable[str], groups: Iterable[str]) -> str:
+    """A page with a title, a paragraph for each sentence about it, and groups."""
     return """<!DOCTYPE html>
 <html lang="en">
 <head>
@@ -94,7 +103,7 @@ def page(view: "View") -> str:
 <body>
 <main>
 <h1>%s</h1>
-<p>%s, %d collection%s</p>
+%s
 <div class="tools">
 <input id="search" type="search" placeholder="Search types and paths" aria-label="Search types and paths">
 <button id="open" type="button">Open all</button>
@@ -107,31 +116,29 @@ def page(view: "View") -> str:
 </body>
 </html>
 """ % (
-        title,
+        html.escape(title),
         _STYLE,
-        title,
-        html.escape(view.trace),
-        view.collections,
-        "" if view.collections == 1 else "s",
-        groups,
+        html.escape(title),
+        "\n".join("<p>%s</p>" % html.escape(one) for one in about),
+        "\n".join(groups),
         _SCRIPT,
     )
 
 
-def _group(shown: "Shown", is_open: bool) -> str:
-    notes = "; ".join(shown.notes)
-    text = " ".join([shown.title, notes] + shown.paths)
-    paths = shown.group.sample.paths
+def folded(title: str, notes: Iterable[str], lines: List[str], paths: Sequence[Path], is_open: bool) -> str:
+    """A group that folds: its title and notes as its head, pictures of its paths and lines inside."""
+    noted = "; ".join(notes)
+    text = " ".join([title, noted] + lines)
     pictures = '<div class="paths">%s</div>' % "".join(map(picture, paths)) if paths else ""
     return (
         '<details data-text="%s"%s><summary><b>%s</b><br>%s</summary><div class="inside">%s<pre>%s</pre></div></details>'
         % (
             html.escape(text),
             " open" if is_open else "",
-            html.escape(shown.title),
-            html.escape(notes),
+            html.escape(title),
+            html.escape(noted),
             pictures,
-            html.escape("\n".join(shown.paths)),
+            html.escape("\n".join(lines)),
         )
     )
 

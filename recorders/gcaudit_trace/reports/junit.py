@@ -1,7 +1,7 @@
-"""A view as JUnit XML, in which a group is a failed test."""
+"""JUnit XML, in which a group of a view is a failed test."""
 import socket
 import time
-from typing import TYPE_CHECKING
+from typing import TYPE_CHECKING, List, NamedTuple
 from xml.etree import ElementTree
 
 from .groups import lasting_name
@@ -18,35 +18,57 @@ def _xml_text(text: str) -> str:
     )
 
 
+class Case(NamedTuple):
+    """A test that failed, or of which it isn't known: its name and its kind, what is wrong in a line, and all that there is to say."""
+
+    name: str
+    kind: str
+    message: str
+    text: str
+    is_error: bool = False
+
+
 def junit(view: "View") -> str:
-    """JUnit XML: one suite, with a failed test for each group, or one that passed where there is none."""
+    """JUnit XML of a view: a failed test for each group."""
+    cases = [
+        Case(lasting_name(shown.group), shown.group.kind, shown.title, "\n".join(shown.notes + shown.paths))
+        for shown in view.shown
+    ]
+    return suite_of(cases, "%s: %d violations, %d collections" % (view.trace, view.violations, view.collections))
+
+
+def suite_of(cases: List[Case], said: str) -> str:
+    """JUnit XML: one suite of these tests, or of one that passed where there is none; `said` is its output."""
+    errors = sum(case.is_error for case in cases)
     suite = ElementTree.Element(
         "testsuite",
         {
             "name": "gcaudit",
             "timestamp": time.strftime("%Y-%m-%dT%H:%M:%S", time.gmtime()),
             "hostname": socket.gethostname() or "localhost",
-            "tests": str(max(len(view.shown), 1)),
-            "failures": str(len(view.shown)),
-            "errors": "0",
+            "tests": str(max(len(cases), 1)),
+            "failures": str(len(cases) - errors),
+            "errors": str(errors),
             "skipped": "0",
             "time": "0",
         },
     )
     ElementTree.SubElement(suite, "properties")
-    for shown in view.shown:
-        case = ElementTree.SubElement(
+    for case in cases:
+        test = ElementTree.SubElement(
             suite,
             "testcase",
-            {"name": _xml_text(lasting_name(shown.group)), "classname": "gcaudit." + shown.group.kind, "time": "0"},
+            {"name": _xml_text(case.name), "classname": "gcaudit." + case.kind, "time": "0"},
         )
-        failure = ElementTree.SubElement(case, "failure", {"message": _xml_text(shown.title), "type": shown.group.kind})
-        failure.text = _xml_text("\n".join(shown.notes + shown.paths))
-    if not view.shown:
+        failure = ElementTree.SubElement(
+            test,
+            "error" if case.is_error else "failure",
+            {"message": _xml_text(case.message), "type": case.kind},
+        )
+        failure.text = _xml_text(case.text)
+    if not cases:
         ElementTree.SubElement(suite, "testcase", {"name": "no violation", "classname": "gcaudit", "time": "0"})
-    ElementTree.SubElement(suite, "system-out").text = _xml_text(
-        "%s: %d violations, %d collections" % (view.trace, view.violations, view.collections)
-    )
+    ElementTree.SubElement(suite, "system-out").text = _xml_text(said)
     ElementTree.SubElement(suite, "system-err")
     suites = ElementTree.Element("testsuites")
     suites.append(suite)

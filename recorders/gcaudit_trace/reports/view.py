@@ -7,7 +7,7 @@ from ..graphs.trace_heap import heaps
 from .audit import Audit
 from .groups import Group, counted, grouped
 
-_SENTENCES = {
+SENTENCES = {
     "dead": "must be dead and is reached",
     "instances": "has more objects than its limit",
     "unshared": "may have one reference and has more",
@@ -40,14 +40,14 @@ class Shown(NamedTuple):
         if group.kind == "instances":
             return "%s %s: %d, and the limit is %d" % (
                 group.type_name,
-                _SENTENCES[group.kind],
+                SENTENCES[group.kind],
                 group.sample.count,
                 group.sample.limit,
             )
         return "%s%s %s" % (
             group.type_name or "an assertion",
             " (%d times)" % count if count > 1 else "",
-            _SENTENCES[group.kind],
+            SENTENCES[group.kind],
         )
 
     @property
