@@ -15,7 +15,7 @@ from gcaudit_trace.version import VERSION
 class Words(unittest.TestCase):
     def test_version_and_help(self):
         found = completions.parsers()
-        self.assertEqual(len(found), 11)
+        self.assertEqual(len(found), 12)
         for name, parser in found.items():
             for word, expected in (("--version", "%s %s\n" % (name, VERSION)), ("--help", "usage: %s " % name)):
                 said = io.StringIO()

@@ -59,12 +59,18 @@ class Installed(unittest.TestCase):
             "gcaudit-summary",
             "gcaudit-growth",
             "gcaudit-view",
+            "gcaudit-fleet",
         ):
             self.assertIn("usage: %s " % name, self.run_words(self.command(name), "--help"))
             takes_one = name in ("gcaudit-named", "gcaudit-summary", "gcaudit-view")
             self.assertIn(
                 "%s: " % name, self.run_words(self.command(name), *["no such file"] * (1 if takes_one else 2), status=2)
             )
+
+    @needs_program
+    def test_a_command_starts_processes(self):
+        said = self.run_words(self.command("gcaudit-fleet"), "--gcaudit", PROGRAM, "--jobs", "2", "a", "b", status=2)
+        self.assertTrue(said.endswith("2 heaps: 0 with violations, 0 without, 2 could not be audited\n"), said)
 
     def test_the_modules_are_those_installed(self):
         for name in (

@@ -6,7 +6,7 @@ from typing import Dict, List, Optional
 from hprof_to_trace import service
 
 from ..dumps.options import parser_for
-from . import growth, named, summary, view
+from . import fleet, growth, named, summary, view
 
 # The converters have an older name besides, which has no completions of its own.
 _CONVERTERS = {
@@ -18,7 +18,8 @@ _CONVERTERS = {
 
 def parsers() -> Dict[str, argparse.ArgumentParser]:
     """The parser of each command, by its name."""
-    found = {made.prog: made for made in (named.parser(), summary.parser(), growth.parser(), view.parser())}
+    own = named, summary, growth, view, fleet
+    found = {made.prog: made for made in (command.parser() for command in own)}
     for name, other in _CONVERTERS.items():
         found[name], found[other] = parser_for(name, ""), parser_for(other, "")
     asking = service.parser()
