@@ -2,7 +2,6 @@
 import gzip
 import json
 import os
-import re
 import signal
 import subprocess
 import sys
@@ -277,6 +276,96 @@ class Fleets(Commands):
             program = "import json, sys, jsonschema; jsonschema.validate(*(json.load(open(p)) for p in sys.argv[1:]))"
             schema = os.path.join(RECORDERS, "tests", "schemas", "sarif-2.1.0-rtm.4.json")
             subprocess.run([python_with("jsonschema"), "-c", program, self.path("out.sarif"), schema], check=True)
+
+
+class OnDask(Commands):
+    """A cluster on the loopback: a scheduler and three workers, processes of their own."""
+
+    @unittest.skipIf(DASK is not None and sys.executable == DASK, "distributed is there")
+    def test_without_the_package(self):
+        self.write(*heap(), name="a")
+        done = self.run_module("fleet", "--dask", "tcp://127.0.0.1:1", "a")
+        self.assertEqual(
+            (done.returncode, done.stderr.decode()),
+            (
+                2,
+                "gcaudit-fleet: --dask needs the Python package distributed: pip install distributed, "
+                "or Debian's python3-distributed\n",
+            ),
+        )
+
+    def start(self, name, *words):
+        """Starts a command of Dask, by the Python that has it."""
+        environment = dict(os.environ, PYTHONPATH=RECORDERS, DASK_LOGGING__DISTRIBUTED="error")
+        process = subprocess.Popen(
+            [DASK, "-B", "-m", "distributed.cli.dask_" + name, *words],
+            cwd=self.folder,
+            env=environment,
+            stdout=subprocess.DEVNULL,
+            stderr=subprocess.DEVNULL,
+        )
+        self.addCleanup(process.wait)
+        self.addCleanup(process.kill)
+        return process
+
+    def cluster(self):
+        """The address of a scheduler, and its workers."""
+        self.start(
+            "scheduler", "--host", "127.0.0.1", "--port", "0", "--no-dashboard", "--scheduler-file", self.path("where")
+        )
+        while not os.path.exists(self.path("where")):
+            time.sleep(0.1)
+        with open(self.path("where")) as file:
+            address = json.load(file)["address"]
+        workers = [
+            self.start("worker", address, "--host", "127.0.0.1", "--nthreads", "1", "--no-nanny", "--no-dashboard")
+            for _ in range(3)
+        ]
+        return address, workers
+
+    @needs_program
+    @unittest.skipIf(DASK is None, "distributed is not there")
+    @unittest.skipIf(os.name != "posix", "signals and shells are those of POSIX")
+    def test_the_same_though_a_worker_is_killed(self):
+        """At the fifth heap its worker is killed, which has had others: each heap still counts once."""
+        names = []
+        for number in range(1, 21):
+            names.append("h%d" % number)
+            self.write(*heap(sessions(number % 3)), name=names[-1])
+        with open(self.path("h7"), "w") as file:
+            file.write("no heap")
+        kill = self.path("program")
+        with open(kill, "w") as file:
+            file.write(
+                "#!/bin/sh\necho >> {0}/count\nif [ $(wc -l < {0}/count) -ge 5 ] && mkdir {0}/killed 2> /dev/null; then\n"
+                'kill -9 $PPID; fi\nexec {1} "$@"\n'.format(self.folder, PROGRAM)
+            )
+        os.chmod(kill, 0o755)
+        address, workers = self.cluster()
+        words = [DASK, "-B", "-m", "gcaudit_trace.commands.fleet", *names, "--gcaudit"]
+        told = [
+            subprocess.run(
+                [*words, program, *where],
+                cwd=self.folder,
+                env=dict(os.environ, PYTHONPATH=RECORDERS),
+                stdout=subprocess.PIPE,
+            )
+            for program, where in ((kill, ["--dask", address]), (PROGRAM, ["--jobs", "2"]))
+        ]
+        self.assertEqual(sorted(str(worker.poll()) for worker in workers), ["-9", "None", "None"])
+        # Of 20 heaps those with 1 and 2 sessions by turns: h1 h2, h4 h5, .., h19 h20, without h7, which had one.
+        self.assertEqual(
+            told[1].stdout.decode().split("\n"),
+            [
+                "Session must be dead and is reached (20 times in 13 of 19 audited heaps; since h1 (the first); "
+                "they keep 20 objects, 200 bytes alive alone in all)",
+                "    in h1: root cache -> 1 Cache .sessions -> 2 list [0] -> 10 Session",
+                "could not be audited: h7 is neither a trace nor a heap dump: HPROF, a snapshot of V8, or a dump of Ruby",
+                "1 group of violations; 20 heaps: 13 with violations, 6 without, 1 could not be audited",
+                "",
+            ],
+        )
+        self.assertEqual((told[0].stdout, told[0].returncode), (told[1].stdout, told[1].returncode))
 
 
 class Merging(unittest.TestCase):
