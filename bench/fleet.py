@@ -1,7 +1,7 @@
 #!/usr/bin/env python3
 """What a fleet of heaps costs: bench/fleet.py [--heaps N] [--objects N] PROGRAM
 
-It writes 200 traces, each of 20,000 objects of which a tenth of the heaps leaks some, and audits them by gcaudit-fleet on 1 and 4 processes and,
+It writes 200 traces, each of 2,000 objects, of which every tenth leaks some, and audits them by gcaudit-fleet on 1 and 4 processes and,
 where the Python that runs this has the package distributed, on a Dask cluster of 4 workers on this machine. PROGRAM is the built gcaudit. It prints a
 table: seconds by the clock and of the processor, and the most memory of the command itself. All must print the same report.
 
@@ -65,7 +65,7 @@ def start_dask(name, words, environment, folder):
 def main():
     asked = argparse.ArgumentParser(description=__doc__, formatter_class=argparse.RawDescriptionHelpFormatter)
     asked.add_argument("--heaps", type=int, default=200)
-    asked.add_argument("--objects", type=int, default=20_000)
+    asked.add_argument("--objects", type=int, default=2_000)
     asked.add_argument("program", type=Path)
     asked = asked.parse_args()
     with tempfile.TemporaryDirectory() as folder:

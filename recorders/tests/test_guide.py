@@ -26,6 +26,7 @@ MINITEST = ruby_with("minitest")
 MODULES = {
     "gcaudit-named": "gcaudit_trace",
     "gcaudit-view": "gcaudit_trace.commands.view",
+    "gcaudit-fleet": "gcaudit_trace.commands.fleet",
     "gcaudit-growth": "gcaudit_trace.commands.growth",
     "gcaudit-summary": "gcaudit_trace.commands.summary",
     "hprof_to_trace": "hprof_to_trace",
@@ -177,6 +178,10 @@ class Guide(InFolder):
     def test_snapshot(self):
         self.command("gcsnap", SNAPSHOTS + ' "$@"')
         self.run_section("A heap kept for later")
+
+    @needs_commands("bash")
+    def test_fleet(self):
+        self.run_section("Many heaps of one program")
 
     def test_the_picture_is_there(self):
         with open(os.path.join(os.path.dirname(GUIDE), "view.png"), "rb") as file:
