@@ -146,8 +146,13 @@ class Fleets(Commands):
         lines = [*heap(sessions(1))[:-1], COLLECT, *sessions(2, before=1), COLLECT]
         self.heaps(a=lines)
         self.assertEqual(
-            self.fleet("a").split("\n")[0],
-            "Session must be dead and is reached (3 times in 1 of 1 audited heap; they keep 3 objects, 30 bytes alive alone in all)",
+            self.fleet("a").split("\n"),
+            [
+                "Session must be dead and is reached (3 times in 1 of 1 audited heap; they keep 3 objects, 30 bytes alive alone in all)",
+                "    in a: root cache -> 1 Cache .sessions -> 2 list [0] -> 10 Session",
+                "1 group of violations; 1 heap: 1 with violations, 0 without",
+                "",
+            ],
         )
 
     def dumps(self, *counts):
