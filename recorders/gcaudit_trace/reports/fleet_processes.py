@@ -84,13 +84,15 @@ class _Process:
 def _serve(pipe: Connection, folder: str) -> None:
     """Audits the heaps that come through the pipe, until it is closed. What is temporary goes into a folder that the other process removes."""
     tempfile.tempdir = folder
-    signal.signal(
-        signal.SIGINT, signal.SIG_IGN
-    )  # a key for all processes of a terminal; the other process ends this one
+    # A key for all processes of a terminal: the other process ends this one.
+    signal.signal(signal.SIGINT, signal.SIG_IGN)
     signal.signal(signal.SIGTERM, lambda number, frame: sys.exit(128 + number))  # so that gcaudit is ended too
     while True:
         try:
             task = pipe.recv()
         except (EOFError, OSError):
+            signal.signal(
+                signal.SIGTERM, signal.SIG_DFL
+            )  # nothing is left to end, and the interpreter ends without a word
             return
         pipe.send(audited_heap(task))
