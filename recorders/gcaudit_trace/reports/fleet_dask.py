@@ -53,7 +53,8 @@ class _Cluster:
         seen = time.monotonic()
         while True:
             done = sum(future.done() for future in futures)
-            if any(future.cancelled() or future.status == "lost" for future in futures):
+            # A future that is lost was on a worker that ended, and is made again. All are cancelled where the scheduler is lost.
+            if any(future.cancelled() for future in futures):
                 raise TraceError("the Dask scheduler at %s is gone" % self._address)
             if done == len(futures):
                 return

@@ -12,6 +12,7 @@ from .fleet import Part
 from .fleet_heap import Task, audited_heap, not_audited
 
 _SPAWN = multiprocessing.get_context("spawn")
+_LONGEST_END = 10.0  # seconds in which a process that does nothing ends by itself
 
 
 def processors() -> int:
@@ -54,18 +55,21 @@ class _Process:
     def __init__(self, folder: str) -> None:
         self.pipe, theirs = _SPAWN.Pipe()
         self.is_alive = True
+        self._is_busy = False
         self._process = _SPAWN.Process(target=_serve, args=(theirs, folder), daemon=True)
         self._process.start()
         theirs.close()
 
     def begin(self, task: Task) -> None:
         self._task = task
+        self._is_busy = True
         try:
             self.pipe.send(task)
         except OSError:  # it is gone, which its result tells
             pass
 
     def result(self) -> Part:
+        self._is_busy = False
         try:
             return self.pipe.recv()
         except (EOFError, OSError):
@@ -76,7 +80,10 @@ class _Process:
             return not_audited(self._task, "the process that audited it %s" % ended)
 
     def end(self) -> None:
+        """Ends the process. One that does nothing ends by itself when its pipe is closed; a signal could come while it ends, and it would say so."""
         self.pipe.close()
+        if not self._is_busy:
+            self._process.join(_LONGEST_END)
         self._process.terminate()
         self._process.join()
 
@@ -91,8 +98,5 @@ def _serve(pipe: Connection, folder: str) -> None:
         try:
             task = pipe.recv()
         except (EOFError, OSError):
-            signal.signal(
-                signal.SIGTERM, signal.SIG_DFL
-            )  # nothing is left to end, and the interpreter ends without a word
             return
         pipe.send(audited_heap(task))
