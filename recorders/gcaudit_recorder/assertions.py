@@ -4,6 +4,7 @@ import sys
 import weakref
 from typing import Any, Optional, Tuple
 
+from . import collector
 from .contents import shape_of
 
 
@@ -33,7 +34,14 @@ class Hold:
         return sys.getrefcount(self._object)
 
     def drop(self) -> None:
+        if collector.garbage is not None:
+            collector.aside.append(self._object)  # a forked child frees nothing
         self._object = None
+
+    def forget(self) -> None:
+        """In a forked child, where the object is garbage: it is as if it had been freed."""
+        collector.aside.append(self._object)
+        self._object = self._weak = None
 
     def take(self, obj: Any) -> None:
         self._object = obj

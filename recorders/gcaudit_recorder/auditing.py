@@ -16,6 +16,7 @@ def audited(
     deep: bool = False,
     may_be_empty: bool = False,
     all_instances: bool = False,
+    fork: bool = False,
 ) -> Iterator[Recorder]:
     """Records the block, runs gcaudit at its end, and raises HeapViolation with the report where it finds one.
 
@@ -28,7 +29,7 @@ def audited(
         os.close(handle)
     keep = trace is not None
     try:
-        with Recorder(path, roots, deep, may_be_empty) as recorder:
+        with Recorder(path, roots, deep, may_be_empty, fork=fork) as recorder:
             yield recorder
             recorder.check(program, all_instances)
     except HeapViolation:

@@ -1,11 +1,11 @@
 """All that a Python process holds as roots: modules, running frames, what the interpreter holds, and classes."""
 import contextvars
-import gc
 import signal
 import sys
 import types
 from typing import Any, Iterator, Tuple
 
+from .collector import tracked_objects
 from .contents import OWN_MODULES, module_of, shape_of, type_name
 from .holders import running_frames
 from .walk import Walk
@@ -18,7 +18,7 @@ def everything(walk: Walk) -> None:
     walk.from_roots(list(_frames()))
     classes = [
         obj
-        for obj in gc.get_objects()
+        for obj in tracked_objects()
         if isinstance(obj, type) and not walk.has(obj) and not (module_of(obj) + ".").startswith(OWN_MODULES)
     ]
     walk.from_roots([("class " + type_name(cls), cls) for cls in classes])
@@ -42,7 +42,7 @@ def _interpreter() -> Iterator[Tuple[str, Any]]:
         if callable(handler) and not isinstance(handler, signal.Handlers):
             yield "handler of signal %d" % number, handler
     yield "context", contextvars.copy_context()
-    for obj in gc.get_objects():
+    for obj in tracked_objects():
         if type(obj) is contextvars.Context:
             yield "context", obj
     for name in ("profile", "trace"):

@@ -1,16 +1,28 @@
 """The trace of a program's heap: what changed from one collection to the next."""
-from typing import Dict, List, Set, Tuple
+import weakref
+from typing import Any, Dict, Iterable, List, NamedTuple, Set, Tuple
 
 from gcaudit_trace import TraceWriter, legal_name
 from gcaudit_trace.graphs.path import MORE
 from gcaudit_trace.traces.names import UniqueNames
 
-from .assertions import Assertion
+from .assertions import Assertion, Hold
 from .holders import Link
 from .unreached import BESIDE, NOT_LOOKED_FOR, Beside
 from .walk import EMPTY, WEAK_LABEL, Labels, Traced, Walk
 
 _REGION_THREAD = 1
+
+
+class State(NamedTuple):
+    """What a writer hands to one in another process."""
+
+    known: Dict[str, Any]
+    labels: Labels
+    written_roots: Dict[str, int]
+    freed_next: List[int]
+    trace: Any
+    numbers: Dict[int, int]  # by the serial number of a hold, the id of its object
 
 
 class HeapWriter:
@@ -34,6 +46,35 @@ class HeapWriter:
         self._freed_next = [1] * sum(map(len, (chain for _, chain in beside.chains))) + [len(beside.rest)] * bool(
             beside.rest
         )
+
+    def state(self, holds: Iterable[Hold]) -> "State":
+        """What another writer needs to go on with the trace: an object is the same one there where one of the holds says so."""
+        known = self.known
+        places = {hold.serial: known.place_of.get(id(hold.get())) for hold in holds}
+        kept = {serial: known.numbers[place] for serial, place in places.items() if place is not None}
+        without_objects: Dict[str, Any] = {**vars(known), "place_of": {}, "weak": [], "held_by": {}}
+        return State(without_objects, self.labels, self._written_roots, self._freed_next, self._trace.state(), kept)
+
+    def go_on(self, state: "State", holds: Iterable[Hold]) -> None:
+        """Goes on where another process stopped.
+
+        An address may have been used again since, so an object is known again only by a hold of the recorder's, which
+        refers to the object itself. All others are new ones.
+        """
+        known = self.known = Traced()
+        vars(known).update(state.known)
+        known.weak = [None] * len(known)
+        self.labels, self._written_roots, self._freed_next = state.labels, state.written_roots, state.freed_next
+        self._trace.go_on(state.trace)
+        places = {number: place for place, number in enumerate(known.numbers) if number}
+        for hold in holds:
+            obj, place = hold.get(), places.get(state.numbers.get(hold.serial, 0))
+            if obj is not None and place is not None:
+                known.place_of[id(obj)] = place
+                if hold.holds_itself():
+                    known.held_by.setdefault(place, set()).add(hold.serial)
+                else:
+                    known.weak[place] = weakref.ref(obj)
 
     def own(self) -> Set[int]:
         """The addresses of what it keeps from one collection to the next."""

@@ -5,11 +5,16 @@ import threading
 import types
 from typing import Any, Dict, Iterable, Iterator, List, NamedTuple, Optional, Set, Tuple
 
+from .collector import is_garbage
 from .contents import PLAIN, Label, class_dict, contents, is_own_frame, locals_of, object_name, shape_of
 
 NOBODY = "no object that Python's collector knows: the interpreter, C code, or a running call"
 _MOST_LEVELS = 40
 _MOST_OBJECTS = 20000
+
+
+# In a forked child, where Python doesn't know other threads any longer: the innermost frame of each, by its number.
+frames_of_threads: Optional[Dict[int, types.FrameType]] = None
 
 
 class Link(NamedTuple):
@@ -22,7 +27,10 @@ class Link(NamedTuple):
 def running_frames() -> Iterator[Tuple[str, types.FrameType]]:
     """The frames of all threads with the names of the threads, but for the recorder's own."""
     names = {thread.ident: thread.name for thread in threading.enumerate()}
-    for ident, innermost in list(sys._current_frames().items()):
+    innermost_frames = sys._current_frames()
+    if frames_of_threads is not None:
+        innermost_frames = {**frames_of_threads, **innermost_frames}
+    for ident, innermost in list(innermost_frames.items()):
         frame: Optional[types.FrameType] = innermost
         while frame is not None:
             if not is_own_frame(frame):
@@ -84,7 +92,7 @@ class _Search:
         found: List[int] = []
         for holder in gc.get_referrers(*below):
             address = id(holder)
-            if address in skipped or _is_own(holder):
+            if address in skipped or _is_own(holder) or is_garbage(holder):
                 continue
             held = [one for one in set(map(id, gc.get_referents(holder))) if one in wanted]
             self._held.setdefault(address, []).extend(held)

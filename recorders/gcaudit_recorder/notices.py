@@ -1,7 +1,7 @@
 """What a recorder says at run time without failing: warnings, at the place in the program that they are about."""
 import sys
 import warnings
-from typing import NamedTuple, Type
+from typing import Any, List, NamedTuple, Optional, Type
 
 from .contents import is_own_frame
 
@@ -14,6 +14,9 @@ class UncheckedWarning(HeapWarning):
     """A recorder asserted something and was left without a check, so nothing was said of it."""
 
 
+said: Optional[List[Any]] = None  # in a forked child, what the process itself is to say
+
+
 class Place(NamedTuple):
     """A line of the program."""
 
@@ -21,6 +24,9 @@ class Place(NamedTuple):
     line: int
 
     def warn(self, text: str, kind: Type[HeapWarning] = HeapWarning) -> None:
+        if said is not None:
+            said.append((self, text, kind))
+            return
         warnings.warn_explicit(text, kind, self.file, self.line)
 
 

@@ -1,6 +1,7 @@
 """The recorder: what the roots of a program reach, collection by collection, as a trace for gcaudit."""
 import contextlib
-from typing import Any, Callable, Dict, Iterable, Iterator, List, Optional, Set, Tuple, Union
+import pickle
+from typing import IO, Any, Callable, Dict, Iterable, Iterator, List, NamedTuple, Optional, Set, Tuple, Union
 
 from gcaudit_trace import TraceError, TraceWriter, WholeFile, audit, legal_name
 from gcaudit_trace.reports.growth import Growth
@@ -8,9 +9,10 @@ from gcaudit_trace.reports.instance_paths import with_instances
 from gcaudit_trace.traces.whole_file import Batch
 
 from .assertions import Assertion, Hold
-from .collector import NoAutomaticCollection
+from .collector import NoAutomaticCollection, is_garbage
 from .contents import PLAIN, forget_shapes, shape_of, type_name
 from .everything import everything
+from .forked import Child, find_garbage, in_child, need_fork
 from .heap_writer import HeapWriter
 from .instances import Limit, Limits
 from .leftovers import left_by
@@ -25,6 +27,14 @@ EVERYTHING = "everything"
 Roots = Union[None, str, Dict[str, Any]]
 
 
+class Done(NamedTuple):
+    """What a child did, as far as the process has to know it."""
+
+    written: Dict[int, Optional[Tuple[int, ...]]]  # by the serial number of an assertion's target
+    dropped: Set[int]  # the serial numbers of holds whose objects nothing else holds
+    had_root: bool
+
+
 class Recorder:
     """Writes the trace of a program's heap, as far as the roots reach it.
 
@@ -34,13 +44,25 @@ class Recorder:
     globals of functions objects of the trace; "everything" implies it. Assertions are checked at each `collect()` after
     them. As a context manager the recorder finishes the file at the end, and leaves none where the block raises.
 
+    With `fork` each collection walks in a forked child of the process, which has `fork_seconds` for it: the process goes on
+    meanwhile, and learns at the next collection, at `wait()`, or at the end how it went.
+
     `may_be_empty` says that it is no mistake where `check` finds that nothing was asserted, or that no root was there.
     `audit_later` says that it is none where `check` isn't called: the trace is audited by itself.
     """
 
     def __init__(
-        self, file: Any, roots: Roots = None, deep: bool = False, may_be_empty: bool = False, audit_later: bool = False
+        self,
+        file: Any,
+        roots: Roots = None,
+        deep: bool = False,
+        may_be_empty: bool = False,
+        audit_later: bool = False,
+        fork: bool = False,
+        fork_seconds: float = 600,
     ) -> None:
+        if fork:
+            need_fork()
         self._whole = None if hasattr(file, "write") else WholeFile(file)
         self._lines = Batch(file.write if self._whole is None else self._whole.write)
         self._trace = TraceWriter(self._lines.add)
@@ -55,6 +77,10 @@ class Recorder:
         self._everything = False
         self._deep = deep
         self._had_root = False
+        self._fork = fork
+        self._fork_seconds = fork_seconds
+        self._child: Optional[Child] = None
+        self._state: Optional[IO[bytes]] = None  # what the last child handed back, for the next collection
         self._check = check_for(self)
         self._check.is_settled = (
             audit_later or self._whole is None
@@ -157,14 +183,38 @@ class Recorder:
 
     # ---- a collection
 
-    def collect(self) -> None:
-        """Collects Python's own garbage, writes what changed since the last collection, and `collect`."""
+    def collect(self, fork: Optional[bool] = None) -> None:
+        """Collects Python's own garbage, writes what changed since the last collection, and `collect`.
+
+        With `fork` this is done in a forked child, for the objects that are there now, and `collect` returns at once. A
+        child that is still there is awaited first.
+        """
         self._need_open()
+        self.wait()
         forget_shapes()
-        self._regions.collect()
-        with NoAutomaticCollection():
-            self._collect()
+        if self._fork if fork is None else fork:
+            self._collect_in_child()
+        else:
+            self._regions.collect()
+            self._go_on_with(self._state)
+            self._forget_state()
+            with NoAutomaticCollection():
+                self._collect()
         forget_shapes()
+
+    def wait(self) -> None:
+        """Waits until the child of the last collection is done. Where it failed, died or hangs, that is an error, and nothing is written."""
+        child, self._child = self._child, None
+        if child is None:
+            return
+        try:
+            self._take(child.answer())
+            self._forget_state()
+            self._state = child.state()
+        except BaseException:
+            child.end()
+            self.abandon()
+            raise
 
     def growth(self, rounds: int, work: Callable[[], Any], warm_up: int = 1) -> Growth:
         """Calls `work` to warm up and then `rounds` times, and says what increased in each round: by type, and by what holds it.
@@ -193,9 +243,11 @@ class Recorder:
         if not self._open:
             return
         try:
-            if self._pending or not self.collections:
+            if self._pending or not (self.collections or self._child):
                 self.collect()
+            self.wait()
             self._open = False
+            self._forget_state()
             if self._whole is not None:
                 self._whole.finish()
         except BaseException:
@@ -204,6 +256,10 @@ class Recorder:
 
     def abandon(self) -> None:
         """Ends the recording. No file is left under the name that was asked for."""
+        if self._child is not None:
+            self._child.end()
+            self._child = None
+        self._forget_state()
         if self._open and self._whole is not None:
             self._whole.give_up()
         self._open = False
@@ -310,6 +366,67 @@ class Recorder:
         self.collections += 1
         self._drop_what_is_gone(walk)
         self._region_ended = self._pending = False
+
+    # ---- a collection in a forked child
+
+    def _collect_in_child(self) -> None:
+        if self._whole is None:
+            raise TraceError("with fork=True the recorder needs a path, since the child writes to the file by itself")
+        if self._regions:
+            raise TraceError("inside a region a collection can't be in a forked child; leave fork=True out there")
+        self._lines.flush()
+        self._whole.flush()
+        self._child = Child(self._work_in_child, self._whole.folder, self._fork_seconds)
+        self._region_ended = self._pending = False
+
+    def _forget_state(self) -> None:
+        if self._state is not None:
+            self._state.close()
+            self._state = None
+
+    def _holds(self) -> List[Hold]:
+        """All that refers to objects for the recorder."""
+        owners = [a.owner for a in self._assertions if a.owner is not None]
+        return [a.target for a in self._assertions] + owners + list(self._roots.values())
+
+    def _work_in_child(self, aside: List[Any]) -> Tuple["Done", bytes]:
+        """In the child: the whole collection. The answer is what the process has to know of it."""
+        assert self._whole is not None
+        self._whole.write_in_child()
+        holds, asserted = self._holds(), self._assertions
+        holding = [hold for hold in holds if hold.holds_itself()]
+        roots = set(map(id, self._roots.values()))
+        in_child(find_garbage({id(aside)} | {id(hold) for hold in holding if id(hold) not in roots}))
+        for hold in holds:
+            if is_garbage(hold.get()):
+                hold.forget()
+        self._go_on_with(self._state)
+        self._collect()
+        self._whole.flush()
+        done = Done(
+            {one.target.serial: one.written for one in asserted},
+            {hold.serial for hold in holding if not hold.holds_itself()},
+            self._had_root,
+        )
+        return done, pickle.dumps(self._heap.state(holds), pickle.HIGHEST_PROTOCOL)
+
+    def _go_on_with(self, state: Optional[IO[bytes]]) -> None:
+        if state is not None:
+            self._heap.go_on(pickle.load(state), self._holds())
+
+    def _take(self, done: "Done") -> None:
+        """What a child did is taken over."""
+        assert self._whole is not None
+        self._whole.go_on_after_child()
+        for one in self._assertions:
+            if one.target.serial in done.written:
+                one.written = done.written[one.target.serial]
+        for hold in self._holds():
+            if hold.serial in done.dropped:
+                hold.drop()
+        self._assertions = [a for a in self._assertions if a.target.get() is not None]
+        self._had_root = self._had_root or done.had_root
+        self.collections += 1
 
     def _drop_what_is_gone(self, walk: Walk) -> None:
         """What a collection doesn't find is no longer held, and nothing is asserted of it any longer."""

@@ -3,7 +3,8 @@ import gc
 from typing import Any, Callable, Dict, List, NamedTuple, Set, Tuple
 
 from .assertions import OWN_REFERENCES, Assertion, Hold
-from .collector import tracked_objects
+from . import collector
+from .collector import references_of_garbage, tracked_objects
 from .contents import PLAIN, WEAK, Content, contents, shape_of
 from .holders import Link, holder_chains
 from .instances import Limits
@@ -68,10 +69,14 @@ def _drop_what_only_the_recorder_holds(holds: List[Hold], regions: Regions) -> N
     tracked: Dict[int, type] = {}
     for address, those in of_address.items():
         if gc.is_tracked(those[0].get()):
+            if collector.garbage is not None:
+                continue  # it was found to be alive
             tracked[address] = type(those[0].get())
             for hold in those:
                 hold.drop()
-        elif those[0].references() - OWN_REFERENCES <= len(those) + regions.holds(those[0].get()):
+        elif those[0].references() - OWN_REFERENCES - references_of_garbage(those[0].get()) <= len(
+            those
+        ) + regions.holds(those[0].get()):
             for hold in those:
                 hold.drop()
     if tracked:

@@ -63,9 +63,11 @@ def kinds():
 
 @needs_program
 class Holders(InFolder):
+    FORK = False
+
     def report(self, held, roots, **words):
         with self.assertRaises(HeapViolation) as caught:
-            with Recorder(self.path("trace.jsonl"), roots, **words) as recorder:
+            with Recorder(self.path("trace.jsonl"), roots, fork=self.FORK, **words) as recorder:
                 held.assert_dead(recorder)
                 recorder.check(PROGRAM)
         return caught.exception.named
@@ -121,7 +123,7 @@ class Holders(InFolder):
 
     def test_the_twins_pass(self):
         held = Held(kinds())
-        with Recorder(self.path("trace.jsonl"), {"test": self}) as recorder:
+        with Recorder(self.path("trace.jsonl"), {"test": self}, fork=self.FORK) as recorder:
             held.assert_dead(recorder)
             held.let_go()
             recorder.check(PROGRAM)
@@ -131,7 +133,7 @@ class Holders(InFolder):
         """Nothing of it is reached by a root; when it is let go in the region, nothing is left."""
         Held(kinds()).let_go()  # what Python keeps from a first use on
         for is_mended in (False, True):
-            recorder = Recorder(self.path("trace.jsonl"), {"test": self})
+            recorder = Recorder(self.path("trace.jsonl"), {"test": self}, fork=self.FORK)
             with recorder.region():
                 held = Held(name for name in kinds() if not (is_mended and name in ENDLESS))
                 held.objects.clear()
@@ -163,7 +165,7 @@ class Holders(InFolder):
             held.objects.clear()
             if is_mended:
                 held.let_go()
-            recorder = Recorder(self.path("trace.jsonl"), {"kept": kept})
+            recorder = Recorder(self.path("trace.jsonl"), {"kept": kept}, fork=self.FORK)
             recorder.assert_instances(Thing, 0, **words)
             said = ""
             with warnings.catch_warnings(record=True) as warned:
@@ -198,6 +200,13 @@ class Holders(InFolder):
             env=dict(os.environ, PYTHONPATH=RECORDERS),
         )
         self.assertRegex(done.stdout.decode(), r"\.array -> \d+ numpy\.ndarray \[0\] -> ")
+
+
+@unittest.skipUnless(hasattr(os, "fork"), "no fork")
+class HoldersInAChild(Holders):
+    """The same where the walk is in a forked child of the process."""
+
+    FORK = True
 
 
 if __name__ == "__main__":

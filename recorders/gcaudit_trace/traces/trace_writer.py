@@ -1,6 +1,6 @@
 """Writing a trace, a line for each operation."""
 import json
-from typing import Any, Callable, Dict, Iterable, Optional, Tuple
+from typing import Any, Callable, Dict, Iterable, Optional, Set, Tuple
 
 from .limits import Counted
 
@@ -40,6 +40,15 @@ class TraceWriter(Counted):
             f'{{"op":"alloc","id":{number},"type":{self._quoted.get(type_name) or self._quote(type_name)},"slots":{slots}{on_thread}{more}}}\n'
         )
         return number
+
+    def state(self) -> Tuple[Set[str], Set[str], int, int, int]:
+        """What it counted, for another writer that goes on with the trace."""
+        return self._types, self._roots, self.last_id, self.objects, self.slots
+
+    def go_on(self, state: Tuple[Set[str], Set[str], int, int, int]) -> None:
+        """Goes on where another writer stopped. Types that were seen here only stay."""
+        types, self._roots, self.last_id, self.objects, self.slots = state
+        self._types |= types
 
     def freed(self, objects: int, slots: int) -> None:
         """A collection freed so many objects, with so many slots in all."""

@@ -46,6 +46,25 @@ class WholeFile:
         except OSError as error:
             raise self.failed(error) from None
 
+    def flush(self) -> None:
+        """What was written stands in the file, also for a process that is forked now."""
+        try:
+            self._file.flush()
+        except OSError as error:
+            raise self.failed(error) from None
+
+    def write_in_child(self) -> None:
+        """In a process that was forked after `flush`: what is written from now on comes after it, up to `flush`."""
+        self._inherited = self._file  # it isn't closed, or it would be written once more
+        try:
+            self._file = open(self._temporary, "a", encoding="utf-8", newline="\n", buffering=1 << 20)
+        except OSError as error:
+            raise self.failed(error) from None
+
+    def go_on_after_child(self) -> None:
+        """What is written from now on comes after what a child wrote."""
+        self._file.seek(0, os.SEEK_END)
+
     def finish(self) -> None:
         """Everything was written: the file takes its name."""
         try:
