@@ -4,6 +4,7 @@ from typing import Any, Dict, Iterable, List, NamedTuple, Set, Tuple
 
 from gcaudit_trace import TraceWriter, legal_name
 from gcaudit_trace.graphs.path import MORE
+from gcaudit_trace.traces.limits import MOST_INSTANCES
 from gcaudit_trace.traces.names import UniqueNames
 
 from .assertions import Assertion, Hold
@@ -35,12 +36,20 @@ class HeapWriter:
         self._written_roots: Dict[str, int] = {}
         self._freed_next: List[int] = []  # the slots of each object that the next collection frees
 
-    def write(self, walk: Walk, beside: Beside, assertions: List[Assertion], region_ended: bool) -> None:
-        """Writes what changed since the last collection, what is asserted, and a collection."""
+    def write(
+        self, walk: Walk, beside: Beside, assertions: List[Assertion], region_ended: bool, asserted_type: str
+    ) -> None:
+        """Writes what changed since the last collection, what is asserted, and a collection.
+
+        `asserted_type` is the type of some object of which something was asserted; empty where there was none.
+        """
         self._write_objects(walk, assertions, region_ended)
         self._write_contents(walk)
         self._write_roots(walk, beside)
         self._write_assertions(walk, assertions)
+        if asserted_type and not self._trace.asserts:
+            # What was asserted holds, since its objects are gone. It is to be seen that something was.
+            self._trace.assert_instances(asserted_type, MOST_INSTANCES)
         self._trace.collect()
         self._keep_traced(walk)
         self._freed_next = [1] * sum(map(len, (chain for _, chain in beside.chains))) + [len(beside.rest)] * bool(

@@ -69,6 +69,7 @@ class Recorder:
         self._roots: Dict[str, Hold] = {}
         self._heap = HeapWriter(self._trace)
         self._assertions: List[Assertion] = []
+        self._asserted_type = ""  # that of the first object of which something was asserted
         self._limits = Limits()
         self._regions = Regions()
         self._region_ended = False
@@ -321,6 +322,7 @@ class Recorder:
         self._need_open()
         self._need_recorded(obj)
         self._assertions.append(Assertion(kind, obj, owner))
+        self._asserted_type = self._asserted_type or shape_of(obj).name
         self._check.asserted = self._pending = True
 
     def _live_roots(self) -> List[Tuple[str, Any]]:
@@ -361,7 +363,7 @@ class Recorder:
                 walk.add(target, False)
         fresh = {id(one.target.get()) for one in self._assertions if one.in_region and one.written is None}
         walk.settle(lambda obj: id(obj) in fresh)
-        self._heap.write(walk, beside, self._assertions, self._region_ended)
+        self._heap.write(walk, beside, self._assertions, self._region_ended, self._asserted_type)
         self._lines.flush()
         self.collections += 1
         self._drop_what_is_gone(walk)

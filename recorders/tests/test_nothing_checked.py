@@ -5,11 +5,13 @@ import json
 import os
 import unittest
 
+from gcaudit_recorder import Recorder
+from gcaudit_trace.commands.fleet import main as fleet
 from gcaudit_trace.commands.named import main as named
 from gcaudit_trace.commands.view import main as view
 from heapsnapshot_to_trace.__main__ import main as heapsnapshot_to_trace
 from hprof_to_trace.__main__ import main as hprof_to_trace
-from tests.support import PROGRAM, InFolder, needs_program
+from tests.support import PROGRAM, InFolder, events, needs_program
 from tests.test_dumps import run, written_hprof, written_snapshot
 
 ALLOC, ROOT, DEAD, COLLECT = (
@@ -18,6 +20,10 @@ ALLOC, ROOT, DEAD, COLLECT = (
     '{"op":"assert-instances","type":"A","limit":1}',
     '{"op":"collect"}',
 )
+
+
+class Session:
+    pass
 
 
 def quietly(command, *words):
@@ -87,6 +93,40 @@ class NothingChecked(InFolder):
             for convert, dump, _ in self.dumps():
                 self.assertEqual(run(convert, dump, self.path("trace.jsonl"), "--may-be-missing", word, "Gone")[0], 0)
                 self.assertEqual(quietly(view, self.path("trace.jsonl")), (0, ""))
+
+    @needs_program
+    def test_a_recorder_whose_asserted_objects_died_asserted_something(self):
+        """Where nothing was asserted, the trace still says so."""
+        for fork in (False, True) if hasattr(os, "fork") else (False,):
+            for kind in ("dead", "unshared", "owned", ""):
+                one = Session()
+                with Recorder(self.path("trace.jsonl"), {"test": self}, audit_later=True, fork=fork) as recorder:
+                    if kind == "owned":
+                        recorder.assert_owned_by(self, one)
+                    elif kind:
+                        getattr(recorder, "assert_" + kind)(one)
+                    del one
+                    recorder.collect()
+                    recorder.collect()
+                lines = [e for e in events(self.path("trace.jsonl")) if e["op"].startswith("assert-")]
+                self.assertEqual(len(lines), 1 if kind else 0)
+                for command in (view, fleet):
+                    status, said = quietly(command, self.path("trace.jsonl"))
+                    self.assertEqual(status, 0 if kind else 2, said)
+
+    @needs_program
+    def test_what_is_left_for_the_dead_hides_no_limit(self):
+        """A limit of the same type, before and after, is still one."""
+        for is_before in (True, False):
+            held = [Session(), Session()]
+            with Recorder(self.path("trace.jsonl"), {"held": held}, audit_later=True) as recorder:
+                if is_before:
+                    recorder.assert_instances(Session, 1)
+                recorder.assert_dead(Session())
+                recorder.collect()
+                if not is_before:
+                    recorder.assert_instances(Session, 1)
+            self.assertEqual(quietly(view, self.path("trace.jsonl"))[0], 1)
 
     def test_a_prefix_that_no_class_has(self):
         for convert, dump, name in self.dumps():

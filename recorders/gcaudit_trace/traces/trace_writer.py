@@ -4,6 +4,9 @@ from typing import Any, Callable, Dict, Iterable, Optional, Set, Tuple
 
 from .limits import Counted
 
+# The types and roots that a trace has, its last id, its objects and slots, and whether it asserts something.
+State = Tuple[Set[str], Set[str], int, int, int, bool]
+
 
 class TraceWriter(Counted):
     """Writes the operations of a trace with `write`, and refuses what gcaudit would refuse by its limits.
@@ -15,6 +18,7 @@ class TraceWriter(Counted):
         super().__init__("trace", limited)
         self._write = write
         self._quoted: Dict[str, str] = {}
+        self.asserts = False  # whether anything is asserted in the trace so far
 
     def _quote(self, text: str) -> str:
         quoted = self._quoted.get(text)
@@ -41,14 +45,15 @@ class TraceWriter(Counted):
         )
         return number
 
-    def state(self) -> Tuple[Set[str], Set[str], int, int, int]:
+    def state(self) -> State:
         """What it counted, for another writer that goes on with the trace."""
-        return self._types, self._roots, self.last_id, self.objects, self.slots
+        return self._types, self._roots, self.last_id, self.objects, self.slots, self.asserts
 
-    def go_on(self, state: Tuple[Set[str], Set[str], int, int, int]) -> None:
-        """Goes on where another writer stopped. Types that were seen here only stay."""
-        types, self._roots, self.last_id, self.objects, self.slots = state
+    def go_on(self, state: State) -> None:
+        """Goes on where another writer stopped. What was seen here only, of types and assertions, stays."""
+        types, self._roots, self.last_id, self.objects, self.slots, asserts = state
         self._types |= types
+        self.asserts = self.asserts or asserts
 
     def freed(self, objects: int, slots: int) -> None:
         """A collection freed so many objects, with so many slots in all."""
@@ -96,23 +101,27 @@ class TraceWriter(Counted):
         self._write('{"op":"root","name":%s,"to":%s}\n' % (self._quote(name), "null" if to is None else "%d" % to))
 
     def assert_dead(self, number: int) -> None:
-        self._write('{"op":"assert-dead","id":%d}\n' % number)
+        self._write_assertion('{"op":"assert-dead","id":%d}\n' % number)
 
     def start_region(self, thread: int) -> None:
         self._write('{"op":"start-region","thread":%d}\n' % thread)
 
     def assert_alldead(self, thread: int) -> None:
-        self._write('{"op":"assert-alldead","thread":%d}\n' % thread)
+        self._write_assertion('{"op":"assert-alldead","thread":%d}\n' % thread)
 
     def assert_instances(self, type_name: str, limit: int) -> None:
         self._see_type(type_name)
-        self._write('{"op":"assert-instances","type":%s,"limit":%d}\n' % (self._quote(type_name), limit))
+        self._write_assertion('{"op":"assert-instances","type":%s,"limit":%d}\n' % (self._quote(type_name), limit))
 
     def assert_unshared(self, number: int) -> None:
-        self._write('{"op":"assert-unshared","id":%d}\n' % number)
+        self._write_assertion('{"op":"assert-unshared","id":%d}\n' % number)
 
     def assert_owned_by(self, owner: int, ownee: int) -> None:
-        self._write('{"op":"assert-ownedby","owner":%d,"ownee":%d}\n' % (owner, ownee))
+        self._write_assertion('{"op":"assert-ownedby","owner":%d,"ownee":%d}\n' % (owner, ownee))
+
+    def _write_assertion(self, line: str) -> None:
+        self.asserts = True
+        self._write(line)
 
     def collect(self) -> None:
         self._write('{"op":"collect"}\n')
