@@ -12,7 +12,7 @@ use Rattle.steal_pool.specs.Jobs.{AllFit}
 use Rattle.scan_job.specs.declared.mode.Mode.{Mode}
 use Rattle.scan_job.specs.declared.mode.Mode.TheVariants.{Owner, TakeUp, Root}
 use Rattle.scan_job.specs.Graphs.{StoppedGraph, IsWhole, is_border, whole_graph, inner_graph, owners, all_targets, is_found_from}
-use Rattle.scan_job.specs.Scans.{task_at, is_put, AreAmong, Works}
+use Rattle.scan_job.specs.Scans.{task_at, is_put, AreAmong, Scans}
 use Rattle.scan_job.specs.Fit.{IsFit, owner_tasks, fit_tasks}
 use Rattle.scan_job.specs.States.{ScanState}
 use Rattle.scan_job.proofs.Reaching.{at-filter, filter-at, under-step, root-step}
@@ -174,7 +174,7 @@ pub among-at : (won met : List ℕ) → AreAmong won met → (x : ℕ) → has_i
 among-at won met among x at = at-times x met (let l = times-at x won at in let a = among (λ y. bit (eqb y x)) in omega arith)
 
 -- A fit task puts fit tasks.
-pub puts-fit : (g : StoppedGraph) (j : ScanState) (t : Task) (k : ScanState) (put : List Task) → IsWhole g → Works g j t (record { job = k; put = put }) →
+pub puts-fit : (g : StoppedGraph) (j : ScanState) (t : Task) (k : ScanState) (put : List Task) → IsWhole g → Scans g j t (record { job = k; put = put }) →
     Contains (fit_tasks g j.mode) t → AllFit (fit_tasks g j.mode) put
 puts-fit g j t k put w s fits =
     subst (AllByRecursion (Contains (fit_tasks g j.mode))) (sym s.puts)

@@ -19,7 +19,7 @@ use Rattle.scan_job.specs.Graphs.{StoppedGraph, IsWhole, owners}
 use Rattle.scan_job.specs.Jobs.{graph_in, shared_meaning}
 use Rattle.scan_job.specs.Phases.{AreIn, all_held, AreUnderOwners, starting_in, task_lists, owner_firsts, held_firsts, root_firsts, OwnerGains, TakeUpGains, RootGains}
 use Rattle.scan_job.specs.Scans.{Meeting, AreAmong, Meets, task_at}
-use Rattle.scan_job.specs.States.{ScanState}
+use Rattle.scan_job.specs.States.{ScanState, NoneSpent}
 use Rattle.scan_job.proofs.Dealing.{dealt-as_often}
 use Rattle.scan_job.proofs.Fitting.{fit_tasks-is, times-at, at-times, among-at, all-tagged}
 use Rattle.scan_job.proofs.OwnerCells.{owners-as_often}
@@ -47,9 +47,9 @@ same-modes g mode (j ∷ js) (a ∷ gains) (k ∷ ks) e are =
     all-cons (λ i. i.mode ≡ mode) k ks (e.0.mode ∙ are 0 j (omega arith)) (same-modes g mode js gains ks e.1 (all-tail (λ i. i.mode ≡ mode) j js are))
 
 pub run-modes : (s : SharedHeap) (mode : Mode) (fs : List (List Task)) (js ks : List ScanState) → 0 < length js → AreIn mode js →
-    Run shared_meaning s (record { jobs = js; first = fs }) ks → AreIn mode ks
-run-modes s mode fs js ks some are run =
-    let r = run-scans s mode fs js ks some are run in same-modes (graph_in s) mode js r.gains ks r.each are
+    Run shared_meaning s (record { jobs = js; first = fs }) ks → NoneSpent ks → AreIn mode ks
+run-modes s mode fs js ks some are run left =
+    let r = run-scans s mode fs js ks some are run left in same-modes (graph_in s) mode js r.gains ks r.each are
 
 -- a task of each element is fit where each is
 all-tasks : (P : Task → Type 0) (tag : ℕ → ℕ) (xs : List ℕ) → ((x : ℕ) → has_id xs x ≡ true → P (task_at (tag x) x)) → AllByRecursion P (map (λ x. task_at (tag x) x) xs)
@@ -85,9 +85,9 @@ module _ (s : SharedHeap) (js : List ScanState) (some_jobs : 0 < length js) (rea
   -- ---- what the run gains
 
   module _ (ks : List ScanState) (fs : List (List Task)) (n : ℕ) (some_workers : 0 < n) where
-    pub owner-phase : fs ≡ task_lists n (owner_firsts s.roles) → Run shared_meaning s (record { jobs = map (starting_in Owner) js; first = fs }) ks → GainsOf g (OwnerGains g) js ks
-    owner-phase lists run =
-        let r = run-scans s Owner fs (map (starting_in Owner) js) ks (map-some Owner js some_jobs) (begun-modes s Owner js) run in
+    pub owner-phase : fs ≡ task_lists n (owner_firsts s.roles) → Run shared_meaning s (record { jobs = map (starting_in Owner) js; first = fs }) ks → NoneSpent ks → GainsOf g (OwnerGains g) js ks
+    owner-phase lists run left =
+        let r = run-scans s Owner fs (map (starting_in Owner) js) ks (map-some Owner js some_jobs) (begun-modes s Owner js) run left in
         record {
           gains = r.gains;
           each = begun-grows g Owner js r.gains ks r.each;
@@ -100,9 +100,9 @@ module _ (s : SharedHeap) (js : List ScanState) (some_jobs : 0 < length js) (rea
               omega arith);
         }
 
-    pub take_up-phase : fs ≡ task_lists n (held_firsts js) → Run shared_meaning s (record { jobs = map (starting_in TakeUp) js; first = fs }) ks → GainsOf g (TakeUpGains g (all_held js)) js ks
-    take_up-phase lists run =
-        let r = run-scans s TakeUp fs (map (starting_in TakeUp) js) ks (map-some TakeUp js some_jobs) (begun-modes s TakeUp js) run in
+    pub take_up-phase : fs ≡ task_lists n (held_firsts js) → Run shared_meaning s (record { jobs = map (starting_in TakeUp) js; first = fs }) ks → NoneSpent ks → GainsOf g (TakeUpGains g (all_held js)) js ks
+    take_up-phase lists run left =
+        let r = run-scans s TakeUp fs (map (starting_in TakeUp) js) ks (map-some TakeUp js some_jobs) (begun-modes s TakeUp js) run left in
         record {
           gains = r.gains;
           each = begun-grows g TakeUp js r.gains ks r.each;
@@ -131,11 +131,11 @@ roots-fit g whole won among =
 
 root-jobs : (s : SharedHeap) (j : ScanState) (js ks : List ScanState) (k : ScanState) (won : List ℕ) (fs : List (List Task)) (n : ℕ) → 0 < n →
     IsWhole (graph_in s) → Meets (graph_in s) (root_meeting (graph_in s) won) (starting_in Root j) k → fs ≡ task_lists n (root_firsts (graph_in s) won) →
-    Run shared_meaning s (record { jobs = k ∷ map (starting_in Root) js; first = fs }) ks → GainsOf (graph_in s) (RootGains (graph_in s)) (j ∷ js) ks
-root-jobs s j js ks k won fs n some whole met lists run =
+    Run shared_meaning s (record { jobs = k ∷ map (starting_in Root) js; first = fs }) ks → NoneSpent ks → GainsOf (graph_in s) (RootGains (graph_in s)) (j ∷ js) ks
+root-jobs s j js ks k won fs n some whole met lists run left =
     let g = graph_in s in
     let modes : AreIn Root (k ∷ map (starting_in Root) js) = all-cons (λ i. i.mode ≡ Root) k (map (starting_in Root) js) met.mode (begun-modes s Root js) in
-    let r = run-scans s Root fs (k ∷ map (starting_in Root) js) ks (omega arith) modes run in
+    let r = run-scans s Root fs (k ∷ map (starting_in Root) js) ks (omega arith) modes run left in
     let a = gain_of g Root (root_meeting g won) in
     let f = first-gains g Root j js k r.gains ks a (meets-extends g (starting_in Root j) k (root_meeting g won) met) r.each in
     record {
@@ -150,11 +150,11 @@ root-jobs s j js ks k won fs n some whole met lists run =
 -- the first of the jobs that have begun met the roots and became k
 pub root-phase : (s : SharedHeap) (js ks : List ScanState) (j k : ScanState) (won : List ℕ) (fs : List (List Task)) (n : ℕ) → 0 < length js →
     0 < n → IsWhole (graph_in s) → j ≡ get_or (map (starting_in Root) js) 0 j → Meets (graph_in s) (root_meeting (graph_in s) won) j k →
-    fs ≡ task_lists n (root_firsts (graph_in s) won) → Run shared_meaning s (record { jobs = set (map (starting_in Root) js) 0 k; first = fs }) ks →
+    fs ≡ task_lists n (root_firsts (graph_in s) won) → Run shared_meaning s (record { jobs = set (map (starting_in Root) js) 0 k; first = fs }) ks → NoneSpent ks →
     GainsOf (graph_in s) (RootGains (graph_in s)) js ks
-root-phase s [] ks j k won fs n some_jobs some_workers whole is met lists run = absurd (omega arith)
-root-phase s (i ∷ js) ks j k won fs n some_jobs some_workers whole is met lists run =
-    root-jobs s i js ks k won fs n some_workers whole (subst (λ z. Meets (graph_in s) (root_meeting (graph_in s) won) z k) is met) lists run
+root-phase s [] ks j k won fs n some_jobs some_workers whole is met lists run left = absurd (omega arith)
+root-phase s (i ∷ js) ks j k won fs n some_jobs some_workers whole is met lists run left =
+    root-jobs s i js ks k won fs n some_workers whole (subst (λ z. Meets (graph_in s) (root_meeting (graph_in s) won) z k) is met) lists run left
 
 -- What the owner phase holds can be taken up.
 pub held-under : (g : StoppedGraph) (js ks : List ScanState) → GainsOf g (OwnerGains g) js ks → AreUnderOwners g (all_held ks)

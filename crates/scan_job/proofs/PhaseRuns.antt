@@ -1,12 +1,12 @@
 -- The run of a phase whose jobs have just begun it: what it needs and leaves.
-use Rattle.std.proofs.Common.{◌≡◌, ℕ, ◌+◌, ◌*◌, ◌^◌, ◌<◌, ◌≤◌, List, length, map, sym, ap, ◌∙◌, subst, arith}
+use Rattle.std.proofs.Common.{◌≡◌, ℕ, ◌*◌, ◌<◌, ◌≤◌, List, length, map, sym, ap, ◌∙◌, subst, arith}
 use Rattle.std.proofs.Math.Nat.{mul-le-mul_left}
 use Rattle.std.proofs.lemmas.List.{length-map}
 use Rattle.steal_pool.specs.declared.task.Task.{Task}
 use Rattle.steal_pool.specs.declared.crew.Crew.{Crew}
 use Rattle.steal_pool.specs.FirstLists.{FirstLists}
 use Rattle.steal_pool.specs.Jobs.{AllFit}
-use Rattle.steal_pool.specs.Runs.{most_tasks, Workload, Run, TurnsLast}
+use Rattle.steal_pool.specs.Runs.{Workload, Run}
 use Rattle.scan_job.specs.declared.mode.Mode.{Mode}
 use Rattle.scan_job.specs.declared.mode.Mode.TheVariants.{Owner, TakeUp}
 use Rattle.scan_job.specs.Shared.{SharedHeap, shared_behind}
@@ -17,11 +17,10 @@ use Rattle.scan_job.specs.Graphs.{StoppedGraph}
 use Rattle.scan_job.specs.Jobs.{graph_in, shared_meaning}
 use Rattle.scan_job.specs.Phases.{cells_in, CanBeginPhase, CanScan, AreIn, all_held, AreUnderOwners, starting_in, CanRunJobs, HasBegun, task_lists, owner_firsts, held_firsts, from_owners, from_held}
 use Rattle.scan_job.specs.Scans.{task_at}
-use Rattle.scan_job.specs.States.{ScanState}
+use Rattle.scan_job.specs.States.{ScanState, NoneSpent}
 use Rattle.scan_job.proofs.Gaining.{run-modes, owners-fit, owner-phase, held-fit, take_up-phase}
 use Rattle.scan_job.proofs.OwnerCells.{few-owners}
-use Rattle.scan_job.proofs.Starting.{IsStart, first-ready, begun-ready, begun-modes, begun-turns, begun-last, few-tasks, can-run}
-use Rattle.heap_base.specs.declared.limits.TheConstants.{MOST_TASKS}
+use Rattle.scan_job.proofs.Starting.{IsStart, first-ready, begun-ready, begun-modes, can-run}
 
 -- at least as many, where there is a worker
 pub le-times : (n c : ℕ) → 0 < n → c ≤ n * c
@@ -42,29 +41,23 @@ module _ (s : SharedHeap) (mode : Mode) (js : List ScanState) (ts : List Task) (
   begun-run room wide =
       subst (λ zs. CanRunJobs s (record { jobs = zs; first = p.load.first }) room) (sym p.are_begun) (can-run s mode (length js) (map (starting_in mode) js) ts p.load.first p.start p.lists room wide)
 
-  modes-after : (ks : List ScanState) → Run shared_meaning s p.load ks → AreIn mode ks
-  modes-after ks run =
+  modes-after : (ks : List ScanState) → Run shared_meaning s p.load ks → NoneSpent ks → AreIn mode ks
+  modes-after ks run left =
       run-modes s mode p.load.first (map (starting_in mode) js) ks (let a = p.start.jobs in let b = p.start.some in omega arith) p.start.modes
-      (subst (λ zs. Run shared_meaning s (record { jobs = zs; first = p.load.first }) ks) p.are_begun run)
-
-  turns-after : (ks : List ScanState) → TurnsLast shared_meaning (most_tasks shared_meaning p.load.jobs p.load.first) p.load.jobs ks → TurnsLast shared_meaning (MOST_TASKS + 1) js ks
-  turns-after ks last =
-      let few = few-tasks s mode (length js) (map (starting_in mode) js) ts p.load.first p.start p.lists in
-      begun-last mode (most_tasks shared_meaning (map (starting_in mode) js) p.load.first) (MOST_TASKS + 1) js ks (omega arith)
-      (subst (λ zs. TurnsLast shared_meaning (most_tasks shared_meaning zs p.load.first) zs ks) p.are_begun last)
+      (subst (λ zs. Run shared_meaning s (record { jobs = zs; first = p.load.first }) ks) p.are_begun run) left
 
   -- what the run gains makes the phase done
   pub has-begun : (P : StoppedGraph → Gain → Type 0)
-      → ((ks : List ScanState) → Run shared_meaning s (record { jobs = map (starting_in mode) js; first = p.load.first }) ks → GainsOf (graph_in s) (P (graph_in s)) js ks)
+      → ((ks : List ScanState) → Run shared_meaning s (record { jobs = map (starting_in mode) js; first = p.load.first }) ks → NoneSpent ks → GainsOf (graph_in s) (P (graph_in s)) js ks)
       → HasBegun s (record { mode = mode; gains = P }) js p.load
   has-begun P gained = record {
     many = begun-many;
     can_run = begun-run;
-    done = λ ks ran. record {
-      gains = gained ks (subst (λ zs. Run shared_meaning s (record { jobs = zs; first = p.load.first }) ks) p.are_begun ran.ran);
-      modes = modes-after ks ran.ran;
+    done = λ ks ran left. record {
+      gains = gained ks (subst (λ zs. Run shared_meaning s (record { jobs = zs; first = p.load.first }) ks) p.are_begun ran.ran) left;
+      modes = modes-after ks ran.ran left;
       ready = ran.ready;
-      turns = turns-after ks ran.turns;
+      left = left;
     };
   }
 
@@ -75,7 +68,6 @@ module _ (s : SharedHeap) (js : List ScanState) (first : FirstLists) (can : CanB
   starts mode ts few fit = record {
     ready = begun-ready s mode js can.ready;
     modes = begun-modes s mode js;
-    turns = begun-turns s mode js MOST_TASKS can.turns;
     jobs = length-map js (starting_in mode);
     some = can.some;
     few_jobs = can.few;
@@ -99,11 +91,11 @@ module _ (s : SharedHeap) (js : List ScanState) (first : FirstLists) (can : CanB
 
   pub owner-begun : (p : Begun s Owner js (owner_firsts s.roles)) → HasBegun s from_owners js p.load
   owner-begun p =
-      has-begun s Owner js (owner_firsts s.roles) p from_owners.gains (λ ks run. owner-phase s js can.some can.ready ks p.load.first (length js) can.some p.lists run)
+      has-begun s Owner js (owner_firsts s.roles) p from_owners.gains (λ ks run left. owner-phase s js can.some can.ready ks p.load.first (length js) can.some p.lists run left)
 
   pub take_up-begun : (p : Begun s TakeUp js (held_firsts js)) → HasBegun s (from_held (all_held js)) js p.load
   take_up-begun p =
-      has-begun s TakeUp js (held_firsts js) p (from_held (all_held js)).gains (λ ks run. take_up-phase s js can.some can.ready ks p.load.first (length js) can.some p.lists run)
+      has-begun s TakeUp js (held_firsts js) p (from_held (all_held js)).gains (λ ks run left. take_up-phase s js can.some can.ready ks p.load.first (length js) can.some p.lists run left)
 
 -- ---- where a crew runs the jobs
 
@@ -116,7 +108,7 @@ can-begin s js crew first can =
       some = omega arith;
       few = omega arith;
       ready = can.ready;
-      turns = can.turns;
+      left = can.left;
       lists = can.lists ∙ sym can.jobs;
       list_room = can.list_room;
     }

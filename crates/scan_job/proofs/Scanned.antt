@@ -1,10 +1,12 @@
 -- What jobs gain by lists of tasks.
-use Rattle.std.proofs.Common.{◌≡◌, ℕ, suc, ◌<◌, List, [], ◌∷◌, ◌++◌, filter, length, map, sym, refl, ap, ◌∙◌, subst, arith, append_assoc, append-nil, eqb}
+use Rattle.std.proofs.Common.{◌≡◌, ℕ, suc, ◌<◌, ⊎_elim, List, [], ◌∷◌, ◌++◌, filter, length, map, sym, refl, ap, ◌∙◌, subst, arith, append_assoc, append-nil, eqb}
 use Rattle.std.specs.List.{All, AllByRecursion, Contains, flat_map}
+use Rattle.std.proofs.lemmas.Bool.{cases_lt}
 use Rattle.std.proofs.lemmas.List.{map-append}
 use Rattle.std.proofs.lemmas.List.Elements.{filter-append}
 use Rattle.std.proofs.lemmas.Grind.{flat_map-append}
 use Rattle.steal_pool.specs.declared.task.Task.{Task}
+use Rattle.heap_base.specs.declared.limits.TheConstants.{MOST_SLOTS}
 use Rattle.heap_base.specs.Counting.{bit, total, AsOften}
 use Rattle.heap_base.proofs.Counting.{total-append, total-map, total-flat_map}
 use Rattle.header_rule.specs.declared.mark.Mark.{Mark}
@@ -20,8 +22,8 @@ use Rattle.scan_job.specs.Gains.{Gain, all_gains, Grows}
 use Rattle.scan_job.specs.Graphs.{StoppedGraph, all_targets}
 use Rattle.scan_job.specs.Jobs.{graph_in, shared_meaning}
 use Rattle.scan_job.specs.Phases.{AreIn, starting_in}
-use Rattle.scan_job.specs.Scans.{Meeting, is_held, is_put, marks_on, marks_on_cells, AreAmong, Meets, Works, task_at, scan_meeting}
-use Rattle.scan_job.specs.States.{ScanState}
+use Rattle.scan_job.specs.Scans.{Meeting, is_held, is_put, marks_on, marks_on_cells, AreAmong, Meets, Scans, Works, task_at, scan_meeting}
+use Rattle.scan_job.specs.States.{ScanState, IsSpent, IsUnspent, NoneSpent}
 
 abbrev pub no_gain : Gain
 no_gain = record { adds = []; wins = []; held = []; marks = [] }
@@ -120,7 +122,7 @@ module _ (g : StoppedGraph) where
   cells-tagged tag [] = refl
   cells-tagged tag (x ∷ xs) = ap (λ ys. x ∷ ys) (cells-tagged tag xs)
 
-  works-scanned : (j k : ScanState) (t : Task) (put : List Task) (s : Works g j t (record { job = k; put = put })) → Scanned g j.mode (t ∷ []) put (gain_of j.mode (scan_meeting g t s.won))
+  works-scanned : (j k : ScanState) (t : Task) (put : List Task) (s : Scans g j t (record { job = k; put = put })) → Scanned g j.mode (t ∷ []) put (gain_of j.mode (scan_meeting g t s.won))
   works-scanned j k t put s = record {
     adds = sym (append-nil _);
     marks = sym (append-nil _);
@@ -129,13 +131,29 @@ module _ (g : StoppedGraph) where
     among = s.meets.among;
   }
 
-  did : (j k : ScanState) (ts put : List Task) → Does (Works g) j ts (record { job = k; put = put }) → (a : Gain) × Extends g j a k × Scanned g j.mode ts put a
-  did j k [] put d =
+  -- ---- a job that is spent stays so
+
+  spent-same : (j k : ScanState) (ts put : List Task) → Does (Works g) j ts (record { job = k; put = put }) → IsSpent j → k ≡ j
+  spent-same j k [] put d spent = d.0
+  spent-same j k (t ∷ ts) put d spent =
+      let same = (d.3.idle spent).0 in spent-same d.0 k ts d.2 d.4 (subst IsSpent (sym same) spent) ∙ same
+
+  unspent-before : (j k : ScanState) (ts put : List Task) → Does (Works g) j ts (record { job = k; put = put }) → IsUnspent k → IsUnspent j
+  unspent-before j k ts put d left =
+      ⊎_elim
+      (λ spent. let same = ap (λ (i : ScanState). i.pass.left) (spent-same j k ts put d spent) in absurd (omega arith))
+      (λ unspent. unspent)
+      (cases_lt j.pass.left MOST_SLOTS)
+
+  -- ---- what a job gains that is not spent afterwards
+
+  did : (j k : ScanState) (ts put : List Task) → Does (Works g) j ts (record { job = k; put = put }) → IsUnspent k → (a : Gain) × Extends g j a k × Scanned g j.mode ts put a
+  did j k [] put d left =
       (no_gain, subst (λ i. Extends g j no_gain i) (sym d.0) (extends-none j), subst (λ p. Scanned g j.mode [] p no_gain) (sym d.1) (scanned-none j.mode))
-  did j k (t ∷ ts) put d =
-      let s = d.3 in
+  did j k (t ∷ ts) put d left =
+      let s = d.3.scans (unspent-before j k (t ∷ ts) put d left) in
       let a = gain_of j.mode (scan_meeting g t s.won) in
-      let r = did d.0 k ts d.2 d.4 in
+      let r = did d.0 k ts d.2 d.4 left in
       let later : Scanned g j.mode ts d.2 r.0 = subst (λ m. Scanned g m ts d.2 r.0) s.meets.mode r.2 in (
         both_gains a r.0,
         extends-both j d.0 k a r.0 (meets-extends j d.0 (scan_meeting g t s.won) s.meets) r.1,
@@ -145,15 +163,15 @@ module _ (g : StoppedGraph) where
   -- ---- what the jobs of a run gain
 
   did-all : (mode : Mode) (js : List ScanState) (ws : List Work) (ks : List ScanState) → AreIn mode js →
-      Each (λ j (w : Work) k. Does (Works g) j w.done (record { job = k; put = w.put })) js ws ks →
+      Each (λ j (w : Work) k. Does (Works g) j w.done (record { job = k; put = w.put })) js ws ks → NoneSpent ks →
       (gains : List Gain) × Each (Extends g) js gains ks × Scanned g mode (all_done ws) (all_put ws) (all_gains gains)
-  did-all mode [] ws ks are r =
+  did-all mode [] ws ks are r left =
       ([], (refl, r.1), subst (λ (vs : List Work). Scanned g mode (all_done vs) (all_put vs) no_gain) (sym r.0) (scanned-none mode))
-  did-all mode (j ∷ js) [] ks are r = absurd r
-  did-all mode (j ∷ js) (w ∷ ws) [] are r = absurd r
-  did-all mode (j ∷ js) (w ∷ ws) (k ∷ ks) are r =
-      let d = did j k w.done w.put r.0 in
-      let e = did-all mode js ws ks (λ i x within. are (suc i) x (omega arith)) r.1 in
+  did-all mode (j ∷ js) [] ks are r left = absurd r
+  did-all mode (j ∷ js) (w ∷ ws) [] are r left = absurd r
+  did-all mode (j ∷ js) (w ∷ ws) (k ∷ ks) are r left =
+      let d = did j k w.done w.put r.0 (left 0 k (omega arith)) in
+      let e = did-all mode js ws ks (λ i x within. are (suc i) x (omega arith)) r.1 (λ i x within. left (suc i) x (omega arith)) in
       let here : Scanned g mode w.done w.put d.0 = subst (λ m. Scanned g m w.done w.put d.0) (are 0 j (omega arith)) d.2 in
       (d.0 ∷ e.0, (d.1, e.1), scanned-both mode w.done (all_done ws) w.put (all_put ws) d.0 (all_gains e.0) here e.2)
 
@@ -202,9 +220,9 @@ all-done fit (w ∷ ws) all =
     all-append (Contains fit) w.done (all_done ws) (all 0 w (omega arith)) (all-done fit ws (λ i x within. all (suc i) x (omega arith)))
 
 pub run-scans : (s : SharedHeap) (mode : Mode) (fs : List (List Task)) (js ks : List ScanState) → 0 < length js → AreIn mode js →
-    Run shared_meaning s (record { jobs = js; first = fs }) ks → RanScans s mode fs js ks
-run-scans s mode fs js ks some are run =
-    let d = did-all (graph_in s) mode js run.work ks are run.each in
+    Run shared_meaning s (record { jobs = js; first = fs }) ks → NoneSpent ks → RanScans s mode fs js ks
+run-scans s mode fs js ks some are run left =
+    let d = did-all (graph_in s) mode js run.work ks are run.each left in
     record {
       gains = d.0;
       each = d.1;

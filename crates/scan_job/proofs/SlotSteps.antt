@@ -1,9 +1,8 @@
 -- A scan under way: the first slots of a task's cell were met.
-use Rattle.std.proofs.Common.{◌≡◌, ℕ, ◌+◌, ◌<◌, ◌≤◌, ◌/◌, Bool, List, [], ◌∷◌, ◌++◌, length, take, get_or, sym, refl, ap, ◌∙◌, subst, arith}
+use Rattle.std.proofs.Common.{◌≡◌, ℕ, ◌+◌, ◌<◌, ◌≤◌, Bool, List, [], ◌∷◌, ◌++◌, length, take, get_or, sym, refl, ap, ◌∙◌, subst, arith}
 use Rattle.std.proofs.Common.{append_assoc, append-nil, length-append, length-take, Option, None, Some}
 use Rattle.std.specs.List.{cons_option}
 use Rattle.std.proofs.Math.Seq.{take-length}
-use Rattle.heap_base.specs.declared.limits.TheConstants.{MOST_SLOTS}
 use Rattle.steal_pool.specs.declared.task.Task.{Task}
 use Rattle.object_table.specs.Edges.{AreEdgesAt}
 use Rattle.object_table.specs.Placed.{slots_in}
@@ -12,8 +11,8 @@ use Rattle.header_rule.specs.Passes.{adds}
 use Rattle.steal_pool.specs.Outboxes.{HeldTasks}
 use Rattle.scan_job.specs.declared.shared.ScanShared.{ScanShared}
 use Rattle.scan_job.specs.Cells.{targets_of}
-use Rattle.scan_job.specs.Scans.{Meeting, one_meeting, Meets, put_tasks, Works}
-use Rattle.scan_job.specs.States.{ScanState, IsSameJob, IsWithinWins, wins_left}
+use Rattle.scan_job.specs.Scans.{Meeting, one_meeting, Meets, put_tasks, Scans, Works}
+use Rattle.scan_job.specs.States.{ScanState, IsSameJob, IsUnspent, IsWithinWins, wins_left}
 use Rattle.scan_job.specs.Jobs.{IsReady, shared_graph}
 use Rattle.scan_job.proofs.Placing.{targets-more, length-targets, few-slots}
 use Rattle.scan_job.proofs.Meetings.{meets-same, meets-both, puts-both, length-puts, room-falls, won_of}
@@ -106,8 +105,8 @@ module _ (s : ScanShared) (t : Task) (i : ℕ) (old now : Worker) (p : HasScanne
         }
 
   -- a meet is left for each slot that is left
-  pub left-for-slot : i < length (slots_in s.table.now t.cell) → 0 < old.job.pass.left / MOST_SLOTS → 0 < now.job.pass.left
-  left-for-slot within turns =
+  pub left-for-slot : i < length (slots_in s.table.now t.cell) → IsUnspent old.job → 0 < now.job.pass.left
+  left-for-slot within unspent =
       let few = few-slots s.table.now p.ready.sound t.cell in
       let met = ap length p.meets.adds in
       let sum = length-append (adds old.job.pass) (targets_of s.table.now (take i (slots_in s.table.now t.cell))) in
@@ -122,22 +121,15 @@ module _ (s : ScanShared) (t : Task) (old now : Worker) (p : HasScanned s t (len
   abbrev pub all_slots : Meeting
   all_slots = record { tag = t.tag; cells = targets_of s.table.now (slots_in s.table.now t.cell); won = p.won }
 
-  pub scan-works : Works (shared_graph s) old.job t (record { job = now.job; put = put_tasks (shared_graph s) old.job.mode all_slots })
-  scan-works = record {
+  pub scan-scans : Scans (shared_graph s) old.job t (record { job = now.job; put = put_tasks (shared_graph s) old.job.mode all_slots })
+  scan-scans = record {
     won = p.won;
     meets = subst (λ xs. Meets (shared_graph s) (record { tag = t.tag; cells = targets_of s.table.now xs; won = p.won }) old.job now.job) (take-length (slots_in s.table.now t.cell)) p.meets;
     puts = refl;
   }
 
+  pub scan-works : IsUnspent old.job → Works (shared_graph s) old.job t (record { job = now.job; put = put_tasks (shared_graph s) old.job.mode all_slots })
+  scan-works unspent = record { scans = λ _. scan-scans; idle = λ spent. absurd (omega arith) }
+
   pub scan-room : wins_left now.job + length (put_tasks (shared_graph s) old.job.mode all_slots) ≤ wins_left old.job
   scan-room = (let a = length-puts (shared_graph s) old.job.mode all_slots in let b = p.room in omega arith)
-
-  pub scan-turns : old.job.pass.left / MOST_SLOTS ≤ now.job.pass.left / MOST_SLOTS + 1
-  scan-turns =
-      let few = few-slots s.table.now p.ready.sound t.cell in
-      let met = ap length scan-works.meets.adds in
-      let sum = length-append (adds old.job.pass) (targets_of s.table.now (slots_in s.table.now t.cell)) in
-      let short = length-targets s.table.now (slots_in s.table.now t.cell) in
-      let before = old.job.pass.room in
-      let after = now.job.pass.room in
-      omega arith

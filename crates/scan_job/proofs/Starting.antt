@@ -1,12 +1,12 @@
 -- How a phase begins, and what its run asks.
-use Rattle.std.proofs.Common.{◌≡◌, ℕ, zero, suc, ◌+◌, ◌*◌, ◌^◌, ◌<◌, ◌≤◌, List, [], ◌∷◌, length, map, sym, refl, ap, ◌∙◌, subst, arith}
+use Rattle.std.proofs.Common.{◌≡◌, ℕ, zero, suc, ◌+◌, ◌*◌, ◌<◌, ◌≤◌, List, [], ◌∷◌, length, map, sym, refl, ap, ◌∙◌, subst, arith}
 use Rattle.std.specs.List.{All, Contains}
 use Rattle.std.proofs.Math.Nat.{mul-le-mul_left}
 use Rattle.steal_pool.specs.declared.task.Task.{Task}
-use Rattle.heap_base.specs.declared.limits.TheConstants.{MOST_OBJECTS, MOST_TASKS, MOST_WORKERS}
+use Rattle.heap_base.specs.declared.limits.TheConstants.{MOST_OBJECTS, MOST_WORKERS}
 use Rattle.heap_base.specs.Counting.{total}
 use Rattle.steal_pool.specs.Jobs.{AllFit}
-use Rattle.steal_pool.specs.Runs.{most_tasks, all_first, AreReady, HaveRoom, TurnsLast}
+use Rattle.steal_pool.specs.Runs.{most_tasks, all_first, AreReady, HaveRoom}
 use Rattle.steal_pool.specs.Runs as Runs
 use Rattle.scan_job.specs.declared.mode.Mode.{Mode}
 use Rattle.scan_job.specs.Shared.{SharedHeap}
@@ -14,7 +14,7 @@ use Rattle.scan_job.specs.Fit.{fit_tasks}
 use Rattle.scan_job.specs.Graphs.{IsWhole}
 use Rattle.scan_job.specs.Jobs.{graph_in, IsReadyFor, shared_meaning}
 use Rattle.scan_job.specs.Phases.{cells_in, AreIn, starting_in, CanRunJobs, task_lists}
-use Rattle.scan_job.specs.States.{ScanState, wins_left, turns_of}
+use Rattle.scan_job.specs.States.{ScanState, wins_left}
 use Rattle.scan_job.proofs.Dealing.{length-dealt, dealt-all, dealt-length, dealt-short}
 use Rattle.scan_job.proofs.Placing.{is-whole}
 use Rattle.scan_job.proofs.Scanned.{fit_tasks-in}
@@ -60,21 +60,12 @@ module _ (s : SharedHeap) (mode : Mode) (js : List ScanState) where
   pub begun-modes : AreIn mode (map (starting_in mode) js)
   begun-modes = all-map (starting_in mode) (λ j. Unit {0}) (λ j. j.mode ≡ mode) (λ j u. refl) js (λ k d within. tt)
 
-  pub begun-turns : (n : ℕ) → All (λ j. n < turns_of j) js → All (λ j. n ≤ turns_of j) (map (starting_in mode) js)
-  begun-turns n turns = all-map (starting_in mode) (λ j. n < turns_of j) (λ j. n ≤ turns_of j) (λ j l. omega arith) js turns
-
-pub begun-last : (mode : Mode) (n m : ℕ) (js ks : List ScanState) → n ≤ m → TurnsLast shared_meaning n (map (starting_in mode) js) ks → TurnsLast shared_meaning m js ks
-begun-last mode n m [] ks l last = last
-begun-last mode n m (j ∷ js) [] l last = absurd last
-begun-last mode n m (j ∷ js) (k ∷ ks) l last = (let t = last.0 in omega arith, begun-last mode n m js ks l last.1)
-
 -- ---- what a run asks
 
 -- So many jobs of a phase that are ready for these first tasks.
 pub record IsStart (s : SharedHeap) (mode : Mode) (n : ℕ) (js : List ScanState) (ts : List Task) : Type 0 where
   pub ready : AreReady shared_meaning s js
   pub modes : AreIn mode js
-  pub turns : All (λ j. MOST_TASKS ≤ turns_of j) js
   pub jobs : length js ≡ n
   pub some : 0 < n
   pub few_jobs : n ≤ MOST_WORKERS
@@ -110,7 +101,7 @@ module _ (s : SharedHeap) (mode : Mode) (n : ℕ) (js : List ScanState) (ts : Li
       let c = mul-le-mul_left n a in
       omega arith
 
-  pub few-tasks : most_tasks shared_meaning js fs ≤ MOST_TASKS
+  few-tasks : most_tasks shared_meaning js fs ≤ 2 * (MOST_WORKERS * MOST_OBJECTS)
   few-tasks =
       let a = dealt-length n ts start.some in
       let b = ap (λ (hs : List (List Task)). total length hs) lists in
@@ -133,5 +124,5 @@ module _ (s : SharedHeap) (mode : Mode) (n : ℕ) (js : List ScanState) (ts : Li
             (subst (λ us. All (AllFit us) (task_lists n ts)) (sym fit) (dealt-all (Contains (fit_tasks (graph_in s) mode)) n ts start.fit));
         have_room =
             has-room s room js fs many start.ready (subst (λ (hs : List (List Task)). All (λ f. length f ≤ cells_in s) hs) (sym lists) (dealt-short n (cells_in s) ts start.some start.few)) wide;
-        turns = λ k d within. (let t = start.turns k d within in let m = few-tasks in omega arith);
+        turns = λ k d within. (let m = few-tasks in omega arith);
       }

@@ -1,8 +1,8 @@
 -- The three phases of a trace: what each asks, and what its jobs gain together.
-use Rattle.std.specs.Prelude.{◌≡◌, ℕ, ◌+◌, ◌*◌, ◌^◌, ◌%◌, ◌<◌, ◌≤◌, List, [], ◌∷◌, ◌++◌, length, filter, map, replicate, slice_index_or, slice_set, false, not, ◌&&◌, IsTrue}
+use Rattle.std.specs.Prelude.{◌≡◌, ℕ, ◌+◌, ◌*◌, ◌%◌, ◌<◌, ◌≤◌, List, [], ◌∷◌, ◌++◌, length, filter, map, replicate, slice_index_or, slice_set, false, not, ◌&&◌, IsTrue}
 use Rattle.std.specs.List.{All, flat_map}
 use Rattle.steal_pool.specs.declared.task.Task.{Task}
-use Rattle.heap_base.specs.declared.limits.TheConstants.{MOST_TASKS, MOST_WORKERS}
+use Rattle.heap_base.specs.declared.limits.TheConstants.{MOST_WORKERS}
 use Rattle.heap_base.specs.Counting.{AsOften}
 use Rattle.graph_meaning.specs.Reach.{has_id}
 use Rattle.graph_meaning.specs.Roles.{RoleTable}
@@ -21,26 +21,25 @@ use Rattle.scan_job.specs.Gains.{Gain, GainsOf, lists_mark}
 use Rattle.scan_job.specs.Jobs.{graph_in, shared_meaning, scan_meaning}
 use Rattle.scan_job.specs.Scans.{AreAmong, task_at}
 use Rattle.scan_job.specs.Shared.{SharedHeap, shared_behind}
-use Rattle.scan_job.specs.States.{ScanState, turns_of}
+use Rattle.scan_job.specs.States.{ScanState, NoneSpent}
 
 abbrev pub cells_in : SharedHeap → ℕ
 cells_in s = length s.table.cells
 
--- What each phase asks of the jobs and the first tasks, whoever runs them: there are 1 to 16 jobs; every job is ready and has
--- turns for as many tasks as a phase may have; and there is a list of first tasks for each job, with room.
+-- What each phase asks of the jobs and the first tasks, whoever runs them: there are 1 to 16 jobs; every job is ready and
+-- none is spent; and there is a list of first tasks for each job, with room.
 pub record CanBeginPhase (s : SharedHeap) (js : List ScanState) (first : FirstLists) : Type 0 where
   pub some : 0 < length js
   pub few : length js ≤ MOST_WORKERS
   pub ready : AreReady shared_meaning s js
-  pub turns : All (λ j. MOST_TASKS < turns_of j) js
+  pub left : NoneSpent js
   pub lists : length first.lists ≡ length js
   pub list_room : cells_in s ≤ first.room
 
--- What each phase asks where a crew runs the jobs: every job is ready and has turns for as many tasks as a phase may have;
--- there is a job and a list of first tasks for each worker; and lists and crew have room.
+-- What each phase asks where a crew runs the jobs: every job is ready and none is spent; there is a job and a list of first tasks for each worker; and lists and crew have room.
 pub record CanScan (s : ScanShared) (js : List ScanState) (crew : Crew ScanState) (first : FirstLists) : Type 0 where
   pub ready : AreReady scan_meaning s js
-  pub turns : All (λ j. MOST_TASKS < turns_of j) js
+  pub left : NoneSpent js
   pub jobs : length js ≡ workers_of crew
   pub lists : length first.lists ≡ workers_of crew
   pub list_room : cells_in (shared_behind s) ≤ first.room
@@ -164,15 +163,16 @@ from_held held = record { mode = TakeUp; gains = λ g. TakeUpGains g held }
 abbrev pub from_roots : Phase
 from_roots = record { mode = Root; gains = RootGains }
 
--- The jobs js went through the phase and became ks.
+-- The jobs js went through the phase and became ks, none of them spent.
 pub record IsDone (s : SharedHeap) (phase : Phase) (js ks : List ScanState) : Type 0 where
   pub gains : GainsOf (graph_in s) (phase.gains (graph_in s)) js ks
   pub modes : AreIn phase.mode ks
   pub ready : AreReady shared_meaning s ks
-  pub turns : TurnsLast shared_meaning (MOST_TASKS + 1) js ks
+  pub left : NoneSpent ks
 
--- The jobs js have begun the phase with this workload: it can be run, and whatever run does it, the phase is done.
+-- The jobs js have begun the phase with this workload: it can be run, and whatever run does it, the phase is done
+-- where no job is spent afterwards.
 pub record HasBegun (s : SharedHeap) (phase : Phase) (js : List ScanState) (load : Workload ScanState) : Type 0 where
   pub many : length load.jobs ≡ length js
   pub can_run : (room : ℕ) → 2 * cells_in s < room → CanRunJobs s load room
-  pub done : (ks : List ScanState) → HasRunJobs s load ks → IsDone s phase js ks
+  pub done : (ks : List ScanState) → HasRunJobs s load ks → NoneSpent ks → IsDone s phase js ks

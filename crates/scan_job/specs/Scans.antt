@@ -10,7 +10,7 @@ use Rattle.steal_pool.specs.Jobs.{JobAfter}
 use Rattle.scan_job.specs.declared.mode.Mode.{Mode}
 use Rattle.scan_job.specs.declared.mode.Mode.TheVariants.{Owner, TakeUp, Root}
 use Rattle.scan_job.specs.Graphs.{StoppedGraph, is_border}
-use Rattle.scan_job.specs.States.{ScanState}
+use Rattle.scan_job.specs.States.{ScanState, IsSpent, IsUnspent}
 
 -- Cells that were met under one tag, in order, and those of them that were won.
 pub record Meeting : Type 0 where
@@ -79,8 +79,15 @@ put_tasks g mode m = map (task_at m.tag) (filter (is_put g mode) m.won)
 abbrev pub scan_meeting : StoppedGraph → Task → List ℕ → Meeting
 scan_meeting g t won = record { tag = t.tag; cells = g.targets t.cell; won = won }
 
--- What the job j may become by the task, and put meanwhile.
-pub record Works (g : StoppedGraph) (j : ScanState) (t : Task) (after : JobAfter ScanState) : Type 0 where
+-- The job j scanned the task's cell, became the job after it, and put its tasks meanwhile.
+pub record Scans (g : StoppedGraph) (j : ScanState) (t : Task) (after : JobAfter ScanState) : Type 0 where
   pub won : List ℕ
   pub meets : Meets g (scan_meeting g t won) j after.job
   pub puts : after.put ≡ put_tasks g j.mode (scan_meeting g t won)
+
+-- What the job j may become by the task, and put meanwhile.
+-- scans: it scans the task's cell
+-- idle: where it is spent, it stays as it is and puts nothing
+pub record Works (g : StoppedGraph) (j : ScanState) (t : Task) (after : JobAfter ScanState) : Type 0 where
+  pub scans : IsUnspent j → Scans g j t after
+  pub idle : IsSpent j → (after.job ≡ j) × (after.put ≡ [])

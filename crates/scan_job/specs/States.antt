@@ -1,5 +1,6 @@
 -- What contracts see of a scan job.
-use Rattle.std.specs.Prelude.{◌≡◌, ℕ, ◌-◌, ◌/◌, ◌<◌, ◌≤◌, List, [], length, map, replicate, IsTrue, slice_index}
+use Rattle.std.specs.Prelude.{◌≡◌, ℕ, ◌-◌, ◌^◌, ◌<◌, ◌≤◌, List, [], length, map, replicate, IsTrue, slice_index}
+use Rattle.std.specs.List.{All}
 use Rattle.heap_base.specs.declared.limits.TheConstants.{MOST_SLOTS}
 use Rattle.heap_base.specs.Counting.{IsOnce}
 use Rattle.graph_meaning.specs.Reach.{has_id}
@@ -45,6 +46,18 @@ passes_of js = map (λ (j : ScanState). j.pass) js
 abbrev pub wins_left : ScanState → ℕ
 wins_left j = j.cells - length (wins j.pass)
 
--- how many objects its pass may still scan, where each has as many slots as all may have together
+-- The job is spent: its pass has fewer meets left than a task may have slots.
+abbrev pub IsSpent : ScanState → Type 0
+IsSpent j = j.pass.left < MOST_SLOTS
+
+-- its pass has a meet left for each slot of a task
+abbrev pub IsUnspent : ScanState → Type 0
+IsUnspent j = MOST_SLOTS ≤ j.pass.left
+
+-- no job of these is spent
+abbrev pub NoneSpent : List ScanState → Type 0
+NoneSpent js = All IsUnspent js
+
+-- How many tasks it may still be asked to do: more than any run has, since a spent job does nothing.
 abbrev pub turns_of : ScanState → ℕ
-turns_of j = j.pass.left / MOST_SLOTS
+turns_of j = 2 ^ 63

@@ -1,10 +1,11 @@
+ghost use Rattle.std.specs.Bool.{OnTrue, OnFalse};
 ghost use Rattle.std.specs.Prelude.{◌≡◌, [], IfOk};
 ghost use Rattle.header_rule.specs.Passes.{IsFresh};
-ghost use Rattle.scan_job.specs.States.{IsWithinWins, new_state};
+ghost use Rattle.scan_job.specs.States.{IsWithinWins, IsSpent, IsUnspent, new_state};
 
 use crate::mode::Mode;
 use header_rule::Pass;
-use heap_base::OutOfMemory;
+use heap_base::{MOST_SLOTS, OutOfMemory};
 use instance_ledger::Tally;
 use std::alloc::Global;
 use std::marker::Model;
@@ -81,6 +82,14 @@ impl ScanJob {
         ensures within_wins { IsWithinWins self.now }
     {
         &self.tally
+    }
+
+    /// Whether it is spent: its pass has fewer meets left than a task may have slots. Then it does nothing more.
+    pub fn is_spent(&self) -> bool
+        ensures spent { OnTrue result (IsSpent self.now) }
+        ensures unspent { OnFalse result (IsUnspent self.now) }
+    {
+        self.pass.left() < MOST_SLOTS as u64
     }
 
     /// Its pass.

@@ -16,5 +16,5 @@ pub use laws::{
     under_owners_is_by_a_path,
 };
 pub use mode::Mode;
-pub use phase::{ScanContext, begin_phase, run_scans};
+pub use phase::{ScanContext, begin_phase, none_is_spent, run_scans};
 pub use shared::ScanShared;

@@ -7,7 +7,7 @@ ghost use Rattle.scan_job.specs.declared.mode.Mode.TheVariants.{Root};
 ghost use Rattle.scan_job.specs.Cells.{is_owned_by};
 ghost use Rattle.scan_job.specs.Jobs.{IsReady, shared_graph};
 ghost use Rattle.scan_job.specs.Scans.{Meets, one_meeting, is_held, is_put, marks_on, put_tasks};
-ghost use Rattle.scan_job.specs.States.{IsWithinWins, wins_left, turns_of};
+ghost use Rattle.scan_job.specs.States.{IsWithinWins, wins_left};
 
 use crate::job::ScanJob;
 use crate::mode::Mode;
@@ -133,7 +133,7 @@ impl ScanJob {
     pub fn meet_root(&mut self, shared: &ScanShared<'_>, cell: u32) -> bool
         requires ready { IsReady self.old shared.now }
         requires mode { self.old.mode ≡ Root }
-        requires turns { 0 < turns_of self.old }
+        requires left { 0 < self.old.pass.left }
         requires cell { IsSome (id_in shared.now.table.now cell) }
         ensures meets { Meets (shared_graph shared.now) (one_meeting 0 cell result) self.old self.new }
         ensures held { self.new.held ≡ self.old.held }

@@ -7,12 +7,14 @@ ghost use Rattle.scan_job.specs.States.{IsSameJob, wins_left, turns_of};
 
 use crate::job::ScanJob;
 use crate::shared::ScanShared;
-use heap_base::MOST_SLOTS;
 use object_table::Edges;
 use steal_pool::{Job, Outbox, Task};
 
 /// The words of so many cells are near at hand in any case: 64 KiB, which a processor's cache holds.
 const NEAR_CELLS: u32 = 8_192;
+
+/// More tasks than any run has: 2^63.
+const MOST_TURNS: u64 = 9_223_372_036_854_775_808;
 
 impl<'a> Job<ScanShared<'a>> for ScanJob {
     ghost use Rattle.scan_job.specs.Jobs.{scan_meaning};
@@ -26,16 +28,19 @@ impl<'a> Job<ScanShared<'a>> for ScanJob {
         (self.cells - self.won) as u64
     }
 
-    /// How many objects its pass may still scan, of as many slots as all objects may have together.
+    /// It may be asked to do any number of tasks: where it is spent, it does nothing.
     fn turns(&self) -> u64
         ensures { result ≡ turns_of self.now }
     {
-        self.pass.left() / MOST_SLOTS as u64
+        MOST_TURNS
     }
 
     /// Meets what each slot of the task's cell leads to, once and in order. Their words are looked at before the first is met,
-    /// so that it waits for all of them at once.
+    /// so that it waits for all of them at once. A spent job does nothing.
     fn work(&mut self, shared: &ScanShared<'a>, task: Task, out: &mut Outbox) {
+        if self.is_spent() {
+            return;
+        }
         let edges = shared.table.edges_at(task.cell);
         self.prefetch_targets(shared, &edges);
         for slot in 0..edges.len() {

@@ -4,7 +4,7 @@ use Rattle.scan_job.specs.Scans.{put_tasks}
 use Rattle.scan_job.specs.Jobs.{shared_graph}
 use Rattle.scan_job.proofs.Placing.{held-from_node, is-whole}
 use Rattle.scan_job.proofs.Fitting.{fit_tasks-is, fit-node, puts-fit}
-use Rattle.scan_job.proofs.SlotSteps.{HasScanned, scan-begins, room-left, left-for-slot, scan-passes, scan-meets, all_slots, scan-works, scan-room, scan-turns}
+use Rattle.scan_job.proofs.SlotSteps.{HasScanned, scan-begins, room-left, left-for-slot, scan-passes, scan-meets, all_slots, scan-scans, scan-works, scan-room}
 use Rattle.scan_job.proofs.scanning.ScanJobJobScanShared.work.Goals as goal
 use Rattle.scan_job.proofs.scanning.ScanJobJobScanShared.work.Goals.{in-Some, in_default}
 
@@ -24,7 +24,7 @@ pub meet_and_put-requires-clause-left : goal.meet_and_put-requires-clause-left
 meet_and_put-requires-clause-left c =
     let within : c.loop-slot.slot < length (slots_in c.args.shared.now.table.now c.args.task.cell) =
     (let e = c.len-slot-end.ensures.count in let f = c.edges_at-edges.ensures.edges.count in let t = c.loop-slot-test.true in omega arith) in
-    left-for-slot c.args.shared.now c.args.task c.loop-slot.slot _ _ c.loop-slot.invariant within c.requires.turns
+    left-for-slot c.args.shared.now c.args.task c.loop-slot.slot _ _ c.loop-slot.invariant within c.if-is_spent.ensures.unspent
 
 pub meet_and_put-requires-clause-spare : goal.meet_and_put-requires-clause-spare
 meet_and_put-requires-clause-spare c =
@@ -61,21 +61,10 @@ returns-clause-puts c =
     (let e = c.len-slot-end.ensures.count in let f = c.edges_at-edges.ensures.edges.count in let e2 = c.loop-slot-test.false in let e3 = c.loop-slot.auto.slot-end in omega arith) in
     let p = subst (λ (n : ℕ). HasScanned s t n (record { job = j; out = c.args.out.now }) (record { job = k; out = c.loop-slot.out })) done c.loop-slot.invariant in
     let put = put_tasks g j.mode (all_slots s t _ _ p) in
-    let works = scan-works s t _ _ p in
     record {
       put = put;
       tasks = p.tasks;
-      works = works;
-      are_fit = puts-fit g j t k put (is-whole s.table.now s.roles.now c.requires.ready.roles) works c.requires.fit;
+      works = scan-works s t _ _ p c.if-is_spent.ensures.unspent;
+      are_fit = puts-fit g j t k put (is-whole s.table.now s.roles.now c.requires.ready.roles) (scan-scans s t _ _ p) c.requires.fit;
       room = scan-room s t _ _ p;
     }
-
-pub returns-clause-turns : goal.returns-clause-turns
-returns-clause-turns c =
-    let s = c.args.shared.now in
-    let t = c.args.task in
-    let done : c.loop-slot.slot ≡ length (slots_in s.table.now t.cell) =
-    (let e = c.len-slot-end.ensures.count in let f = c.edges_at-edges.ensures.edges.count in let e2 = c.loop-slot-test.false in let e3 = c.loop-slot.auto.slot-end in omega arith) in
-    scan-turns s t (record { job = c.args.self.now; out = c.args.out.now }) (record { job = c.loop-slot.self; out = c.loop-slot.out })
-    (subst (λ (n : ℕ). HasScanned s t n (record { job = c.args.self.now; out = c.args.out.now }) (record { job = c.loop-slot.self; out = c.loop-slot.out }))
-    done c.loop-slot.invariant)

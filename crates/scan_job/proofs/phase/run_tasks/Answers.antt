@@ -2,7 +2,7 @@ use Rattle.steal_pool.specs.Runs.{most_tasks}
 use Rattle.scan_job.specs.Jobs.{shared_meaning}
 use Rattle.scan_job.specs.Shared.{shared_behind}
 use Rattle.scan_job.proofs.Idle.{idle-run, idle-turns}
-use Rattle.scan_job.proofs.phase.run_scans.Goals as goal
+use Rattle.scan_job.proofs.phase.run_tasks.Goals as goal
 
 pub returns-else-not-are_empty-clause-ran : goal.returns-else-not-are_empty-clause-ran
 returns-else-not-are_empty-clause-ran g c =
