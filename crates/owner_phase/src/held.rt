@@ -1,12 +1,13 @@
 //! Take-up: the scans from the ownees at which the scans from the owners stopped.
 ghost use Rattle.std.specs.List.{All};
-ghost use Rattle.std.specs.Prelude.{◌≡◌, ℕ, ◌*◌, ◌<◌, ◌≤◌, [], length, replicate};
+ghost use Rattle.std.specs.Prelude.{◌≡◌, ℕ, ◌*◌, ◌<◌, ◌≤◌, [], length, replicate, IfOk};
 ghost use Rattle.heap_base.specs.declared.limits.TheConstants.{MOST_OBJECTS, MOST_WORKERS};
 ghost use Rattle.scan_job.specs.Jobs.{shared_graph};
 ghost use Rattle.scan_job.specs.Phases.{CanBeginPhase, CanScan, HasBegun, IsDone, from_held, all_held, AreUnderOwners, task_lists, held_firsts};
 ghost use Rattle.scan_job.specs.Shared.{shared_behind};
 ghost use Rattle.steal_pool.specs.Runs.{workers_of, room_of};
 
+use heap_base::OutOfMemory;
 use scan_job::{Mode, ScanContext, ScanJob, ScanShared, begin_phase, run_scans};
 use std::thread::Threads;
 use steal_pool::{Crew, FirstTasks, Gate, Task};
@@ -55,7 +56,7 @@ pub fn begin_take_up(shared: &ScanShared<'_>, jobs: &mut Vec<ScanJob>, first: &m
 /// Scans from every cell that the jobs hold, which holds an object that is under owners and no owner. Held cell
 /// number k, from 0, by job and then in the order of `held()`, goes first to worker k modulo the number of workers;
 /// the lists stay in `first`. Afterwards nothing is held, and no mark was set. It takes no memory; where nothing is
-/// held no thread is started.
+/// held no thread is started. It is out of memory where a job is spent afterwards.
 pub fn take_up<R: Threads + Sync, G: Gate>(
     rt: &R,
     crew: &mut Crew<ScanJob>,
@@ -63,11 +64,11 @@ pub fn take_up<R: Threads + Sync, G: Gate>(
     jobs: &mut Vec<ScanJob>,
     first: &mut FirstTasks,
     gate: &G,
-)
+) -> Result<(), OutOfMemory>
     requires scan { CanScan shared.now jobs.old.items crew.old first.old }
     requires held { AreUnderOwners (shared_graph shared.now) (all_held jobs.old.items) }
-    ensures done { IsDone (shared_behind shared.now) (from_held (all_held jobs.old.items)) jobs.old.items jobs.new.items }
-    ensures none_held { all_held jobs.new.items ≡ [] }
+    ensures done { IfOk result (λ _. IsDone (shared_behind shared.now) (from_held (all_held jobs.old.items)) jobs.old.items jobs.new.items) }
+    ensures none_held { IfOk result (λ _. all_held jobs.new.items ≡ []) }
     ensures first { first.new.lists ≡ task_lists (workers_of crew.old) (held_firsts jobs.old.items) }
     ensures first_room { first.new.room ≡ first.old.room }
     ensures room { room_of crew.new ≡ room_of crew.old }
@@ -75,5 +76,5 @@ pub fn take_up<R: Threads + Sync, G: Gate>(
 {
     begin_take_up(shared, jobs, first);
     let context = ScanContext { rt, shared, gate };
-    run_scans(context, crew, jobs, first);
+    run_scans(context, crew, jobs, first)
 }

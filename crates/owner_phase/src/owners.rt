@@ -1,11 +1,12 @@
 //! The scans from the owners.
-ghost use Rattle.std.specs.Prelude.{◌≡◌, ◌<◌, ◌≤◌, [], length, map, replicate};
+ghost use Rattle.std.specs.Prelude.{◌≡◌, ◌<◌, ◌≤◌, [], length, map, replicate, IfOk};
 ghost use Rattle.heap_base.specs.declared.limits.TheConstants.{MOST_OBJECTS};
 ghost use Rattle.scan_job.specs.Phases.{CanBeginPhase, CanScan, HasBegun, IsDone, from_owners, task_lists, owner_firsts};
 ghost use Rattle.scan_job.specs.Scans.{task_at};
 ghost use Rattle.scan_job.specs.Shared.{shared_behind};
 ghost use Rattle.steal_pool.specs.Runs.{workers_of, room_of};
 
+use heap_base::OutOfMemory;
 use scan_job::{Mode, ScanContext, ScanJob, ScanShared, begin_phase, run_scans};
 use std::thread::Threads;
 use steal_pool::{Crew, FirstTasks, Gate, Task};
@@ -46,7 +47,7 @@ pub fn begin_owner_phase(shared: &ScanShared<'_>, jobs: &mut Vec<ScanJob>, first
 /// Scans from every owner. Owner number k, from 0, goes first to worker k modulo the number of workers, in the order
 /// of the roles; the lists stay in `first`. What the jobs held before is taken away. Afterwards they hold the ownees
 /// at which the scans stopped, and all is as `take_up` asks. It takes no memory; where there is no owner no thread is
-/// started.
+/// started. It is out of memory where a job is spent afterwards.
 pub fn owner_phase<R: Threads + Sync, G: Gate>(
     rt: &R,
     crew: &mut Crew<ScanJob>,
@@ -54,9 +55,9 @@ pub fn owner_phase<R: Threads + Sync, G: Gate>(
     jobs: &mut Vec<ScanJob>,
     first: &mut FirstTasks,
     gate: &G,
-)
+) -> Result<(), OutOfMemory>
     requires { CanScan shared.now jobs.old.items crew.old first.old }
-    ensures done { IsDone (shared_behind shared.now) from_owners jobs.old.items jobs.new.items }
+    ensures done { IfOk result (λ _. IsDone (shared_behind shared.now) from_owners jobs.old.items jobs.new.items) }
     ensures first { first.new.lists ≡ task_lists (workers_of crew.old) (owner_firsts shared.now.roles.now) }
     ensures first_room { first.new.room ≡ first.old.room }
     ensures room { room_of crew.new ≡ room_of crew.old }
@@ -64,5 +65,5 @@ pub fn owner_phase<R: Threads + Sync, G: Gate>(
 {
     begin_owner_phase(shared, jobs, first);
     let context = ScanContext { rt, shared, gate };
-    run_scans(context, crew, jobs, first);
+    run_scans(context, crew, jobs, first)
 }
