@@ -16,7 +16,7 @@ use Rattle.scan_job.specs.Graphs.{StoppedGraph}
 use Rattle.scan_job.specs.Jobs.{graph_in, IsReadyFor}
 use Rattle.scan_job.specs.Phases.{cells_in, put_last, task_lists, root_firsts}
 use Rattle.scan_job.specs.Scans.{one_meeting, Meets, task_at}
-use Rattle.scan_job.specs.States.{ScanState, IsWithinWins, turns_of}
+use Rattle.scan_job.specs.States.{ScanState, IsUnspent, IsWithinWins}
 use Rattle.scan_job.proofs.Dealing.{dealt-room, dealt-snoc}
 use Rattle.scan_job.proofs.Meetings.{won_of, few-wins, meets-none, meets-both}
 use Rattle.scan_job.proofs.PhaseRuns.{le-times}
@@ -44,9 +44,9 @@ meets-no_roots s n j fs none = (
   refl,
 )
 
--- the meetings with the first roots use up few of the meets that are left
-pub turns-left : (s : SharedHeap) (roots : ℕ) (old new : JobAndLists) → MeetsRoots s roots old new → roots ≤ MOST_ROOTS → turns_of old.job ≤ turns_of new.job + 1
-turns-left s roots old new p few =
+-- a meet is left for each root that is left
+pub left-for-root : (s : SharedHeap) (roots : ℕ) (old new : JobAndLists) → MeetsRoots s roots old new → roots < MOST_ROOTS → IsUnspent old.job → 0 < new.job.pass.left
+left-for-root s roots old new p few unspent =
     let met = ap length p.meets.adds in
     let sum = length-append (adds old.job.pass) (first_roots s.table roots) in
     let short = length-filter_map (λ root. cell_of s.table root.1) (take roots s.table.table.roots) in

@@ -1,11 +1,11 @@
 -- The run of the root phase: what it needs and leaves.
-use Rattle.std.proofs.Common.{◌≡◌, ℕ, ◌+◌, ◌^◌, ◌<◌, ◌≤◌, not, List, [], ◌∷◌, length, get_or, set, map, sym, ap, ◌∙◌, subst, arith, length-set}
+use Rattle.std.proofs.Common.{◌≡◌, ◌<◌, not, List, [], ◌∷◌, length, get_or, set, map, sym, ap, ◌∙◌, subst, arith, length-set}
 use Rattle.std.specs.List.{All, filter_map}
 use Rattle.std.proofs.Math.Seq.{take-length}
 use Rattle.std.proofs.lemmas.List.{length-map}
 use Rattle.graph_meaning.proofs.Membership.{length-filter_le}
 use Rattle.steal_pool.specs.FirstLists.{FirstLists}
-use Rattle.steal_pool.specs.Runs.{most_tasks, AreReady, TurnsLast}
+use Rattle.steal_pool.specs.Runs.{AreReady}
 use Rattle.scan_job.specs.declared.mode.Mode.TheVariants.{Root}
 use Rattle.scan_job.specs.Shared.{SharedHeap}
 use Rattle.object_table.specs.Placed.{cell_of}
@@ -14,25 +14,16 @@ use Rattle.scan_job.specs.Graphs.{StoppedGraph, IsWhole}
 use Rattle.scan_job.specs.Jobs.{graph_in, IsReadyFor, shared_meaning}
 use Rattle.scan_job.specs.Phases.{cells_in, CanBeginPhase, HasBegun, starting_in, task_lists, root_firsts, BeginsAtRoots, from_roots}
 use Rattle.scan_job.specs.Scans.{Meets, task_at}
-use Rattle.scan_job.specs.States.{ScanState, turns_of}
+use Rattle.scan_job.specs.States.{ScanState, IsUnspent, NoneSpent}
 use Rattle.scan_job.proofs.Gaining.{run-modes, root_meeting, roots-fit, root-phase}
 use Rattle.scan_job.proofs.PhaseRuns.{le-times}
-use Rattle.scan_job.proofs.Starting.{IsStart, all-map, all-cons, all-tail, graph-whole, begun-ready, begun-modes, begun-last, few-tasks, can-run}
+use Rattle.scan_job.proofs.Starting.{IsStart, all-map, all-cons, all-tail, graph-whole, begun-ready, begun-modes, can-run}
 use Rattle.root_phase.specs.Roots.{JobAndLists, MeetsRoots}
-use Rattle.root_phase.proofs.RootMeetings.{turns-left}
-use Rattle.heap_base.specs.declared.limits.TheConstants.{MOST_TASKS}
 
 -- P of all jobs where it is true of the new first one
 all-set : {X : Type 0} (P : X → Type 0) (x : X) (xs : List X) → P x → All P xs → All P (set xs 0 x)
 all-set P x [] here all = all
 all-set P x (y ∷ xs) here all = all-cons P x xs here (all-tail P y xs all)
-
-first-last : (n m : ℕ) (js ks : List ScanState) (j k : ScanState) → n + 1 ≤ m → j ≡ get_or (map (starting_in Root) js) 0 j →
-    turns_of j ≤ turns_of k + 1 → TurnsLast shared_meaning n (set (map (starting_in Root) js) 0 k) ks → TurnsLast shared_meaning m js ks
-first-last n m [] ks j k enough is met last = last
-first-last n m (i ∷ js) [] j k enough is met last = absurd last
-first-last n m (i ∷ js) (l ∷ ks) j k enough is met last =
-    (let a = last.0 in let b = ap turns_of is in omega arith, begun-last Root n m js ks (omega arith) last.1)
 
 -- the first of jobs that have begun the phase is ready
 pub first-of-begun : (s : SharedHeap) (js begins : List ScanState) (j : ScanState) → 0 < length js → AreReady shared_meaning s js →
@@ -41,6 +32,14 @@ first-of-begun s js begins j some ready are_begun is =
     let l = ap length are_begun ∙ length-map js (starting_in Root) in
     let all = subst (λ zs. AreReady shared_meaning s zs) (sym are_begun) (begun-ready s Root js ready) in
     subst (λ z. IsReadyFor z s) (sym is) (all 0 j (omega arith))
+
+-- and it is not spent where none of them was
+pub first-unspent : (js begins : List ScanState) (j : ScanState) → 0 < length js → NoneSpent js → begins ≡ map (starting_in Root) js →
+    j ≡ get_or begins 0 j → IsUnspent j
+first-unspent js begins j some left are_begun is =
+    let l = ap length are_begun ∙ length-map js (starting_in Root) in
+    let all = subst NoneSpent (sym are_begun) (all-map (starting_in Root) IsUnspent IsUnspent (λ i u. u) js left) in
+    subst IsUnspent (sym is) (all 0 j (omega arith))
 
 -- A phase from the roots, whose first job met them.
 pub record RootStart (s : SharedHeap) (js : List ScanState) (first : FirstLists) : Type 0 where
@@ -71,17 +70,6 @@ module _ (s : SharedHeap) (js : List ScanState) (first : FirstLists) (p : RootSt
   lists : p.new.lists ≡ task_lists (length js) (root_firsts g p.met.won)
   lists = p.met.lists ∙ ap (λ n. task_lists n (root_firsts g p.met.won)) p.workers
 
-  old-turns : MOST_TASKS < turns_of p.old.job
-  old-turns =
-      let all = all-map (starting_in Root) (λ j. MOST_TASKS < turns_of j) (λ j. MOST_TASKS < turns_of j) (λ j l. l) js p.can.turns in
-      let l = length-map js (starting_in Root) in
-      let a = p.can.some in
-      subst (λ j. MOST_TASKS < turns_of j) (sym first-begun) (all 0 p.old.job (omega arith))
-
-  turns-met : turns_of p.old.job ≤ turns_of p.new.job + 1
-  turns-met =
-      turns-left s (length s.table.table.roots) p.old p.new p.met p.ready.sound.limits.roots
-
   abbrev starts : List ScanState
   starts = set (map (starting_in Root) js) 0 p.new.job
 
@@ -92,9 +80,6 @@ module _ (s : SharedHeap) (js : List ScanState) (first : FirstLists) (p : RootSt
   start = record {
     ready = all-set (λ j. IsReadyFor j s) p.new.job (map (starting_in Root) js) p.ready (begun-ready s Root js p.can.ready);
     modes = all-set (λ j. j.mode ≡ Root) p.new.job (map (starting_in Root) js) (met-roots.mode ∙ first-mode) (begun-modes s Root js);
-    turns =
-        all-set (λ j. MOST_TASKS ≤ turns_of j) p.new.job (map (starting_in Root) js) (let a = old-turns in let b = turns-met in omega arith)
-        (all-map (starting_in Root) (λ j. MOST_TASKS < turns_of j) (λ j. MOST_TASKS ≤ turns_of j) (λ j l. omega arith) js p.can.turns);
     jobs = many;
     some = p.can.some;
     few_jobs = p.can.few;
@@ -121,15 +106,14 @@ module _ (s : SharedHeap) (js : List ScanState) (first : FirstLists) (p : RootSt
   from-starts : HasBegun s from_roots js (record { jobs = starts; first = p.new.lists })
   from-starts =
       let n = length js in
-      let few = few-tasks s Root n starts (root_firsts g p.met.won) p.new.lists start lists in
       record {
         many = many;
         can_run = can-run s Root n starts (root_firsts g p.met.won) p.new.lists start lists;
-        done = λ ks ran. record {
-          gains = root-phase s js ks p.old.job p.new.job p.met.won p.new.lists n p.can.some p.can.some whole first-begun met-roots lists ran.ran;
-          modes = run-modes s Root p.new.lists starts ks (let a = many in let b = p.can.some in omega arith) start.modes ran.ran;
+        done = λ ks ran left. record {
+          gains = root-phase s js ks p.old.job p.new.job p.met.won p.new.lists n p.can.some p.can.some whole first-begun met-roots lists ran.ran left;
+          modes = run-modes s Root p.new.lists starts ks (let a = many in let b = p.can.some in omega arith) start.modes ran.ran left;
           ready = ran.ready;
-          turns = first-last (most_tasks shared_meaning starts p.new.lists) (MOST_TASKS + 1) js ks p.old.job p.new.job (omega arith) first-begun turns-met ran.turns;
+          left = left;
         };
       }
 

@@ -5,7 +5,7 @@ ghost use Rattle.scan_job.specs.declared.mode.Mode.TheVariants.{Root};
 ghost use Rattle.scan_job.specs.Jobs.{IsReady};
 ghost use Rattle.scan_job.specs.Phases.{cells_in};
 ghost use Rattle.scan_job.specs.Shared.{shared_behind};
-ghost use Rattle.scan_job.specs.States.{IsWithinWins, turns_of};
+ghost use Rattle.scan_job.specs.States.{IsWithinWins, IsUnspent};
 ghost use Rattle.root_phase.specs.Roots.{MeetsRoot, MeetsRoots};
 
 use scan_job::{ScanJob, ScanShared};
@@ -15,7 +15,7 @@ use steal_pool::{FirstTasks, Task};
 fn meet_one(shared: &ScanShared<'_>, job: &mut ScanJob, cell: u32) -> bool
     requires ready { IsReady job.old shared.now }
     requires mode { job.old.mode ≡ Root }
-    requires turns { 0 < turns_of job.old }
+    requires left { 0 < job.old.pass.left }
     requires cell { IsSome (id_in shared.now.table.now cell) }
     ensures meets { MeetsRoot (shared_behind shared.now) (record { cell = cell; goes_on = result }) job.old job.new }
     ensures ready { IsReady job.new shared.now }
@@ -31,7 +31,7 @@ pub fn meet_roots(shared: &ScanShared<'_>, job: &mut ScanJob, first: &mut FirstT
     requires some { 0 < workers }
     requires ready { IsReady job.old shared.now }
     requires mode { job.old.mode ≡ Root }
-    requires turns { 1 < turns_of job.old }
+    requires left { IsUnspent job.old }
     requires lists { first.old.lists ≡ replicate workers [] }
     requires room { cells_in (shared_behind shared.now) ≤ first.old.room }
     ensures met { MeetsRoots (shared_behind shared.now) (length shared.now.table.now.table.roots) (record { job = job.old; lists = first.old.lists }) (record { job = job.new; lists = first.new.lists }) }

@@ -3,7 +3,7 @@ use Rattle.std.proofs.lemmas.List.{length-replicate}
 use Rattle.scan_job.specs.Shared.{shared_behind}
 use Rattle.scan_job.proofs.Placing.{is-whole, root-there, held-from_node}
 use Rattle.root_phase.specs.Roots.{JobAndLists}
-use Rattle.root_phase.proofs.RootMeetings.{NextRoot, meets-no_roots, turns-left, passed-by, below, has-room, goes-on}
+use Rattle.root_phase.proofs.RootMeetings.{NextRoot, meets-no_roots, left-for-root, passed-by, below, has-room, goes-on}
 use Rattle.root_phase.proofs.meeting.meet_roots.Goals as goal
 use Rattle.root_phase.proofs.meeting.meet_roots.Goals.{After-meet_one, then-meet_one, else-meet_one}
 
@@ -33,15 +33,13 @@ loop-root-init c =
     let first = meets-no_roots (shared_behind c.args.shared.now) c.args.workers c.args.job.now c.args.first.now.lists c.requires.lists in
     record { met = first.0; number = first.1; ready = c.requires.ready; room = refl }
 
-pub meet_one-requires-clause-turns : goal.meet_one-requires-clause-turns
-meet_one-requires-clause-turns c =
+pub meet_one-requires-clause-left : goal.meet_one-requires-clause-left
+meet_one-requires-clause-left c =
     let roots = c.requires.ready.sound.limits.roots in
     let count = c.roots-root-end.ensures.count in
     let within = c.loop-root-test.true in
-    let t =
-    turns-left (shared_behind c.args.shared.now) c.loop-root.root (record { job = c.args.job.now; lists = c.args.first.now.lists })
-    (record { job = c.loop-root.job; lists = c.loop-root.first.lists }) c.loop-root.invariant.met (omega arith) in
-    omega arith
+    left-for-root (shared_behind c.args.shared.now) c.loop-root.root (record { job = c.args.job.now; lists = c.args.first.now.lists })
+    (record { job = c.loop-root.job; lists = c.loop-root.first.lists }) c.loop-root.invariant.met (omega arith) c.requires.left
 
 pub meet_one-requires-clause-cell : goal.meet_one-requires-clause-cell
 meet_one-requires-clause-cell c =

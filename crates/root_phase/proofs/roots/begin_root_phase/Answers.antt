@@ -1,13 +1,17 @@
 use Rattle.std.proofs.Common.{[], length, ap, ◌∙◌}
 use Rattle.std.proofs.lemmas.List.{length-replicate}
 use Rattle.scan_job.specs.Shared.{shared_behind}
-use Rattle.root_phase.proofs.RootRuns.{RootStart, first-of-begun, root-begun, root-first}
+use Rattle.root_phase.proofs.RootRuns.{RootStart, first-of-begun, first-unspent, root-begun, root-first}
 use Rattle.root_phase.proofs.roots.begin_root_phase.Goals as goal
 
 pub meet_roots-requires-clause-ready : goal.meet_roots-requires-clause-ready
 meet_roots-requires-clause-ready c =
     first-of-begun (shared_behind c.args.shared.now) c.args.jobs.now.items c.begin_phase.new.jobs.items c.index_mut.result.now c.requires.some
     c.requires.ready c.begin_phase.ensures c.index_mut.ensures.value
+
+pub meet_roots-requires-clause-left : goal.meet_roots-requires-clause-left
+meet_roots-requires-clause-left c =
+    first-unspent c.args.jobs.now.items c.begin_phase.new.jobs.items c.index_mut.result.now c.requires.some c.requires.left c.begin_phase.ensures c.index_mut.ensures.value
 
 pub returns : goal.returns
 returns c =
