@@ -54,7 +54,7 @@ module _ (s : SharedHeap) (js : List ScanState) (first : FirstLists) (fits : Fit
           placed = placed;
           sound = sound;
         });
-    turns = λ k d within. (let left = (fits.new k d within).is_new.fresh.left in omega arith);
+    left = λ k d within. (let left = (fits.new k d within).is_new.fresh.left in omega arith);
     lists = fits.lists;
     list_room = (let a = fits.list_room in let b = fits.cells in omega arith);
   }
@@ -64,7 +64,7 @@ all-new cells kinds js new k d within = (new k d within).is_new
 
 -- ---- afterwards
 
-grown-many : (g : StoppedGraph) (js : List ScanState) (gains : List Gain) (ks : List ScanState) → Each (Grows g) js gains ks → length ks ≡ length js
+pub grown-many : (g : StoppedGraph) (js : List ScanState) (gains : List Gain) (ks : List ScanState) → Each (Grows g) js gains ks → length ks ≡ length js
 grown-many g [] gains ks e = ap length e.1
 grown-many g (j ∷ js) [] ks e = absurd e
 grown-many g (j ∷ js) (a ∷ gains) [] e = absurd e

@@ -9,8 +9,8 @@ use Rattle.heap_marking.proofs.TracedWords.{are-closed, is-trace, count-of}
 use Rattle.heap_marking.proofs.WholeTrace.{can-begin, all-new, many-after, passes-after}
 use Rattle.heap_marking.proofs.marking.trace.Goals as goal
 
-pub run_phases-requires-clause-scan : goal.run_phases-requires-clause-scan
-run_phases-requires-clause-scan g c κs within =
+pub run_phases-requires-after_bounds : goal.run_phases-requires-after_bounds
+run_phases-requires-after_bounds g c κs within =
     let kit = c.args.kit in
     let m = kit.memory in
     let begins = can-begin _ m.jobs.items m.first (record {
@@ -25,7 +25,7 @@ run_phases-requires-clause-scan g c κs within =
     c.requires.roles c.cells-cells.ensures.placed c.cells-cells.ensures.sound in
     record {
       ready = begins.ready;
-      turns = begins.turns;
+      left = begins.left;
       jobs = kit.job_each;
       lists = begins.lists ∙ kit.job_each;
       list_room = begins.list_room;
@@ -34,14 +34,14 @@ run_phases-requires-clause-scan g c κs within =
 
 pub merge_tallies-requires-clause-few : goal.merge_tallies-requires-clause-few
 merge_tallies-requires-clause-few g c =
-    let many = many-after (graph_of c.args.table.now c.args.roles.now) c.args.kit.memory.jobs.items c.run_phases.new.jobs.items c.run_phases.ensures.phases in
+    let many = many-after (graph_of c.args.table.now c.args.roles.now) c.args.kit.memory.jobs.items c.run_phases.new.jobs.items c.in_ok-run_phases.ensures.phases in
     let few = c.args.kit.memory.few_jobs in
     let all = ap length c.deref.ensures.value in
     omega arith
 
 pub take_passes-requires-clause-room : goal.take_passes-requires-clause-room
 take_passes-requires-clause-room g c =
-    let many = many-after (graph_of c.args.table.now c.args.roles.now) c.args.kit.memory.jobs.items c.run_phases.new.jobs.items c.run_phases.ensures.phases in
+    let many = many-after (graph_of c.args.table.now c.args.roles.now) c.args.kit.memory.jobs.items c.run_phases.new.jobs.items c.in_ok-run_phases.ensures.phases in
     let room = c.args.kit.memory.pass_room in
     omega arith
 
@@ -50,7 +50,7 @@ close-words-requires g c =
     record {
       passes = subst (ArePassesOf c.args.kit.memory.headers) (sym c.take_passes.ensures)
           (passes-after (graph_of c.args.table.now c.args.roles.now) c.args.kit.memory.jobs.items c.run_phases.new.jobs.items
-          c.run_phases.ensures.phases _ c.run_phases.ensures.ready c.args.kit.memory.pass_each);
+          c.in_ok-run_phases.ensures.phases _ c.in_ok-run_phases.ensures.ready c.args.kit.memory.pass_each);
     }
 
 pub returns-clause-trace : goal.returns-clause-trace
@@ -61,7 +61,7 @@ returns-clause-trace g c h stand =
     let shut = c.close-words.ensures in
     let made = c.make.ensures in
     is-trace p c.args.roles.now c.cells-cells.ensures.placed c.cells-cells.ensures.sound c.requires.roles kit.memory.jobs.items ms
-    (all-new kit.memory.headers.cells (length kit.memory.tally) kit.memory.jobs.items kit.memory.new_jobs) c.run_phases.ensures.phases
+    (all-new kit.memory.headers.cells (length kit.memory.tally) kit.memory.jobs.items kit.memory.new_jobs) c.in_ok-run_phases.ensures.phases
     c.close-words.result
     (are-closed (length p.cells) kit.memory.headers.cells c.close-words.result ms c.take_passes.new.passes.items c.requires.cells c.take_passes.ensures shut.counts shut.marks shut.wins)
     h stand c.make.result made.words (shut.cells ∙ c.requires.cells) made.counts
@@ -76,7 +76,7 @@ returns-clause-counts g c h stand cell id at =
     let shut = c.close-words.ensures in
     ap (λ w. count_in w cell) c.make.ensures.words
     ∙ count-of p c.args.roles.now c.cells-cells.ensures.placed c.cells-cells.ensures.sound c.requires.roles kit.memory.jobs.items ms
-    (all-new kit.memory.headers.cells (length kit.memory.tally) kit.memory.jobs.items kit.memory.new_jobs) c.run_phases.ensures.phases
+    (all-new kit.memory.headers.cells (length kit.memory.tally) kit.memory.jobs.items kit.memory.new_jobs) c.in_ok-run_phases.ensures.phases
     c.close-words.result
     (are-closed (length p.cells) kit.memory.headers.cells c.close-words.result ms c.take_passes.new.passes.items c.requires.cells c.take_passes.ensures shut.counts shut.marks shut.wins)
     h stand cell id at
