@@ -140,7 +140,7 @@ impl Auditor {
             cost: cost.threads,
         };
         let kit = Kit::prepare_for(self.alloc, table.cells(), table.kinds(), workers)?;
-        let traced = trace(rt, kit, table, &roles, gate);
+        let traced = trace(rt, kit, table, &roles, gate)?;
         self.finish_collect(&roles, &traced)
     }
 }

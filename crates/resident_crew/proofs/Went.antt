@@ -1,16 +1,14 @@
 -- One phase of a trace after another, whoever runs the jobs.
-use Rattle.std.proofs.Common.{◌≡◌, ℕ, ◌+◌, ◌*◌, ◌<◌, ◌≤◌, List, length, ap, ◌∙◌, subst, arith}
-use Rattle.std.specs.List.{All}
+use Rattle.std.proofs.Common.{◌≡◌, ◌+◌, ◌*◌, List, length, ap, ◌∙◌, subst, arith}
 use Rattle.steal_pool.specs.declared.task.Task.{Task}
 use Rattle.steal_pool.specs.FirstLists.{FirstLists}
 use Rattle.scan_job.specs.Gains.{GainsOf}
 use Rattle.scan_job.specs.Jobs.{graph_in}
 use Rattle.scan_job.specs.Phases.{CanBeginPhase, CanRunJobs, HasBegun, HasRunJobs, IsDone, Phase, cells_in, task_lists}
 use Rattle.scan_job.specs.Shared.{SharedHeap}
-use Rattle.scan_job.specs.States.{ScanState, turns_of}
+use Rattle.scan_job.specs.States.{ScanState, NoneSpent}
 use Rattle.scan_job.proofs.Dealing.{length-dealt}
 use Rattle.heap_marking.proofs.NextPhase.{next-begins, same-many}
-use Rattle.heap_base.specs.declared.limits.TheConstants.{MOST_TASKS}
 
 module _ (phase : Phase) {l s : SharedHeap} (same : l ≡ s) where
   -- The jobs bs and their first tasks, with which this phase began over what is lent.
@@ -28,18 +26,18 @@ module _ (phase : Phase) {l s : SharedHeap} (same : l ≡ s) where
     pub can-run : CanRunJobs s (record { jobs = bs; first = then.lists }) (2 * cells_in s + 1)
     can-run = over-shared.can_run (2 * cells_in s + 1) (omega arith)
 
-    module _ {ks : List ScanState} (ran : HasRunJobs s (record { jobs = bs; first = then.lists }) ks) where
+    module _ {ks : List ScanState} (ran : HasRunJobs s (record { jobs = bs; first = then.lists }) ks) (left : NoneSpent ks) where
       -- then the phase is done
       pub is-done : IsDone s phase js ks
-      is-done = over-shared.done ks ran
+      is-done = over-shared.done ks ran left
 
       pub gained : GainsOf (graph_in s) (phase.gains (graph_in s)) js ks
       gained = is-done.gains
 
       pub as-many : length ks ≡ length js
-      as-many = same-many (MOST_TASKS + 1) js ks is-done.turns
+      as-many = same-many s phase js ks is-done
 
       -- and the next can begin
-      pub goes-on : (n : ℕ) → MOST_TASKS ≤ n → CanBeginPhase s js first → All (λ j. n + (MOST_TASKS + 1) < turns_of j) js → CanBeginPhase s ks then × All (λ j. n < turns_of j) ks
-      goes-on n enough can turns =
-          next-begins n s phase js ks first then enough can is-done turns (ap length b.lists ∙ length-dealt (length js) b.firsts) b.first_room
+      pub goes-on : CanBeginPhase s js first → CanBeginPhase s ks then
+      goes-on can =
+          next-begins s phase js ks first then can is-done (ap length b.lists ∙ length-dealt (length js) b.firsts) b.first_room

@@ -34,14 +34,14 @@ impl Job<ResidentScan> for ResidentJob {
         <ScanJob as Job<ScanShared<'static>>>::room(&self.scan)
     }
 
-    /// How many objects its pass may still scan, of as many slots as all objects may have together.
+    /// It may be asked to do any number of tasks: where it is spent, it does nothing.
     fn turns(&self) -> u64
         ensures { result ≡ turns_of self.now }
     {
         <ScanJob as Job<ScanShared<'static>>>::turns(&self.scan)
     }
 
-    /// Reads each slot of the task's cell once, in order, and meets what it leads to.
+    /// Reads each slot of the task's cell once, in order, and meets what it leads to. A spent job does nothing.
     fn work(&mut self, shared: &ResidentScan, task: Task, out: &mut Outbox) {
         self.scan.work(&shared.lend(), task, out);
     }

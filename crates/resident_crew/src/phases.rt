@@ -1,16 +1,14 @@
 //! The three phases of a trace, one after another, by workers that stay.
 ghost use Rattle.std.specs.Arc.{arc_value};
-ghost use Rattle.std.specs.List.{All};
-ghost use Rattle.std.specs.Prelude.{◌≡◌, ◌+◌, ◌*◌, ◌^◌, ◌<◌, length, IfOk};
+ghost use Rattle.std.specs.Prelude.{◌≡◌, ◌+◌, ◌*◌, length, IfOk};
 ghost use Rattle.steal_pool.specs.Runs.{AreReady};
 ghost use Rattle.scan_job.specs.Jobs.{graph_in, shared_meaning};
 ghost use Rattle.scan_job.specs.Phases.{CanBeginPhase, CanRunJobs, HasRunJobs, cells_in};
 ghost use Rattle.scan_job.specs.Shared.{shared_behind};
-ghost use Rattle.scan_job.specs.States.{turns_of};
+ghost use Rattle.scan_job.specs.States.{NoneSpent};
 ghost use Rattle.heap_marking.specs.TracedCells.{ThreePhases};
 ghost use Rattle.parked_crew.specs.TaskCrews.{workers_of};
 ghost use Rattle.resident_crew.specs.Scans.{shared_by_scan};
-ghost use Rattle.heap_base.specs.declared.limits.TheConstants.{MOST_TASKS};
 
 use crate::job::ResidentJob;
 use crate::scan::ResidentScan;
@@ -18,7 +16,7 @@ use heap_base::OutOfMemory;
 use owner_phase::{begin_owner_phase, begin_take_up};
 use parked_crew::Residents;
 use root_phase::begin_root_phase;
-use scan_job::{ScanJob, ScanShared};
+use scan_job::{ScanJob, ScanShared, none_is_spent};
 use std::alloc::Global;
 use std::sync::{Arc, Wait};
 use steal_pool::{FirstTasks, Gate};
@@ -34,7 +32,8 @@ pub struct TraceContext<'a, R> {
     pub shared: &'a Arc<ResidentScan>,
 }
 
-/// Scans from the owners, then from what that left held, and then from the roots. When out of memory the crew can run again.
+/// Scans from the owners, then from what that left held, and then from the roots. When out of memory the crew can run again. It is
+/// out of memory too where a job is spent after a phase.
 pub fn run_phases<R: Wait, G: Gate + Send + Drop + 'static>(
     context: &TraceContext<'_, R>,
     crew: &mut TraceCrew<G>,
@@ -42,7 +41,6 @@ pub fn run_phases<R: Wait, G: Gate + Send + Drop + 'static>(
     mut first: FirstTasks,
 ) -> Result<Vec<ScanJob>, OutOfMemory>
     requires begin { CanBeginPhase (shared_by_scan (arc_value context.now.shared.now)) jobs.items first }
-    requires turns { All (λ j. 3 * MOST_TASKS + 3 < turns_of j) jobs.items }
     requires jobs { length jobs.items ≡ workers_of crew.old }
     ensures phases { IfOk result (λ ms. ThreePhases (graph_in (shared_by_scan (arc_value context.now.shared.now))) jobs.items ms.items) }
     ensures ready { IfOk result (λ ms. AreReady shared_meaning (shared_by_scan (arc_value context.now.shared.now)) ms.items) }
@@ -54,7 +52,8 @@ pub fn run_phases<R: Wait, G: Gate + Send + Drop + 'static>(
     begin_take_up(&lend(shared), &mut after_owners, &mut first);
     let mut after_take_up = run_jobs(context, crew, after_owners, &first)?;
     begin_root_phase(&lend(shared), &mut after_take_up, &mut first);
-    run_jobs(context, crew, after_take_up, &first)
+    let after_roots = run_jobs(context, crew, after_take_up, &first)?;
+    Ok(after_roots)
 }
 
 fn lend(shared: &Arc<ResidentScan>) -> ScanShared<'_>
@@ -63,7 +62,7 @@ fn lend(shared: &Arc<ResidentScan>) -> ScanShared<'_>
     shared.lend()
 }
 
-// The crew's run from the first tasks.
+// The crew's run from the first tasks. It is out of memory too where a job is spent afterwards.
 fn run_jobs<R: Wait, G: Gate + Send + Drop + 'static>(
     context: &TraceContext<'_, R>,
     crew: &mut TraceCrew<G>,
@@ -73,11 +72,17 @@ fn run_jobs<R: Wait, G: Gate + Send + Drop + 'static>(
     requires can { CanRunJobs (shared_by_scan (arc_value context.now.shared.now)) (record { jobs = jobs.items; first = first.now.lists }) (2 * cells_in (shared_by_scan (arc_value context.now.shared.now)) + 1) }
     requires jobs { length jobs.items ≡ workers_of crew.old }
     ensures ran { IfOk result (λ ks. HasRunJobs (shared_by_scan (arc_value context.now.shared.now)) (record { jobs = jobs.items; first = first.now.lists }) ks.items) }
+    ensures left { IfOk result (λ ks. NoneSpent ks.items) }
     ensures workers { workers_of crew.new ≡ workers_of crew.old }
 {
     let jobs = wrap(context.alloc, jobs)?;
     let jobs = crew.run(context.rt, context.shared, jobs, first)?;
-    unwrap(context.alloc, jobs)
+    let jobs = unwrap(context.alloc, jobs)?;
+    if none_is_spent(jobs.as_slice()) {
+        Ok(jobs)
+    } else {
+        Err(OutOfMemory)
+    }
 }
 
 // The same jobs, as those of workers that stay.

@@ -1,6 +1,5 @@
 -- The tests' jobs may go through phases one after another, and their passes stay those of the headers.
-use Rattle.std.proofs.Common.{◌≡◌, ℕ, suc, ◌+◌, ◌*◌, ◌<◌, ◌≤◌, List, [], ◌∷◌, length, replicate, sym, ap, ◌∙◌, subst, arith}
-use Rattle.std.specs.List.{All}
+use Rattle.std.proofs.Common.{◌≡◌, ℕ, ◌+◌, ◌*◌, ◌<◌, ◌≤◌, List, [], ◌∷◌, length, replicate, sym, ap, ◌∙◌, arith}
 use Rattle.std.proofs.lemmas.List.{length-replicate}
 use Rattle.graph_meaning.specs.Roles.{AreRolesOf}
 use Rattle.header_rule.specs.Passes.{IsPassOf, ArePassesOf, numbers}
@@ -8,18 +7,18 @@ use Rattle.object_table.specs.Placed.{IsPlaced, IsSound}
 use Rattle.steal_pool.specs.declared.crew.Crew.{Crew}
 use Rattle.steal_pool.specs.FirstLists.{FirstLists}
 use Rattle.steal_pool.specs.Lists.{Each}
-use Rattle.steal_pool.specs.Runs.{workers_of, AreReady, TurnsLast}
+use Rattle.steal_pool.specs.Runs.{workers_of, AreReady}
 use Rattle.steal_pool.specs.Runs as Runs
 use Rattle.scan_job.specs.declared.shared.ScanShared.{ScanShared}
 use Rattle.scan_job.specs.Gains.{Gain, Grows}
 use Rattle.scan_job.specs.Graphs.{StoppedGraph}
 use Rattle.scan_job.specs.Jobs.{IsReady, scan_meaning}
-use Rattle.scan_job.specs.Phases.{cells_in, CanScan}
+use Rattle.scan_job.specs.Phases.{cells_in, CanScan, IsDone, from_owners}
 use Rattle.scan_job.specs.Shared.{shared_behind}
-use Rattle.scan_job.specs.States.{ScanState, turns_of, passes_of}
+use Rattle.scan_job.specs.States.{ScanState, passes_of}
 use Rattle.tests_marking.specs.NewJobs.{AreAllJobs}
-use Rattle.scan_job.proofs.Starting.{all-map, all-cons, all-tail}
-use Rattle.heap_base.specs.declared.limits.TheConstants.{MOST_TASKS}
+use Rattle.scan_job.proofs.Starting.{all-map}
+use Rattle.heap_marking.proofs.NextPhase.{same-many}
 
 -- a crew and lists for so many workers, with room for a phase
 pub record HasRoom (s : ScanShared) (workers : ℕ) (crew : Crew ScanState) (first : FirstLists) : Type 0 where
@@ -49,7 +48,7 @@ module _ (s : ScanShared) (workers : ℕ) (js : List ScanState) (crew : Crew Sca
   pub new-can_scan : CanScan s js crew first
   new-can_scan = record {
     ready = new-ready;
-    turns = λ k d within. (let left = (all.each k d within).fresh.left in omega arith);
+    left = λ k d within. (let left = (all.each k d within).fresh.left in omega arith);
     jobs = all.count ∙ sym room.count;
     lists = room.lists ∙ sym room.count;
     list_room = room.list_room;
@@ -68,37 +67,25 @@ begin-scan s workers cells js crew first all roles placed sound count crew_count
   list_room = (omega arith);
 }) roles placed sound
 
-last-turns : (n : ℕ) (js ks : List ScanState) → All (λ j. 2 * n < turns_of j) js → TurnsLast scan_meaning n js ks →
-    All (λ k. n < turns_of k) ks
-last-turns n [] ks turns last = subst (All (λ k. n < turns_of k)) (sym last) (λ k d within. absurd (omega arith))
-last-turns n (j ∷ js) [] turns last = absurd last
-last-turns n (j ∷ js) (k ∷ ks) turns last =
-    all-cons (λ i. n < turns_of i) k ks (let a = turns 0 j (omega arith) in let b = last.0 in omega arith) (last-turns n js ks (all-tail (λ i. 2 * n < turns_of i) j js turns) last.1)
-
-last-length : (n : ℕ) (js ks : List ScanState) → TurnsLast scan_meaning n js ks → length ks ≡ length js
-last-length n [] ks last = ap length last
-last-length n (j ∷ js) [] last = absurd last
-last-length n (j ∷ js) (k ∷ ks) last = ap suc (last-length n js ks last.1)
-
--- after a first phase they may go through another
-pub scan-again : (s : ScanShared) (workers : ℕ) (js ks : List ScanState) (crew : Crew ScanState) (first : FirstLists) →
-    AreAllJobs workers s.table.now s.headers.now js → HasRoom s workers crew first → AreReady scan_meaning s ks →
-    TurnsLast scan_meaning (MOST_TASKS + 1) js ks → CanScan s ks crew first
-scan-again s workers js ks crew first all room ready last = record {
-  ready = ready;
-  turns = λ k d within. (let t = last-turns (MOST_TASKS + 1) js ks (λ i e l. (let left = (all.each i e l).fresh.left in omega arith)) last k d within in omega arith);
-  jobs = last-length (MOST_TASKS + 1) js ks last ∙ all.count ∙ sym room.count;
-  lists = room.lists ∙ sym room.count;
-  list_room = room.list_room;
-  room = room.room;
-}
-
 same-numbers : (g : StoppedGraph) (js : List ScanState) (gains : List Gain) (ks : List ScanState) → Each (Grows g) js gains ks →
     numbers (passes_of ks) ≡ numbers (passes_of js)
 same-numbers g [] gains ks e = ap (λ is. numbers (passes_of is)) e.1
 same-numbers g (j ∷ js) [] ks e = absurd e
 same-numbers g (j ∷ js) (a ∷ gains) [] e = absurd e
 same-numbers g (j ∷ js) (a ∷ gains) (k ∷ ks) e = λ i. e.0.number i ∷ same-numbers g js gains ks e.1 i
+
+-- after a first phase they may go through another
+pub scan-again : (s : ScanShared) (workers : ℕ) (js ks : List ScanState) (crew : Crew ScanState) (first : FirstLists) →
+    AreAllJobs workers s.table.now s.headers.now js → HasRoom s workers crew first →
+    IsDone (shared_behind s) from_owners js ks → CanScan s ks crew first
+scan-again s workers js ks crew first all room done = record {
+  ready = done.ready;
+  left = done.left;
+  jobs = same-many (shared_behind s) from_owners js ks done ∙ all.count ∙ sym room.count;
+  lists = room.lists ∙ sym room.count;
+  list_room = room.list_room;
+  room = room.room;
+}
 
 -- jobs that grew have the passes of the headers, in order
 pub passes-after : (s : ScanShared) (g : StoppedGraph) (js : List ScanState) (gains : List Gain) (ks : List ScanState) →

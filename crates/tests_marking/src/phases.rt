@@ -70,14 +70,14 @@ fn run<R: Threads + Sync>(
     let mut crew: Crew<ScanJob> = Crew::make(alloc, plan.workers, 2 * cells as u64 + 1)?;
     let mut first = FirstTasks::make(alloc, plan.workers, cells)?;
     if let Phases::Roots = plan.phases {
-        root_phase(host.rt, &mut crew, shared, jobs, &mut first, &OpenGate);
+        root_phase(host.rt, &mut crew, shared, jobs, &mut first, &OpenGate)?;
         return Ok(());
     }
-    owner_phase(host.rt, &mut crew, shared, jobs, &mut first, &OpenGate);
+    owner_phase(host.rt, &mut crew, shared, jobs, &mut first, &OpenGate)?;
     if let Phases::Owners = plan.phases {
         return Ok(());
     }
-    take_up(host.rt, &mut crew, shared, jobs, &mut first, &OpenGate);
+    take_up(host.rt, &mut crew, shared, jobs, &mut first, &OpenGate)?;
     Ok(())
 }
 

@@ -92,7 +92,7 @@ fn collect_by_hand<R: Threads + Sync>(
     }
     let made = traced_by_hand(alloc, table)?;
     let kit = Kit::prepare(alloc, 2, 2, 1)?;
-    let real = trace(rt, kit, table, &roles, &OpenGate);
+    let real = trace(rt, kit, table, &roles, &OpenGate)?;
     finish(auditor, &roles, &made, &real)
 }
 

@@ -59,7 +59,7 @@ pub fn trace_table<R: Threads + Sync, G: Gate>(
     };
     let roles = roles_in(host.alloc, table, asserted)?;
     let kit = Kit::prepare(host.alloc, table.cells(), table.kinds(), workers)?;
-    Ok(trace(host.rt, kit, table, &roles, gate))
+    Ok(trace(host.rt, kit, table, &roles, gate)?)
 }
 
 fn seen(table: &ObjectTable, traced: &Traced, object: u32) -> Option<Seen>

@@ -1,18 +1,13 @@
-use Rattle.std.proofs.Common.{◌+◌, ◌*◌, sym, ◌∙◌, subst, arith}
+use Rattle.std.proofs.Common.{sym, ◌∙◌, subst, arith}
 use Rattle.std.specs.Arc.{arc_value}
-use Rattle.std.proofs.lemmas.Result.{IfOk-weaker}
-use Rattle.steal_pool.specs.Runs.{Workload}
 use Rattle.scan_job.specs.Jobs.{graph_in}
-use Rattle.scan_job.specs.Phases.{CanBeginPhase, HasBegun, HasRunJobs, AreUnderOwners, all_held, owner_firsts, held_firsts, from_owners, from_held, from_roots}
-use Rattle.scan_job.specs.States.{ScanState}
+use Rattle.scan_job.specs.Phases.{CanBeginPhase, HasBegun, AreUnderOwners, all_held, owner_firsts, held_firsts, from_owners, from_held, from_roots}
 use Rattle.scan_job.proofs.Gaining.{held-under}
-use Rattle.heap_marking.specs.TracedCells.{ThreePhases}
 use Rattle.resident_crew.specs.Scans.{shared_by_scan}
 use Rattle.resident_crew.proofs.Went.{Begun, can-run, gained, as-many, goes-on}
 use Rattle.resident_crew.proofs.phases.run_phases.Given as given
 use Rattle.resident_crew.proofs.phases.run_phases.Goals as goal
 use Rattle.resident_crew.proofs.phases.run_phases.Goals.{After-begin_owner_phase, After-begin_take_up, After-begin_root_phase}
-use Rattle.heap_base.specs.declared.limits.TheConstants.{MOST_TASKS}
 
 -- how the scans from the owners began
 owners : (g : given.Over) (c : After-begin_owner_phase g)
@@ -46,7 +41,7 @@ pub begin_take_up-requires-clause-begin : goal.begin_take_up-requires-clause-beg
 begin_take_up-requires-clause-begin g c =
     let b = owners g (goal.at.begin_take_up-requires-clause-begin g c).After-begin_owner_phase in
     subst (λ x. CanBeginPhase x c.in_ok-after_owners.after_owners.items c.begin_owner_phase.new.first) (sym c.lend-2.ensures)
-    (goes-on from_owners c.lend.ensures b c.in_ok-after_owners.ensures.ran (2 * MOST_TASKS + 2) (omega arith) c.requires.begin c.requires.turns).0
+    (goes-on from_owners c.lend.ensures b c.in_ok-after_owners.ensures.ran c.in_ok-after_owners.ensures.left c.requires.begin)
 
 pub begin_take_up-requires-clause-held : goal.begin_take_up-requires-clause-held
 begin_take_up-requires-clause-held g c =
@@ -54,7 +49,7 @@ begin_take_up-requires-clause-held g c =
     let b = owners g (goal.at.begin_take_up-requires-clause-held g c).After-begin_owner_phase in
     let ks = c.in_ok-after_owners.after_owners.items in
     subst (λ x. AreUnderOwners (graph_in x) (all_held ks)) (sym c.lend-2.ensures)
-    (held-under (graph_in s) c.args.jobs.items ks (gained from_owners c.lend.ensures b c.in_ok-after_owners.ensures.ran))
+    (held-under (graph_in s) c.args.jobs.items ks (gained from_owners c.lend.ensures b c.in_ok-after_owners.ensures.ran c.in_ok-after_owners.ensures.left))
 
 pub run_jobs-requires-2-clause-can : goal.run_jobs-requires-2-clause-can
 run_jobs-requires-2-clause-can g c κs within =
@@ -64,15 +59,15 @@ run_jobs-requires-2-clause-can g c κs within =
 pub run_jobs-requires-2-clause-jobs : goal.run_jobs-requires-2-clause-jobs
 run_jobs-requires-2-clause-jobs g c κs within =
     let b = owners g (goal.at.run_jobs-requires-2-clause-jobs g c).After-begin_owner_phase in
-    c.begin_take_up.ensures.begun.many ∙ as-many from_owners c.lend.ensures b c.in_ok-after_owners.ensures.ran ∙ c.requires.jobs ∙ sym c.run_jobs.ensures.workers
+    c.begin_take_up.ensures.begun.many ∙ as-many from_owners c.lend.ensures b c.in_ok-after_owners.ensures.ran c.in_ok-after_owners.ensures.left ∙ c.requires.jobs ∙ sym c.run_jobs.ensures.workers
 
 pub begin_root_phase-requires : goal.begin_root_phase-requires
 begin_root_phase-requires g c =
     let at = goal.at.begin_root_phase-requires g c in
     let held = all_held c.in_ok-after_owners.after_owners.items in
-    let went = goes-on from_owners c.lend.ensures (owners g at.After-begin_owner_phase) c.in_ok-after_owners.ensures.ran (2 * MOST_TASKS + 2) (omega arith) c.requires.begin c.requires.turns in
+    let went = goes-on from_owners c.lend.ensures (owners g at.After-begin_owner_phase) c.in_ok-after_owners.ensures.ran c.in_ok-after_owners.ensures.left c.requires.begin in
     subst (λ x. CanBeginPhase x c.in_ok-after_take_up.after_take_up.items c.begin_take_up.new.first) (sym c.lend-3.ensures)
-    (goes-on (from_held held) c.lend-2.ensures (taken_up g at.After-begin_take_up) c.in_ok-after_take_up.ensures.ran (MOST_TASKS + 1) (omega arith) went.0 went.1).0
+    (goes-on (from_held held) c.lend-2.ensures (taken_up g at.After-begin_take_up) c.in_ok-after_take_up.ensures.ran c.in_ok-after_take_up.ensures.left went)
 
 pub run_jobs-requires-3-clause-can : goal.run_jobs-requires-3-clause-can
 run_jobs-requires-3-clause-can g c κs within = (roots g (goal.at.run_jobs-requires-3-clause-can g c).After-begin_root_phase).can_run _ (omega arith)
@@ -82,23 +77,20 @@ run_jobs-requires-3-clause-jobs g c κs within =
     let at = goal.at.run_jobs-requires-3-clause-jobs g c in
     let held = all_held c.in_ok-after_owners.after_owners.items in
     c.begin_root_phase.ensures.begun.many
-    ∙ as-many (from_held held) c.lend-2.ensures (taken_up g at.After-begin_take_up) c.in_ok-after_take_up.ensures.ran
-    ∙ as-many from_owners c.lend.ensures (owners g at.After-begin_owner_phase) c.in_ok-after_owners.ensures.ran
+    ∙ as-many (from_held held) c.lend-2.ensures (taken_up g at.After-begin_take_up) c.in_ok-after_take_up.ensures.ran c.in_ok-after_take_up.ensures.left
+    ∙ as-many from_owners c.lend.ensures (owners g at.After-begin_owner_phase) c.in_ok-after_owners.ensures.ran c.in_ok-after_owners.ensures.left
     ∙ c.requires.jobs
     ∙ sym (c.run_jobs-2.ensures.workers ∙ c.run_jobs.ensures.workers)
 
 pub returns-clause-phases : goal.returns-clause-phases
 returns-clause-phases g c =
-    let s = shared_by_scan (arc_value c.args.context.now.shared.now) in
     let at = goal.at.returns-clause-phases g c in
     let owned_jobs = c.in_ok-after_owners.after_owners.items in
-    let load : Workload ScanState = record { jobs = c.begin_root_phase.new.jobs.items; first = c.begin_root_phase.new.first.lists } in
     let begun = roots g at.After-begin_root_phase in
-    IfOk-weaker c.run_jobs-3.result (λ ms. HasRunJobs s load ms.items) (λ ms. ThreePhases (graph_in s) c.args.jobs.items ms.items)
-    (λ ms ran. record {
+    record {
       owned = owned_jobs;
       taken_up = c.in_ok-after_take_up.after_take_up.items;
-      owner_phase = gained from_owners c.lend.ensures (owners g at.After-begin_owner_phase) c.in_ok-after_owners.ensures.ran;
-      take_up = gained (from_held (all_held owned_jobs)) c.lend-2.ensures (taken_up g at.After-begin_take_up) c.in_ok-after_take_up.ensures.ran;
-      root_phase = (begun.done ms.items ran).gains;
-    }) c.run_jobs-3.ensures.ran
+      owner_phase = gained from_owners c.lend.ensures (owners g at.After-begin_owner_phase) c.in_ok-after_owners.ensures.ran c.in_ok-after_owners.ensures.left;
+      take_up = gained (from_held (all_held owned_jobs)) c.lend-2.ensures (taken_up g at.After-begin_take_up) c.in_ok-after_take_up.ensures.ran c.in_ok-after_take_up.ensures.left;
+      root_phase = (begun.done c.in_ok-after_roots.after_roots.items c.in_ok-after_roots.ensures.ran c.in_ok-after_roots.ensures.left).gains;
+    }

@@ -35,22 +35,22 @@ take_up-requires-clause-scan g c κs within =
       lists = ap length left.first ∙ length-dealt (workers_of c.in_ok-crew.crew) (owner_firsts s.roles.now) ∙ c.in_ok-crew.ensures.workers;
       list_room = (let a = cells.count in let b = c.in_ok-first.ensures.room in let e = left.first_room in omega arith);
     } in
-    scan-again s n js ks crew first c.requires.jobs room left.done.ready left.done.turns
+    scan-again s n js ks crew first c.requires.jobs room c.in_ok-owner_phase.ensures.done
 
 pub take_up-requires-clause-held : goal.take_up-requires-clause-held
 take_up-requires-clause-held g c κs within =
-    held-under (shared_graph c.args.shared.now) c.args.jobs.now.items c.owner_phase.new.jobs.items c.owner_phase.ensures.done.gains
+    held-under (shared_graph c.args.shared.now) c.args.jobs.now.items c.owner_phase.new.jobs.items c.in_ok-owner_phase.ensures.done.gains
 
 pub returns-in-Roots-clause-passes : goal.returns-in-Roots-clause-passes
 returns-in-Roots-clause-passes g c =
     let s = c.args.shared.now in
-    let left = c.root_phase.ensures.done in
+    let left = c.in_ok-root_phase.ensures.done in
     passes-after s (shared_graph s) c.args.jobs.now.items left.gains.gains c.root_phase.new.jobs.items left.gains.each left.ready c.requires.jobs.passes
 
 pub returns-in-Owners : goal.returns-in-Owners
 returns-in-Owners g c =
     let s = c.args.shared.now in
-    let left = c.owner_phase.ensures.done in
+    let left = c.in_ok-owner_phase.ensures.done in
     record {
       passes = passes-after s (shared_graph s) c.args.jobs.now.items left.gains.gains c.owner_phase.new.jobs.items left.gains.each left.ready c.requires.jobs.passes;
       kinds = λ k d at. (left.ready k d at).kinds;
@@ -60,8 +60,8 @@ pub returns : goal.returns
 returns g c =
     let s = c.args.shared.now in
     let ks = c.owner_phase.new.jobs.items in
-    let left = c.owner_phase.ensures.done in
-    let then = c.take_up.ensures.done in
+    let left = c.in_ok-owner_phase.ensures.done in
+    let then = c.in_ok-take_up.ensures.done in
     record {
       passes = passes-after s (shared_graph s) ks then.gains.gains c.take_up.new.jobs.items then.gains.each then.ready
           (passes-after s (shared_graph s) c.args.jobs.now.items left.gains.gains ks left.gains.each left.ready c.requires.jobs.passes);
