@@ -1,7 +1,6 @@
 -- How a list of verdicts goes on, and by what its paths are shown.
-use Rattle.std.specs.Prelude.{◌≡◌, ℕ, ◌+◌, ◌*◌, ◌<◌, ◌≤◌, List, ◌++◌, length, map, All, Bool, true, false, Some, IfSome, IsSome, unwrap_or, slice_get, option_map}
+use Rattle.std.specs.Prelude.{◌≡◌, ℕ, ◌+◌, ◌<◌, ◌≤◌, List, ◌++◌, length, map, All, Bool, true, false, Some, IfSome, IsSome, unwrap_or, slice_get, option_map}
 use Rattle.heap_base.specs.Counting.{IsOnce}
-use Rattle.heap_base.specs.declared.limits.TheConstants.{MOST_OBJECTS, MOST_KINDS}
 use Rattle.graph_meaning.specs.declared.collection.Verdict.{Verdict}
 use Rattle.graph_meaning.specs.declared.paths.Shown.{Shown}
 use Rattle.graph_meaning.specs.declared.paths.Shown.TheVariants.{LeftOut}
@@ -23,10 +22,6 @@ use Rattle.verdict_list.specs.declared.shown_paths.PlainPaths.{PlainPaths}
 use Rattle.verdict_list.specs.declared.unshared.SharedObjects.{SharedObjects}
 use Rattle.verdict_list.specs.Counts.{CountTable, counted_in, most_first_verdicts}
 use Rattle.verdict_list.specs.Kinds.{named_count, IsSeenIn, TellOf}
-
--- there is one verdict at most of each object for each of three assertions, and of each type
-abbrev pub most_verdicts : ℕ
-most_verdicts = 3 * MOST_OBJECTS + MOST_KINDS
 
 -- the path, or none
 abbrev pub path_if : Bool → Shown → Shown

@@ -5,7 +5,7 @@ ghost use Rattle.graph_meaning.specs.Roles.{AreRolesOf};
 ghost use Rattle.verdict_list.specs.Ownership.{AreViolating};
 ghost use Rattle.std.specs.Prelude.{◌≡◌, ◌<◌, ◌≤◌, [], length, IfOk};
 ghost use Rattle.verdict_list.specs.Counts.{CountsHeap, counted_in, most_first_verdicts};
-ghost use Rattle.verdict_list.specs.Listed.{AreFirstViolations, StandIn, first_verdicts, most_verdicts, verdicts_in};
+ghost use Rattle.verdict_list.specs.Listed.{AreFirstViolations, StandIn, first_verdicts, verdicts_in};
 
 use crate::counts::{CountedHeap, HeapCounts};
 use crate::dead::push_dead;
@@ -124,7 +124,6 @@ pub fn all_verdicts<T: HeapCounts>(
     requires roles { AreRolesOf counted.now.table.now.cells (length counted.now.table.now.table.kinds) counted.now.roles.now }
     requires counts { let c = counted.now in (h : Heap) × CountsHeap c.table.now c.roles.now (T.counts c.counts.now) h × AreViolating c.table.now h check.now }
     ensures verdicts { let c = counted.now in let t = T.counts c.counts.now in IfOk result (λ v. (h : Heap) → CountsHeap c.table.now c.roles.now t h → AreViolating c.table.now h check.now → v ≡ verdicts_in c.table.now t paths h) }
-    ensures few { IfOk result (λ v. length v ≤ most_verdicts) }
 {
     // what is true of every table
     let cells = counted.table.cells();

@@ -20,20 +20,15 @@ push_ownees-requires-clause-room g c =
 pub push_ownees-requires-clause-check : goal.push_ownees-requires-clause-check
 push_ownees-requires-clause-check g c = let (h, are, violating) = c.requires.counts in (h, record { stand = are.stand; violating = violating })
 
-pub returns-clause-verdicts : goal.returns-clause-verdicts
-returns-clause-verdicts g c h are violating =
-    let p = c.args.counted.now.table.now in
-    let n = c.args.paths in
-    let ownees : GoesOn n c.in_ok-list.list (map (ownedby_verdict h) (violating_ownees h)) c.push_ownees.new.list =
-    subst (λ vs. GoesOn n c.in_ok-list.list vs c.push_ownees.new.list)
-    (map_pairs (ownedby_verdict h) (owned_pair p h) c.args.check.now.ownees (violating_ownees h)
-    (ownees-are p c.args.counted.now.roles.now h c.args.check.now are.stand violating))
-    (c.in_ok-push_ownees.ensures.verdicts h (record { stand = are.stand; violating = violating })) in
-    whole n c.in_ok-list.list c.push_ownees.new.list (counted_in p (g.T.HeapCounts.counts c.args.counted.now.counts.now)) h (c.in_ok-list.ensures.verdicts h are) ownees
-
-pub returns-clause-few : goal.returns-clause-few
-returns-clause-few g c =
-    let (h, are, violating) = c.requires.counts in
-    let sound = c.cells-cells.ensures.sound in
-    let ownees = ownees-few c.args.counted.now.table.now c.args.counted.now.roles.now h c.args.check.now sound are.stand violating in
-    omega (arith, ownees, sound.limits.objects, c.in_ok-push_ownees.ensures.length, c.in_ok-list.ensures.few)
+pub returns : goal.returns
+returns g c = record {
+  verdicts = λ h are violating.
+      let p = c.args.counted.now.table.now in
+      let n = c.args.paths in
+      let ownees : GoesOn n c.in_ok-list.list (map (ownedby_verdict h) (violating_ownees h)) c.push_ownees.new.list =
+      subst (λ vs. GoesOn n c.in_ok-list.list vs c.push_ownees.new.list)
+      (map_pairs (ownedby_verdict h) (owned_pair p h) c.args.check.now.ownees (violating_ownees h)
+      (ownees-are p c.args.counted.now.roles.now h c.args.check.now are.stand violating))
+      (c.in_ok-push_ownees.ensures.verdicts h (record { stand = are.stand; violating = violating })) in
+      whole n c.in_ok-list.list c.push_ownees.new.list (counted_in p (g.T.HeapCounts.counts c.args.counted.now.counts.now)) h (c.in_ok-list.ensures.verdicts h are) ownees;
+}
