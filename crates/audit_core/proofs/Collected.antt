@@ -50,26 +50,25 @@ verdicts-of count rules number h = refl
 
 -- ---- what is left
 
-pub left_by : (count : ℕ → ℕ) (a : Audit) (after : List (Option ℕ)) (left : Heap) (found : ℕ) (verdicts : List Verdict) →
-    left ≡ after_collection a.rules a.heap → found ≡ length verdicts → verdicts ≡ first_with_paths a.rules.paths (all_verdicts count a.heap) →
-    record a { heap = left; cells = after; collections = a.collections + 1; violations = a.violations + found } ≡ record (after_next a) { cells = after }
+pub left_by : (count : ℕ → ℕ) (a : Audit) (after : List (Option ℕ)) (left : Heap) (total : ℕ) (verdicts : List Verdict) →
+    left ≡ after_collection a.rules a.heap → total ≡ a.violations + length verdicts → verdicts ≡ first_with_paths a.rules.paths (all_verdicts count a.heap) →
+    record a { heap = left; cells = after; collections = a.collections + 1; violations = total } ≡ record (after_next a) { cells = after }
 unfolding after_next
-left_by count a after left found verdicts left_is found_is verdicts_are =
+left_by count a after left total verdicts left_is total_is verdicts_are =
     λ i. record {
       heap = left_is i;
       cells = after;
       rules = a.rules;
       collections = a.collections + 1;
-      violations = a.violations + many i;
+      violations = (total_is ∙ ap (λ n. a.violations + n) many) i;
     }
   where
     paths : ℕ
     paths = a.rules.paths
 
-    many : found ≡ length (collection_of a.rules (a.collections + 1) a.heap).verdicts
+    many : length verdicts ≡ length (collection_of a.rules (a.collections + 1) a.heap).verdicts
     many =
-        found_is
-        ∙ ap length verdicts_are
+        ap length verdicts_are
         ∙ length-first_with_paths paths (all_verdicts count a.heap)
         ∙ length-all_verdicts count (reference_count a.heap) a.heap
         ∙ sym (length-first_with_paths paths (all_verdicts (reference_count a.heap) a.heap))

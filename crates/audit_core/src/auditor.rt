@@ -30,16 +30,15 @@ pub struct Auditor {
 }
 
 impl Model for Auditor {
-    ghost use Rattle.std.specs.Prelude.{◌*◌, ◌<◌, ◌≤◌};
+    ghost use Rattle.std.specs.Prelude.{◌<◌, ◌≤◌};
     ghost use Rattle.heap_base.specs.declared.limits.TheConstants.{MOST_WORKERS};
-    ghost use Rattle.verdict_list.specs.Listed.{most_verdicts};
     ghost use Rattle.audit_core.specs.Audit.{Audit, rules_with};
 
     ghost Value = { Audit };
 
     ghost view = { λ a. record { heap = a.parts.heap; cells = a.parts.cells; rules = rules_with a.paths a.force; collections = a.collections; violations = a.violations } };
 
-    ghost invariant = { λ a. (0 < a.workers) × (a.workers ≤ MOST_WORKERS) × (a.violations ≤ most_verdicts * a.collections) };
+    ghost invariant = { λ a. (0 < a.workers) × (a.workers ≤ MOST_WORKERS) };
 }
 
 impl Auditor {

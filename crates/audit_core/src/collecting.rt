@@ -11,6 +11,7 @@ use heap_base::OutOfMemory;
 use heap_marking::{Kit, Traced, Workers, trace};
 use std::thread::Threads;
 use steal_pool::{Gate, ThreadCost};
+use verdict_list::total_with;
 
 /// What a worker that marks the heap costs. No collection depends on it, only how many workers and threads it is made by.
 #[derive(Clone, Copy, Debug)]
@@ -76,11 +77,12 @@ impl Auditor {
     {
         let table = self.parts.table();
         let verdicts = verdicts(self.alloc, table, roles, traced, self.paths)?;
+        let violations = total_with(self.violations, &verdicts)?;
         let to_clear = self.to_clear(roles, traced)?;
         let live = table.live();
         let swept = self.parts.finish(traced.kept(), to_clear.as_ref());
         self.collections += 1;
-        self.violations += verdicts.len() as u64;
+        self.violations = violations;
         Ok(Collection {
             number: self.collections,
             live,

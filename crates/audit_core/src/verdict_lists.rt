@@ -3,8 +3,8 @@ ghost use Rattle.assert_registry.specs.Laws.{StandFor};
 ghost use Rattle.graph_meaning.specs.Heap.{Heap};
 ghost use Rattle.graph_meaning.specs.Roles.{AreRolesOf};
 ghost use Rattle.heap_marking.specs.Traces.{IsTraceOf};
-ghost use Rattle.std.specs.Prelude.{◌≡◌, ◌≤◌, length, IfOk};
-ghost use Rattle.verdict_list.specs.Listed.{most_verdicts, verdicts_in};
+ghost use Rattle.std.specs.Prelude.{◌≡◌, length, IfOk};
+ghost use Rattle.verdict_list.specs.Listed.{verdicts_in};
 ghost use Rattle.audit_core.specs.Verdicts.{counts_of};
 
 use crate::counted::CountedTrace;
@@ -28,7 +28,6 @@ pub fn verdicts(
     requires roles { AreRolesOf table.now.cells (length table.now.table.kinds) roles.now }
     requires trace { (h : Heap) × StandFor table.now roles.now h × IsTraceOf table.now h traced.now }
     ensures verdicts { IfOk result (λ v. (h : Heap) → StandFor table.now roles.now h → IsTraceOf table.now h traced.now → v ≡ verdicts_in table.now (counts_of traced.now) paths h) }
-    ensures few { IfOk result (λ v. length v ≤ most_verdicts) }
 {
     let check = check_owners(alloc, table, roles, traced)?;
     let counts = CountedTrace { traced };

@@ -1,8 +1,7 @@
 //! A collection: what is traced is found, the assertions are checked, and what is not traced is freed.
 ghost use Rattle.graph_meaning.specs.Collecting.{after_collection, collection_of};
 ghost use Rattle.plain_collection.specs.Verdicts.{plain_rules};
-ghost use Rattle.std.specs.Prelude.{◌≡◌, ◌≤◌, length, IfOk, OnOk, OnErr};
-ghost use Rattle.verdict_list.specs.Listed.{most_verdicts};
+ghost use Rattle.std.specs.Prelude.{◌≡◌, IfOk, OnOk, OnErr};
 
 use crate::plain_trace::PlainTrace;
 use graph_meaning::Collection;
@@ -20,7 +19,6 @@ pub fn collect(
 ) -> Result<Collection, OutOfMemory>
     ensures found { IfOk result (λ c. c ≡ collection_of (plain_rules paths) number parts.old.heap) }
     ensures after { OnOk result (parts.new.heap ≡ after_collection (plain_rules paths) parts.old.heap) }
-    ensures few { IfOk result (λ c. length c.verdicts ≤ most_verdicts) }
     ensures err { OnErr result (parts.new ≡ parts.old) }
 {
     let roles = parts.roles()?;

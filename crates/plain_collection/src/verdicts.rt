@@ -4,8 +4,7 @@ ghost use Rattle.graph_meaning.specs.Collecting.{first_with_paths, all_verdicts}
 ghost use Rattle.graph_meaning.specs.Heap.{Heap};
 ghost use Rattle.graph_meaning.specs.Roles.{AreRolesOf};
 ghost use Rattle.plain_collection.specs.PlainTraces.{IsPlainTraceOf};
-ghost use Rattle.std.specs.Prelude.{◌≡◌, ◌≤◌, length, IfOk};
-ghost use Rattle.verdict_list.specs.Listed.{most_verdicts};
+ghost use Rattle.std.specs.Prelude.{◌≡◌, length, IfOk};
 
 use crate::plain_trace::PlainTrace;
 use graph_meaning::{Roles, VerdictList};
@@ -27,7 +26,6 @@ impl PlainTrace {
         requires roles { AreRolesOf table.now.cells (length table.now.table.kinds) roles.now }
         requires trace { (h : Heap) × IsPlainTraceOf table.now roles.now h self.now }
         ensures verdicts { IfOk result (λ v. (h : Heap) → IsPlainTraceOf table.now roles.now h self.now → v ≡ first_with_paths paths (all_verdicts (reference_count h) h)) }
-        ensures few { IfOk result (λ v. length v ≤ most_verdicts) }
     {
         // what is true of every table
         let cells = table.cells();

@@ -1,7 +1,6 @@
 //! What a check makes of a trace, as a program.
-ghost use Rattle.std.specs.Prelude.{◌≡◌, ◌<◌, ◌≤◌, ◌+◌, ◌*◌, IfOk, OnOk};
+ghost use Rattle.std.specs.Prelude.{◌≡◌, ◌<◌, ◌≤◌, ◌+◌, IfOk, OnOk};
 ghost use Rattle.heap_base.specs.declared.limits.TheConstants.{LONGEST_TRACE};
-ghost use Rattle.verdict_list.specs.Listed.{most_verdicts};
 
 use graph_meaning::{Collection, Event, Stop};
 use heap_base::OutOfMemory;
@@ -9,6 +8,7 @@ use heap_parts::HeapParts;
 use plain_collection::collect;
 use std::alloc::Global;
 use trace_run::{Due, LastText, Program, Taken, end_text_of};
+use verdict_list::total_with;
 
 /// A heap that follows a trace, and the totals of its collections.
 #[derive(Drop)]
@@ -19,7 +19,6 @@ pub struct Checking {
     pub parts: HeapParts,
     pub collections: u64,
     pub violations: u64,
-    ghost few: { violations ≤ most_verdicts * collections },
 }
 
 impl Program for Checking {
@@ -92,8 +91,8 @@ impl Checking {
     {
         let number = self.collections + 1;
         let collection = collect(self.alloc, &mut self.parts, self.paths, number)?;
+        self.violations = total_with(self.violations, &collection.verdicts)?;
         self.collections = number;
-        self.violations += collection.verdicts.len() as u64;
         Ok(collection)
     }
 }

@@ -23,8 +23,10 @@ all_verdicts-requires-clause-counts c =
     let (h, stand, trace) = c.requires.trace in
     (h, record { stand = stand; counts = counts-are c.args.table.now h c.args.traced.now trace }, c.in_ok-check.ensures.violating h stand trace)
 
-pub returns-clause-verdicts : goal.returns-clause-verdicts
-returns-clause-verdicts c =
-    IfOk-weaker c.all_verdicts.result _ _
-    (λ v are h stand trace. are h (record { stand = stand; counts = counts-are c.args.table.now h c.args.traced.now trace }) (c.in_ok-check.ensures.violating h stand trace))
-    c.all_verdicts.ensures.verdicts
+pub returns : goal.returns
+returns c = record {
+  verdicts =
+      IfOk-weaker c.all_verdicts.result _ _
+      (λ v are h stand trace. are h (record { stand = stand; counts = counts-are c.args.table.now h c.args.traced.now trace }) (c.in_ok-check.ensures.violating h stand trace))
+      c.all_verdicts.ensures.verdicts;
+}

@@ -74,6 +74,6 @@ pub returns-clause-after : goal.returns-clause-after
 returns-clause-after c =
     let known = (goal.at.returns-clause-after c).After-as_ref in
     let cells = c.finish-swept.new.self.cells in
-    left_by (counted_in c.table-table.result.now (counts_of c.args.traced.now)) (before known) cells c.finish-swept.new.self.heap c.len.result
-    c.in_ok-verdicts.verdicts (c.finish-swept.ensures.left (rules known) (force known)) c.len.ensures (verdicts known)
+    left_by (counted_in c.table-table.result.now (counts_of c.args.traced.now)) (before known) cells c.finish-swept.new.self.heap c.in_ok-violations.violations
+    c.in_ok-verdicts.verdicts (c.finish-swept.ensures.left (rules known) (force known)) c.in_ok-violations.ensures.total (verdicts known)
     ∙ ap (λ (a : Audit). record (after_next a) { cells = cells }) (whole known)

@@ -20,14 +20,16 @@ all_verdicts-requires-clause-counts c =
     let doubts = ownees-doubted c.args.table.now c.args.roles.now h stand c.in_ok-ownees.ownees.items c.in_ok-ownees.ensures.ownees in
     (h, trace.counts, c.in_ok-check.ensures.violating h stand doubts)
 
-pub returns-clause-verdicts : goal.returns-clause-verdicts
-returns-clause-verdicts c =
-    IfOk-weaker c.all_verdicts.result _ _
-    (λ v are h trace.
-    let p = c.args.table.now in
-    let stand = trace.counts.stand in
-    let doubts = ownees-doubted p c.args.roles.now h stand c.in_ok-ownees.ownees.items c.in_ok-ownees.ensures.ownees in
-    are h trace.counts (c.in_ok-check.ensures.violating h stand doubts)
-    ∙ ap (first_with_paths c.args.paths)
-    (verdicts_agree p c.cells-cells.ensures.placed h (plain_counts c.args.self.now) trace.references (subst (λ tb. AllLive tb h.unshared) stand.table stand.refers.unshared)))
-    c.all_verdicts.ensures.verdicts
+pub returns : goal.returns
+returns c = record {
+  verdicts =
+      IfOk-weaker c.all_verdicts.result _ _
+      (λ v are h trace.
+      let p = c.args.table.now in
+      let stand = trace.counts.stand in
+      let doubts = ownees-doubted p c.args.roles.now h stand c.in_ok-ownees.ownees.items c.in_ok-ownees.ensures.ownees in
+      are h trace.counts (c.in_ok-check.ensures.violating h stand doubts)
+      ∙ ap (first_with_paths c.args.paths)
+      (verdicts_agree p c.cells-cells.ensures.placed h (plain_counts c.args.self.now) trace.references (subst (λ tb. AllLive tb h.unshared) stand.table stand.refers.unshared)))
+      c.all_verdicts.ensures.verdicts;
+}
