@@ -1,5 +1,6 @@
 -- What an auditor stands for: a heap, the rules of its collections, and totals over the collections so far.
 use Rattle.std.specs.Prelude.{ℕ, ◌+◌, List, [], length, Bool, Option}
+use Rattle.heap_base.specs.declared.limits.Limits.{Limits}
 use Rattle.graph_meaning.specs.declared.collection.Collection.{Collection}
 use Rattle.graph_meaning.specs.Heap.{Heap, empty_heap}
 use Rattle.graph_meaning.specs.Roles.{RoleTable, AreRolesOf}
@@ -32,9 +33,9 @@ heap_in a = record { heap = a.heap; cells = a.cells }
 abbrev pub rules_with : ℕ → Bool → Rules
 rules_with paths force = record { paths = paths; force = force }
 
--- an auditor at the beginning of a trace
-abbrev pub first_audit : Rules → Audit
-first_audit rules = record { heap = empty_heap; cells = []; rules = rules; collections = 0; violations = 0 }
+-- an auditor at the beginning of a trace, with a heap under these limits
+abbrev pub first_audit : Limits → Rules → Audit
+first_audit most rules = record { heap = empty_heap most; cells = []; rules = rules; collections = 0; violations = 0 }
 
 -- ---- collections
 

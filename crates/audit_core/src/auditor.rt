@@ -2,13 +2,14 @@
 ghost use Rattle.std.specs.Prelude.{◌≡◌, ◌<◌, ◌≤◌, Ok, IsTrue, IfOk, OnOk, OnErr};
 ghost use Rattle.std.specs.Result.{result_err};
 ghost use Rattle.heap_base.specs.declared.limits.TheConstants.{MOST_WORKERS};
+ghost use Rattle.heap_base.specs.Limits.{ArePossible, usual_limits};
 ghost use Rattle.graph_meaning.specs.Answers.{RefusesBy};
 ghost use Rattle.graph_meaning.specs.Step.{step};
 ghost use Rattle.heap_parts.specs.Parts.{is_operation};
 ghost use Rattle.audit_core.specs.Audit.{first_audit, rules_with, audit_table};
 
 use graph_meaning::{Event, Stop};
-use heap_base::OutOfMemory;
+use heap_base::{Limits, OutOfMemory};
 use heap_parts::HeapParts;
 use object_table::ObjectTable;
 use std::alloc::Global;
@@ -41,10 +42,19 @@ impl Model for Auditor {
     ghost invariant = { λ a. (0 < a.workers) × (a.workers ≤ MOST_WORKERS) };
 }
 
+/// What an auditor goes by: how many verdicts of a collection carry their paths, whether what is asserted dead is cut off by
+/// force, and the limits of the heap.
+#[derive(Clone, Copy, Debug)]
+pub struct AuditorRules {
+    pub paths: u32,
+    pub force: bool,
+    pub most: Limits,
+}
+
 impl Auditor {
-    /// An auditor at the beginning of a trace. Each of its collections traces the heap with 1 to 16 workers, and shows
-    /// the paths of so many of its first verdicts. With force a collection cuts off what is asserted dead and was
-    /// traced: no slot and no root holds it afterwards. Answers `OutOfMemory` when memory runs out.
+    /// An auditor at the beginning of a trace, under the usual limits. Each of its collections traces the heap with 1 to 16
+    /// workers, and shows the paths of so many of its first verdicts. With force a collection cuts off what is asserted dead and
+    /// was traced: no slot and no root holds it afterwards. Answers `OutOfMemory` when memory runs out.
     pub fn make(
         alloc: Global,
         workers: u32,
@@ -52,9 +62,28 @@ impl Auditor {
         force: bool,
     ) -> Result<Auditor, OutOfMemory>
         requires workers { (0 < workers) × (workers ≤ MOST_WORKERS) }
-        ensures first { IfOk result (λ a. a ≡ first_audit (rules_with paths force)) }
+        ensures first { IfOk result (λ a. a ≡ first_audit usual_limits (rules_with paths force)) }
     {
-        let parts = HeapParts::make(alloc)?;
+        let rules = AuditorRules {
+            paths,
+            force,
+            most: Limits::usual(),
+        };
+        Auditor::by_rules(alloc, workers, rules)
+    }
+
+    /// The same by these rules.
+    pub fn by_rules(
+        alloc: Global,
+        workers: u32,
+        rules: AuditorRules,
+    ) -> Result<Auditor, OutOfMemory>
+        requires workers { (0 < workers) × (workers ≤ MOST_WORKERS) }
+        requires possible { ArePossible rules.most }
+        ensures first { IfOk result (λ a. a ≡ first_audit rules.most (rules_with rules.paths rules.force)) }
+    {
+        let AuditorRules { paths, force, most } = rules;
+        let parts = HeapParts::make(alloc, most)?;
         Ok(Auditor {
             parts,
             workers,

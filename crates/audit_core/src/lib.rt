@@ -9,7 +9,7 @@ mod doubts;
 mod ownership;
 mod verdict_lists;
 
-pub use auditor::Auditor;
+pub use auditor::{Auditor, AuditorRules};
 pub use collecting::WorkerCost;
 pub use heap_marking::{Kit, Traced, trace};
 pub use verdict_list::OwnershipCheck;

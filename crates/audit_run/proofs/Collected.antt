@@ -1,5 +1,5 @@
 -- What an audit is at its beginning, and what a collection and an operation are to it.
-use Rattle.std.proofs.Common.{◌≡◌, ◌≢◌, ℕ, ◌+◌, ◌≤◌, List, [], length, Result, Ok, Err, IfOk, Some, sym, ◌∙◌, ap, subst, arith}
+use Rattle.std.proofs.Common.{◌≡◌, ◌≢◌, ◌+◌, ◌≤◌, List, [], length, Result, Ok, Err, IfOk, Some, sym, ◌∙◌, ap, subst, arith}
 use Rattle.std.specs.Result.{result_err}
 use Rattle.heap_base.specs.declared.errors.OutOfMemory.{OutOfMemory}
 use Rattle.graph_meaning.specs.declared.collection.Collection.{Collection}
@@ -19,7 +19,7 @@ use Rattle.trace_run.proofs.Effects as effects
 use Rattle.trace_run.proofs.Reports.{audit_is_reported}
 
 -- the report of an audit whose auditor has made no collection yet
-pub is_reported : (rules : RunRules) (a : Audit) (r : Rules) → a ≡ first_audit r → (items : List Item) → report_by audit_meaning (auditor_state rules a) items ≡ audit_report rules items
+pub is_reported : (rules : RunRules) (a : Audit) (r : Rules) → a ≡ first_audit rules.most r → (items : List Item) → report_by audit_meaning (auditor_state rules a) items ≡ audit_report rules items
 is_reported rules a r is items = ap (λ (x : Audit). report_by audit_meaning (auditor_state rules x) items) is ∙ audit_is_reported rules items
 
 -- ---- what a collection leaves

@@ -1,2 +1,3 @@
 mod Collected
 pub mod Plans
+pub mod Written

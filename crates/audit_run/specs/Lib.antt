@@ -1,5 +1,6 @@
 pub mod Asked
 pub mod Auditors
 pub mod Facts
+pub mod InMemory
 pub mod Outcome
 pub mod State

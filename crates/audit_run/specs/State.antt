@@ -1,8 +1,8 @@
 -- Where an audit stands.
-use Rattle.trace_run.specs.Audits.{AuditState, rules_by}
+use Rattle.trace_run.specs.Audits.{AuditState, rules_within}
 use Rattle.audit_run.specs.declared.program.TraceAudit.{TraceAudit}
 use Rattle.audit_run.specs.Auditors.{auditor_state}
 
 -- its rules, and the heap and the totals of its auditor
 abbrev pub state_in : TraceAudit → AuditState
-state_in a = auditor_state (rules_by a.paths a.react) a.auditor
+state_in a = auditor_state (rules_within a.most a.paths a.react) a.auditor

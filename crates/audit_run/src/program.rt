@@ -1,12 +1,12 @@
 //! What the auditor makes of a trace, as a program.
 ghost use Rattle.std.specs.Prelude.{◌≡◌};
 ghost use Rattle.report.specs.Run.{collection_rules};
-ghost use Rattle.trace_run.specs.Audits.{AuditState, audit_meaning, rules_by};
+ghost use Rattle.trace_run.specs.Audits.{AuditState, audit_meaning, rules_within};
 ghost use Rattle.audit_run.specs.Auditors.{auditor_state};
 
 use audit_core::Auditor;
 use graph_meaning::React;
-use heap_base::OutOfMemory;
+use heap_base::{Limits, OutOfMemory};
 use std::alloc::Global;
 use trace_run::{LastText, Program, end_text_of};
 
@@ -16,8 +16,9 @@ pub struct TraceAudit {
     pub alloc: Global,
     pub paths: u32,
     pub react: React,
+    pub most: Limits,
     pub auditor: Auditor,
-    ghost rules: { auditor.rules ≡ collection_rules (rules_by paths react) },
+    ghost rules: { auditor.rules ≡ collection_rules (rules_within most paths react) },
 }
 
 impl Program for TraceAudit {
@@ -25,7 +26,7 @@ impl Program for TraceAudit {
 
     ghost meaning = { audit_meaning };
 
-    ghost state = { λ p. auditor_state (rules_by p.paths p.react) p.auditor };
+    ghost state = { λ p. auditor_state (rules_within p.most p.paths p.react) p.auditor };
 
     ghost events = { λ p. p.auditor.collections };
 

@@ -2,6 +2,7 @@
 ghost use Rattle.std.specs.Prelude.{◌<◌, ◌≤◌};
 ghost use Rattle.streams.specs.Streams.{stream_of};
 ghost use Rattle.heap_base.specs.declared.limits.TheConstants.{LONGEST_TRACE, MOST_WORKERS};
+ghost use Rattle.heap_base.specs.Limits.{ArePossible};
 ghost use Rattle.trace_run.specs.Outcome.{outside_of};
 ghost use Rattle.audit_run.specs.Auditors.{MakesCollections, MayCollect};
 ghost use Rattle.audit_run.specs.Outcome.{EndsAs, rules_in};
@@ -31,6 +32,7 @@ pub fn audit_lines<
     R: Threads + Sync,
 >(lines: Reading<'a, R>, audit: Audit<C>, source: &mut S, sink: &mut K) -> Status
     requires workers { (0 < audit.plan.workers) × (audit.plan.workers ≤ MOST_WORKERS) }
+    requires limits { ArePossible audit.plan.limits }
     requires may_collect { MayCollect C.pre }
     requires collects { MakesCollections C.step }
     ensures { let old = outside_of (stream_of S.left S.faults source.old) (stream_of K.held K.faults sink.old) in

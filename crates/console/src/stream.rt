@@ -3,16 +3,18 @@ ghost use Rattle.std.specs.Io.KnownBytes.{ReadConsumes, WriteAppends};
 ghost use Rattle.streams.specs.Causes.{HasCause};
 ghost use Rattle.streams.specs.Counts.{CountsFault, one_more};
 
+use crate::last::LastBytes;
 use std::io::{self, Read, Write};
 use streams::{Failed, Sink, Source};
 
 /// A reader of std as a source, or a writer as a sink. It tells the bytes that the reader or the writer tells, counts its faults, and remembers
-/// why the last of them came. Every error is a fault, an interrupted read too, and so is a write that takes no byte of a piece.
+/// why the last of them came, and the last bytes that were written. Every error is a fault, an interrupted read too, and so is a write that takes no byte of a piece.
 #[derive(Drop)]
 pub struct Remembering<S> {
     pub stream: S,
     pub faults: u64,
     pub why: Option<io::Error>,
+    pub last: LastBytes,
 }
 
 impl<S> Remembering<S> {
@@ -25,6 +27,7 @@ impl<S> Remembering<S> {
             stream,
             faults: 0,
             why: None,
+            last: LastBytes::none(),
         }
     }
 
@@ -72,7 +75,10 @@ impl<S: Write> Sink for Remembering<S> {
     {
         match self.stream.write(piece) {
             Ok(0) => Err(self.fail(None)),
-            Ok(n) => Ok(n),
+            Ok(n) => {
+                self.last.put(&piece[..n]);
+                Ok(n)
+            }
             Err(error) => Err(self.fail(Some(error))),
         }
     }

@@ -3,6 +3,7 @@ ghost use Rattle.std.specs.Process.{exit_status};
 ghost use Rattle.console.specs.Numbers.{number_of};
 
 use crate::ending::exit_code;
+use crate::last::LastBytes;
 use crate::options::{Options, first_fault};
 use crate::program::Streams;
 use heap_base::Status;
@@ -19,6 +20,15 @@ pub struct Program {
     pub unread: &'static str,
     /// What becomes of it where a write failed or memory is out.
     pub cut_short: &'static str,
+    /// What a person is told where the heap is too large, if another program takes larger ones.
+    pub larger: Option<LargerHeaps>,
+}
+
+/// By which ends of the output it is seen that the heap is too large, each of at most 16 bytes, and what a person is told then.
+#[derive(Clone, Copy)]
+pub struct LargerHeaps {
+    pub ends: &'static [&'static str],
+    pub advice: &'static str,
 }
 
 /// The arguments that a program takes, as it tells them to a person.
@@ -38,6 +48,7 @@ impl Program {
             takes,
             unread: "the report ends where the reading ended",
             cut_short: "the report is cut short",
+            larger: None,
         }
     }
 
@@ -58,6 +69,7 @@ impl Program {
         } = streams;
         match status {
             Status::Usage => self.tell_refused(alloc, errors, words),
+            Status::TraceFault => self.tell_larger(errors, &output.last),
             _ => self.tell_failed(errors, status, input.why, output.why),
         }
         exit_code(status)
@@ -80,6 +92,18 @@ impl Program {
                 }
             },
         };
+    }
+
+    // Tells who takes larger heaps, where the output ends with a refusal of one that is too large.
+    fn tell_larger<E: Eprint>(self, errors: &E, last: &LastBytes) {
+        let Some(larger) = self.larger else {
+            return;
+        };
+        if larger.ends.iter().any(|end| last.are(end)) {
+            let name = self.name;
+            let advice = larger.advice;
+            let _ = eprintln!(errors; "{name}: {advice}");
+        }
     }
 
     // Tells that a read or a write failed, and why, or that memory is out. Where `errors` can't be written, the status still tells.

@@ -7,13 +7,14 @@ ghost use Rattle.settings.specs.declared.settings.Settings.{Settings};
 ghost use Rattle.settings.specs.Settings.{settings_by};
 ghost use Rattle.trace_run.specs.Outcome.{Outside, outside_of};
 ghost use Rattle.audit_run.specs.Asked.{AuditsAsAsked};
-ghost use Rattle.gcaudit.specs.InMemory.{WritesReport, defined_report, holding};
+ghost use Rattle.audit_run.specs.InMemory.{WritesReport, defined_report, holding};
+ghost use Rattle.audit_run.specs.Outcome.{rules_of};
 ghost use Rattle.console.specs.Numbers.{HasStatus};
 ghost use Rattle.console.specs.Seen.{seen_of};
 
 use audit_run::{audit, the_facts_of_a_run_follow};
 use console::{Arguments, Program, Streams, run_program};
-use settings::AUDIT_OPTIONS;
+use settings::{AUDIT_OPTIONS, LARGER_HEAPS};
 use std::alloc::Global;
 use std::io::{Read, Write};
 use std::process::ExitCode;
@@ -49,7 +50,10 @@ pub fn audit_streams<R: Threads + Sync, I: Read, O: Write, E: Eprint>(
         &mut streams.output,
         &OpenGate,
     );
-    let program = Program::of_report(NAME, Arguments::Options(AUDIT_OPTIONS));
+    let program = Program {
+        larger: Some(LARGER_HEAPS),
+        ..Program::of_report(NAME, Arguments::Options(AUDIT_OPTIONS))
+    };
     program.end(alloc, words, streams, status)
 }
 
@@ -62,7 +66,7 @@ pub fn audit_bytes<R: Threads + Sync, E: Eprint + Drop>(
     errors: E,
 ) -> (Vec<u8>, ExitCode)
     ensures asked { (after : Outside) × (after.sink.bytes ≡ Some result.0.items) × HasStatus (exit_status result.1) (AuditsAsAsked (settings_by (map (λ w. w.now) words.now)) (holding trace.now) after) }
-    ensures reports { (s : Settings) → settings_by (map (λ w. w.now) words.now) ≡ Some s → s.plan ≡ None → WritesReport (defined_report s trace.now) result.0.items (exit_status result.1) }
+    ensures reports { (s : Settings) → settings_by (map (λ w. w.now) words.now) ≡ Some s → s.plan ≡ None → WritesReport (defined_report (rules_of s) trace.now) result.0.items (exit_status result.1) }
 {
     the_facts_of_a_run_follow();
     let mut streams = Streams::over(trace, Vec::new(alloc), errors);

@@ -13,7 +13,7 @@ ghost use Rattle.console.specs.Seen.{seen_of};
 use console::{Arguments, OptionRule, Options, Program, Streams, Takes, run_program};
 use heap_base::{MOST_WORKERS, Status};
 use resident_crew::audit_resident;
-use settings::LEAST_WORKERS;
+use settings::{LARGER_HEAPS, LEAST_WORKERS};
 use std::alloc::Global;
 use std::io::{Read, Write};
 use std::process::ExitCode;
@@ -55,7 +55,10 @@ pub fn audit_streams<
         HasStatus (exit_status result) (AuditsAsAsked (workers_by (map (λ w. w.now) words.now)) old new) }
 {
     let status = audit(rt, alloc, words, &mut streams.input, &mut streams.output);
-    let program = Program::of_report(NAME, Arguments::Options(OPTIONS));
+    let program = Program {
+        larger: Some(LARGER_HEAPS),
+        ..Program::of_report(NAME, Arguments::Options(OPTIONS))
+    };
     program.end(alloc, words, streams, status)
 }
 

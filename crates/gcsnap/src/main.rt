@@ -20,6 +20,7 @@ const GCSNAP: Program = Program {
     name: "gcsnap",
     takes: Arguments::One("from-trace or to-trace"),
     unread: "nothing is written",
+    larger: None,
     cut_short: "what is written is cut short",
 };
 

@@ -15,6 +15,7 @@ use Rattle.graph_meaning.specs.declared.event.Event.TheVariants.{Alloc, Store, S
 use Rattle.graph_meaning.specs.declared.refusal.Refusal.{Refusal}
 use Rattle.graph_meaning.specs.declared.refusal.Refusal.TheVariants.{NotLive}
 use Rattle.graph_meaning.specs.Reach.{has_id}
+use Rattle.heap_base.specs.declared.limits.Limits.{Limits}
 use Rattle.graph_meaning.specs.Heap.{Slot, Object, Table, Heap, empty_heap, empty_slot, empty_table, ids, is_live, regions_of, name_cmp}
 use Rattle.graph_meaning.specs.Assertions.{root_ids, is_traced, traced_ids}
 use Rattle.graph_meaning.specs.Collecting.{Rules, slot_without, object_without, with_only, after_sweep, ids_to_clear, after_collection}
@@ -320,15 +321,15 @@ module _ (rules : Rules) (h : Heap) where
         ownees = subst (AllLive left) (sym (map-filter (has_id kept) (λ o. o.0) h.owners)) (AllLive-kept (map (λ o. o.0) h.owners));
       }
 
-empty_refers : RefersToLive empty_heap
-empty_refers = record {
+empty_refers : (most : Limits) → RefersToLive (empty_heap most)
+empty_refers most = record {
   roots = All-nil _;
   slots = All-nil _;
   dead = All-nil _;
   unshared = All-nil _;
-  regions = All-replicate (All (AllLive empty_table)) MOST_THREADS [] (All-nil (AllLive empty_table));
+  regions = All-replicate (All (AllLive (empty_table most))) MOST_THREADS [] (All-nil (AllLive (empty_table most)));
   ownees = All-nil _;
 }
 
 pub heaps_refer_to_live : HeapsReferToLive
-heaps_refer_to_live = (empty_refers, step_keeps, collect_keeps)
+heaps_refer_to_live = (λ most possible. empty_refers most, step_keeps, collect_keeps)

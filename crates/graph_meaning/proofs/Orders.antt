@@ -20,7 +20,9 @@ use Rattle.std.proofs.lemmas.List.Sums.{sum_by-cons, sum_by-append}
 use Rattle.std.proofs.lemmas.Map.Entries.{sum_by-insert_entry}
 use Rattle.std.proofs.lemmas.Map.Keys.{sorted_head, sorted_tail}
 use Rattle.std.proofs.lemmas.Map.Views.{All-insert_key, All-map-remove_entry}
-use Rattle.heap_base.specs.declared.limits.TheConstants.{MOST_OBJECTS, MOST_SLOTS, MOST_ROOTS, MOST_KINDS}
+use Rattle.heap_base.specs.Limits.{ArePossible}
+use Rattle.heap_base.specs.declared.limits.Limits.{Limits}
+use Rattle.heap_base.specs.declared.limits.TheConstants.{MOST_KINDS}
 use Rattle.graph_meaning.specs.declared.event.Event.{Event}
 use Rattle.graph_meaning.specs.declared.event.Event.TheVariants.{Alloc, Store, SetWeak, Root, AssertDead, StartRegion, AssertAllDead, AssertInstances, AssertUnshared, AssertOwnedBy, Collect}
 use Rattle.graph_meaning.specs.declared.refusal.Refusal.{Refusal}
@@ -162,14 +164,14 @@ collect_orders rules h old =
       owners = sorted-filter_keys nat_cmp kept h.owners old.owners;
     }
 
-empty_ordered : IsOrdered empty_heap
-empty_ordered =
+empty_ordered : (most : Limits) → IsOrdered (empty_heap most)
+empty_ordered most =
     let names = sorted-nil name_cmp in
     let ids = sorted-nil nat_cmp in
     record { roots = names; dead = ids; unshared = ids; limits = names; owners = ids }
 
 pub heaps_are_ordered : HeapsAreOrdered
-heaps_are_ordered = (empty_ordered, step_orders, collect_orders)
+heaps_are_ordered = (λ most possible. empty_ordered most, step_orders, collect_orders)
 
 -- ---- limits
 
@@ -196,15 +198,15 @@ length-remove_entry_le {K} {X} test (e ∷ es) = go (test e.0) (length-remove_en
     go false rest = omega arith
 
 roots_few : (t : Table) (name : List ℕ) (to : Option ℕ) → root_refusal t name to ≡ None → IsStrictlySortedBy name_cmp (keys_of t.roots) →
-    length t.roots ≤ MOST_ROOTS → length (with_root t name to).roots ≤ MOST_ROOTS
+    length t.roots ≤ t.most.roots → length (with_root t name to).roots ≤ t.most.roots
 unfolding with_root root_refusal
 roots_few t name None none sorted few = let fewer = length-remove_entry_le (is_at (name_cmp name)) t.roots in omega arith
 roots_few t name (Some id) none sorted few =
     let e = length-insert_entry name_cmp nat_list_cmp_total t.roots name id sorted in
     ⊎_elim
     (λ there. let one = counted (lookup (is_at (name_cmp name)) t.roots) (was_there (is_root t name) there) in omega arith)
-    (λ room. let space = leb-false MOST_ROOTS (length t.roots) room in omega arith)
-    (and_cases (not (is_root t name)) (nat_le MOST_ROOTS (length t.roots)) (refusal_where-None _ _ (first_of-None _ _ none).1))
+    (λ room. let space = leb-false t.most.roots (length t.roots) room in omega arith)
+    (and_cases (not (is_root t name)) (nat_le t.most.roots (length t.roots)) (refusal_where-None _ _ (first_of-None _ _ none).1))
   where
     was_there : (b : Bool) → not b ≡ false → b ≡ true
     was_there true e = refl
@@ -248,16 +250,16 @@ filter_fewer p (o ∷ objects) = go (p o) (filter_fewer p objects)
         omega arith
     go false rest = let e = sum_by-cons (λ (u : Object). length u.slots) o objects in omega arith
 
-alloc_few : (t : Table) (id : ℕ) (kind : List ℕ) (slots : ℕ) → alloc_refusal t id kind slots ≡ None → slot_count (with_object t id kind slots) ≤ MOST_SLOTS
+alloc_few : (t : Table) (id : ℕ) (kind : List ℕ) (slots : ℕ) → alloc_refusal t id kind slots ≡ None → slot_count (with_object t id kind slots) ≤ t.most.slots
 unfolding with_object alloc_refusal
 alloc_few t id kind slots none =
-    let slots_and_kind = first_refusal (refusal_where (nat_lt MOST_SLOTS (slot_count t + slots)) TooManySlots) (kind_refusal t kind) in
-    let risen = first_of-None (refusal_where (nat_le id t.greatest) (IdNotRising id)) (first_refusal (refusal_where (nat_le MOST_OBJECTS (length t.objects)) TooManyObjects) slots_and_kind) none in
-    let held = first_of-None (refusal_where (nat_le MOST_OBJECTS (length t.objects)) TooManyObjects) slots_and_kind risen.1 in
+    let slots_and_kind = first_refusal (refusal_where (nat_lt t.most.slots (slot_count t + slots)) TooManySlots) (kind_refusal t kind) in
+    let risen = first_of-None (refusal_where (nat_le id t.greatest) (IdNotRising id)) (first_refusal (refusal_where (nat_le t.most.objects (length t.objects)) TooManyObjects) slots_and_kind) none in
+    let held = first_of-None (refusal_where (nat_le t.most.objects (length t.objects)) TooManyObjects) slots_and_kind risen.1 in
     let fits =
-    refusal_where-None (nat_lt MOST_SLOTS (slot_count t + slots)) TooManySlots
-    (first_of-None (refusal_where (nat_lt MOST_SLOTS (slot_count t + slots)) TooManySlots) (kind_refusal t kind) held.1).0 in
-    let room = ltb-false MOST_SLOTS (slot_count t + slots) fits in
+    refusal_where-None (nat_lt t.most.slots (slot_count t + slots)) TooManySlots
+    (first_of-None (refusal_where (nat_lt t.most.slots (slot_count t + slots)) TooManySlots) (kind_refusal t kind) held.1).0 in
+    let room = ltb-false t.most.slots (slot_count t + slots) fits in
     let e = sum_by-append (λ (o : Object). length o.slots) t.objects (record { id = id; kind = kind; slots = replicate slots empty_slot } ∷ []) in
     let d = sum_by-cons (λ (o : Object). length o.slots) (record { id = id; kind = kind; slots = replicate slots empty_slot }) [] in
     let n = length-replicate slots empty_slot in
@@ -272,12 +274,12 @@ kinds_few t kind none few = go (is_seen t.kinds kind) (refusal_where-None _ _ no
     go false room = let space = leb-false MOST_KINDS (length t.kinds) room in let one_more = length-append t.kinds (kind ∷ []) in omega arith
 
 -- an object may be added where there are fewer than there may be
-alloc_room : (t : Table) (id : ℕ) (kind : List ℕ) (slots : ℕ) → alloc_refusal t id kind slots ≡ None → (length t.objects < MOST_OBJECTS) × (kind_refusal t kind ≡ None)
+alloc_room : (t : Table) (id : ℕ) (kind : List ℕ) (slots : ℕ) → alloc_refusal t id kind slots ≡ None → (length t.objects < t.most.objects) × (kind_refusal t kind ≡ None)
 unfolding alloc_refusal
 alloc_room t id kind slots none =
     let risen = (first_of-None (refusal_where (nat_le id t.greatest) (IdNotRising id)) _ none).1 in
-    let held = first_of-None (refusal_where (nat_le MOST_OBJECTS (length t.objects)) TooManyObjects) _ risen in
-    (leb-false MOST_OBJECTS (length t.objects) (refusal_where-None _ _ held.0), (first_of-None (refusal_where (nat_lt MOST_SLOTS (slot_count t + slots)) TooManySlots) (kind_refusal t kind) held.1).1)
+    let held = first_of-None (refusal_where (nat_le t.most.objects (length t.objects)) TooManyObjects) _ risen in
+    (leb-false t.most.objects (length t.objects) (refusal_where-None _ _ held.0), (first_of-None (refusal_where (nat_lt t.most.slots (slot_count t + slots)) TooManySlots) (kind_refusal t kind) held.1).1)
 
 alloc_keeps_limits : (t : Table) (id : ℕ) (kind : List ℕ) (slots : ℕ) → alloc_refusal t id kind slots ≡ None → IsWithinLimits t → IsWithinLimits (with_object t id kind slots)
 unfolding with_object
@@ -285,6 +287,7 @@ alloc_keeps_limits t id kind slots none old =
     let (fewer, known) = alloc_room t id kind slots none in
     let one_more = length-append t.objects (record { id = id; kind = kind; slots = replicate slots empty_slot } ∷ []) in
     record {
+      possible = old.possible;
       objects = omega arith;
       slots = alloc_few t id kind slots none;
       roots = old.roots;
@@ -298,15 +301,15 @@ change_few t at slot change old =
     let slots = old.slots in
     let many = length-map t.objects (with_slot at slot change) in
     let objects = old.objects in
-    record { objects = omega arith; slots = omega arith; roots = old.roots; kinds = old.kinds }
+    record { possible = old.possible; objects = omega arith; slots = omega arith; roots = old.roots; kinds = old.kinds }
 
 root_keeps_limits : (t : Table) (name : List ℕ) (to : Option ℕ) → root_refusal t name to ≡ None →
     IsStrictlySortedBy name_cmp (keys_of t.roots) → IsWithinLimits t → IsWithinLimits (with_root t name to)
 unfolding with_root
 root_keeps_limits t name None none sorted old =
-    record { objects = old.objects; slots = old.slots; roots = roots_few t name None none sorted old.roots; kinds = old.kinds }
+    record { possible = old.possible; objects = old.objects; slots = old.slots; roots = roots_few t name None none sorted old.roots; kinds = old.kinds }
 root_keeps_limits t name (Some id) none sorted old =
-    record { objects = old.objects; slots = old.slots; roots = roots_few t name (Some id) none sorted old.roots; kinds = old.kinds }
+    record { possible = old.possible; objects = old.objects; slots = old.slots; roots = roots_few t name (Some id) none sorted old.roots; kinds = old.kinds }
 
 -- a heap with that order, and within the limits
 abbrev IsLimited : Heap → Type 0
@@ -326,7 +329,7 @@ step_few h (AssertDead id) old = IfOk-unless (λ next. IsWithinLimits next.table
 step_few h (StartRegion thread) old = IfOk-unless (λ next. IsWithinLimits next.table) _ _ (λ none. old.1)
 step_few h (AssertAllDead thread) old = IfOk-unless (λ next. IsWithinLimits next.table) _ _ (λ none. old.1)
 step_few h (AssertInstances kind limit) old =
-    IfOk-unless (λ next. IsWithinLimits next.table) _ _ (λ none. record { objects = old.1.objects; slots = old.1.slots; roots = old.1.roots; kinds = kinds_few h.table kind none old.1.kinds })
+    IfOk-unless (λ next. IsWithinLimits next.table) _ _ (λ none. record { possible = old.1.possible; objects = old.1.objects; slots = old.1.slots; roots = old.1.roots; kinds = kinds_few h.table kind none old.1.kinds })
 step_few h (AssertUnshared id) old = IfOk-unless (λ next. IsWithinLimits next.table) _ _ (λ none. old.1)
 step_few h (AssertOwnedBy owner ownee) old = IfOk-unless (λ next. IsWithinLimits next.table) _ _ (λ none. old.1)
 step_few h Collect old = old.1
@@ -355,13 +358,13 @@ collect_few rules h old =
     let objects = old.objects in
     let roots = old.roots in
     let slots = old.slots in
-    record { objects = omega arith; slots = omega arith; roots = omega arith; kinds = old.kinds }
+    record { possible = old.possible; objects = omega arith; slots = omega arith; roots = omega arith; kinds = old.kinds }
 
 collect_limits : (rules : Rules) (h : Heap) → IsLimited h → IsLimited (after_collection rules h)
 collect_limits rules h old = (collect_orders rules h old.0, collect_few rules h old.1)
 
-empty_limited : IsLimited empty_heap
-empty_limited = (empty_ordered, record { objects = omega arith; slots = omega arith; roots = omega arith; kinds = omega arith })
+empty_limited : (most : Limits) → ArePossible most → IsLimited (empty_heap most)
+empty_limited most possible = (empty_ordered most, record { possible = possible; objects = omega arith; slots = omega arith; roots = omega arith; kinds = omega arith })
 
 pub limits_are_kept : LimitsAreKept
 limits_are_kept = (empty_limited, step_limits, collect_limits)

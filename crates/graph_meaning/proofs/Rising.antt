@@ -106,4 +106,4 @@ collect_rises rules h rise =
     rise_same left (cut_off gone left) (ids-cut_off gone left) refl (only_rises (traced_ids h) h.table rise)
 
 pub ids_always_rise : IdsAlwaysRise
-ids_always_rise = (record { rising = λ i j d less within. absurd (omega arith); within = All-nil _ }, step_rises, collect_rises)
+ids_always_rise = (λ most possible. record { rising = λ i j d less within. absurd (omega arith); within = All-nil _ }, step_rises, collect_rises)

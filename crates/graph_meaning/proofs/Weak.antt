@@ -68,4 +68,4 @@ unfolding after_collection after_sweep with_only
 collection_strong rules h none = without_strong _ _ (without_strong _ _ (All-filter _ AreStrong h.table.objects none))
 
 pub weak_only_by_operation : WeakOnlyByOperation
-weak_only_by_operation = (All-nil AreStrong, step_strong, collection_strong)
+weak_only_by_operation = (λ most. All-nil AreStrong, step_strong, collection_strong)

@@ -6,6 +6,7 @@ use Rattle.std.specs.Ordering.{nat_cmp}
 use Rattle.std.specs.declared.cmp.Ordering.{Ordering}
 use Rattle.std.specs.Cmp.Lexicographic.{slice_cmp}
 use Rattle.std.specs.Str.{bytes_eq}
+use Rattle.heap_base.specs.declared.limits.Limits.{Limits}
 use Rattle.heap_base.specs.declared.limits.TheConstants.{MOST_THREADS}
 
 -- A slot: what it holds, nothing or the id of an object, and whether it is weak.
@@ -20,13 +21,14 @@ pub record Object : Type 0 where
   pub slots : List Slot
 
 -- The objects by id rising; the roots by the bytes of their names rising, each with the id of the object that it
--- holds; the greatest id that was ever allocated, 0 before the first; and the type names that were seen, in the
--- order in which they first came.
+-- holds; the greatest id that was ever allocated, 0 before the first; the type names that were seen, in the
+-- order in which they first came; and the most that there may be.
 pub record Table : Type 0 where
   pub objects : List Object
   pub roots : List (List ℕ × ℕ)
   pub greatest : ℕ
   pub kinds : List (List ℕ)
+  pub most : Limits
 
 -- A heap: its table; the ids asserted dead and those asserted unshared, each by id rising; for each thread, at the
 -- place of its number, its open regions, the innermost first, each the ids of its objects; the limits of types, by
@@ -46,16 +48,17 @@ name_cmp = slice_cmp nat_cmp
 abbrev pub empty_slot : Slot
 empty_slot = record { held = None; weak = false }
 
-abbrev pub empty_table : Table
-empty_table = record { objects = []; roots = []; greatest = 0; kinds = [] }
+-- the empty table under these limits
+abbrev pub empty_table : Limits → Table
+empty_table most = record { objects = []; roots = []; greatest = 0; kinds = []; most = most }
 
 -- no region of any thread is open
 abbrev pub no_regions : List (List (List ℕ))
 no_regions = replicate MOST_THREADS []
 
--- the heap at the beginning of a trace
-abbrev pub empty_heap : Heap
-empty_heap = record { table = empty_table; dead = []; unshared = []; regions = no_regions; limits = []; owners = [] }
+-- the heap at the beginning of a trace, under these limits
+abbrev pub empty_heap : Limits → Heap
+empty_heap most = record { table = empty_table most; dead = []; unshared = []; regions = no_regions; limits = []; owners = [] }
 
 -- the object with this id
 abbrev pub object_at : List Object → ℕ → Option Object

@@ -3,7 +3,9 @@ use Rattle.std.specs.Prelude.{◌≡◌, ℕ, ◌+◌, ◌<◌, ◌≤◌, List,
 use Rattle.std.specs.List.Sorted.{IsStrictlySortedBy}
 use Rattle.std.specs.Map.{keys_of}
 use Rattle.std.specs.Ordering.{nat_cmp}
-use Rattle.heap_base.specs.declared.limits.TheConstants.{MOST_OBJECTS, MOST_SLOTS, MOST_ROOTS, MOST_KINDS}
+use Rattle.heap_base.specs.Limits.{ArePossible}
+use Rattle.heap_base.specs.declared.limits.Limits.{Limits}
+use Rattle.heap_base.specs.declared.limits.TheConstants.{MOST_KINDS}
 use Rattle.graph_meaning.specs.declared.event.Event.{Event}
 use Rattle.graph_meaning.specs.declared.event.Event.TheVariants.{SetWeak}
 use Rattle.graph_meaning.specs.Heap.{Slot, Table, Heap, empty_heap, name_cmp, ids, is_live, slot_count, edges, targets}
@@ -122,17 +124,18 @@ pub record IsOrdered (h : Heap) : Type 0 where
   pub limits : IsStrictlySortedBy name_cmp (keys_of h.limits)
   pub owners : IsStrictlySortedBy nat_cmp (keys_of h.owners)
 
--- There are no more objects, slots, roots and types than there may be.
+-- The limits of the table are possible, and there are no more objects, slots, roots and types than there may be.
 pub record IsWithinLimits (t : Table) : Type 0 where
-  pub objects : length t.objects ≤ MOST_OBJECTS
-  pub slots : slot_count t ≤ MOST_SLOTS
-  pub roots : length t.roots ≤ MOST_ROOTS
+  pub possible : ArePossible t.most
+  pub objects : length t.objects ≤ t.most.objects
+  pub slots : slot_count t ≤ t.most.slots
+  pub roots : length t.roots ≤ t.most.roots
   pub kinds : length t.kinds ≤ MOST_KINDS
 
--- what is so at the beginning, and stays so by each operation and each collection
+-- what is so at the beginning, under whatever limits are possible, and stays so by each operation and each collection
 abbrev pub AlwaysHolds : (Heap → Type 0) → Type 0
 AlwaysHolds P =
-    P empty_heap × ((h : Heap) (event : Event) → P h → IfOk (step h event) P) × ((rules : Rules) (h : Heap) → P h → P (after_collection rules h))
+    ((most : Limits) → ArePossible most → P (empty_heap most)) × ((h : Heap) (event : Event) → P h → IfOk (step h event) P) × ((rules : Rules) (h : Heap) → P h → P (after_collection rules h))
 
 abbrev pub HeapsReferToLive : Type 0
 HeapsReferToLive = AlwaysHolds RefersToLive
@@ -158,7 +161,7 @@ makes_weak event = false
 -- A slot is weak only where an operation made it weak: until then each slot that holds an object is an edge.
 abbrev pub WeakOnlyByOperation : Type 0
 WeakOnlyByOperation =
-    NoneWeak empty_heap
+    ((most : Limits) → NoneWeak (empty_heap most))
     × ((h : Heap) (event : Event) → makes_weak event ≡ false → NoneWeak h → IfOk (step h event) NoneWeak)
     × ((rules : Rules) (h : Heap) → NoneWeak h → NoneWeak (after_collection rules h))
 
@@ -182,7 +185,7 @@ ForceCutsOff =
 -- All objects together have no more references than there may be roots and slots.
 abbrev pub RefsAreBounded : Type 0
 RefsAreBounded =
-    (h : Heap) → IdsRise h.table → IsWithinLimits h.table → sum_by (reference_count h) (ids h.table) ≤ MOST_ROOTS + MOST_SLOTS
+    (h : Heap) → IdsRise h.table → IsWithinLimits h.table → sum_by (reference_count h) (ids h.table) ≤ h.table.most.roots + h.table.most.slots
 
 -- ---- what is shown
 

@@ -7,7 +7,7 @@ use Rattle.std.specs.Ordering.{nat_cmp}
 use Rattle.std.specs.Map.{lookup, remove_entry}
 use Rattle.std.specs.BTreeMap.{insert_entry, is_at}
 use Rattle.std.specs.BTreeSet.{insert_key}
-use Rattle.heap_base.specs.declared.limits.TheConstants.{MOST_OBJECTS, MOST_SLOTS, MOST_ROOTS, MOST_KINDS, MOST_REGIONS}
+use Rattle.heap_base.specs.declared.limits.TheConstants.{MOST_KINDS, MOST_REGIONS}
 use Rattle.graph_meaning.specs.declared.event.Event.{Event}
 use Rattle.graph_meaning.specs.declared.event.Event.TheVariants.{Alloc, Store, Root, AssertDead, StartRegion, AssertAllDead, AssertInstances, AssertUnshared, AssertOwnedBy, SetWeak, Collect}
 use Rattle.graph_meaning.specs.declared.refusal.Refusal.{Refusal}
@@ -36,8 +36,8 @@ kind_refusal t kind = refusal_where (not (is_seen t.kinds kind) && nat_le MOST_K
 unfoldable pub alloc_refusal : Table → ℕ → List ℕ → ℕ → Option Refusal
 alloc_refusal t id kind slots =
     first_refusal (refusal_where (nat_le id t.greatest) (IdNotRising id))
-    (first_refusal (refusal_where (nat_le MOST_OBJECTS (length t.objects)) TooManyObjects)
-    (first_refusal (refusal_where (nat_lt MOST_SLOTS (slot_count t + slots)) TooManySlots)
+    (first_refusal (refusal_where (nat_le t.most.objects (length t.objects)) TooManyObjects)
+    (first_refusal (refusal_where (nat_lt t.most.slots (slot_count t + slots)) TooManySlots)
     (kind_refusal t kind)))
 
 -- what a slot or a root is to hold names no live object
@@ -64,7 +64,7 @@ is_root t name = is_some (lookup (is_at (name_cmp name)) t.roots)
 unfoldable pub root_refusal : Table → List ℕ → Option ℕ → Option Refusal
 root_refusal t name None = None
 root_refusal t name (Some id) =
-    first_refusal (not_live t id) (refusal_where (not (is_root t name) && nat_le MOST_ROOTS (length t.roots)) TooManyRoots)
+    first_refusal (not_live t id) (refusal_where (not (is_root t name) && nat_le t.most.roots (length t.roots)) TooManyRoots)
 
 -- ---- what an operation leaves
 
@@ -75,7 +75,7 @@ with_kind kinds kind = if is_seen kinds kind then kinds else kinds ++ kind ∷ [
 -- the object is added with empty slots, none weak
 unfoldable pub with_object : Table → ℕ → List ℕ → ℕ → Table
 with_object t id kind slots =
-    record { objects = t.objects ++ record { id = id; kind = kind; slots = replicate slots empty_slot } ∷ []; roots = t.roots; greatest = id; kinds = with_kind t.kinds kind }
+    record { objects = t.objects ++ record { id = id; kind = kind; slots = replicate slots empty_slot } ∷ []; roots = t.roots; greatest = id; kinds = with_kind t.kinds kind; most = t.most }
 
 -- the object with a change to that slot, if it is the one that is meant
 abbrev pub with_slot : ℕ → ℕ → (Slot → Slot) → Object → Object

@@ -2,6 +2,8 @@
 use Rattle.std.proofs.Common.{◌≡◌, Option, None, Some, Result, Ok, Err, sym, ap, refl, subst, ◌∙◌}
 use Rattle.std.specs.Result.{OnOk, OnErr, IfOk, IsErr, IsErrAnd, result_err}
 use Rattle.std.proofs.lemmas.Bool.{false≢true}
+use Rattle.heap_base.specs.Limits.{ArePossible}
+use Rattle.heap_base.specs.declared.limits.Limits.{Limits}
 use Rattle.graph_meaning.specs.declared.event.Event.{Event}
 use Rattle.graph_meaning.specs.declared.refusal.Refusal.{Refusal}
 use Rattle.graph_meaning.specs.declared.refusal.Stop.{Stop}
@@ -26,12 +28,12 @@ parts_in i = record { placed = i.table; assertions = i.registry; regions = i.reg
 
 -- ---- what is true of a heap at any time
 
-pub well_formed-empty : IsWellFormed empty_heap
-well_formed-empty = record {
-  refers = heaps_refer_to_live.0;
-  rising = ids_always_rise.0;
-  ordered = limits_are_kept.0.0;
-  limits = limits_are_kept.0.1;
+pub well_formed-empty : (most : Limits) → ArePossible most → IsWellFormed (empty_heap most)
+well_formed-empty most possible = record {
+  refers = heaps_refer_to_live.0 most possible;
+  rising = ids_always_rise.0 most possible;
+  ordered = (limits_are_kept.0 most possible).0;
+  limits = (limits_are_kept.0 most possible).1;
 }
 
 pub well_formed-step : (h : Heap) (event : Event) → IsWellFormed h → IfOk (step h event) IsWellFormed
@@ -69,8 +71,8 @@ parts-after before after event result steps are seen unasserted = record {
 }
 
 -- the parts of the empty heap
-pub parts-nothing : AreParts (record { placed = nothing_placed; assertions = no_assertions; regions = no_open_regions })
-parts-nothing = record { heap = well_formed-empty; seen = λ kind some. absurd (false≢true some); unasserted = refl }
+pub parts-nothing : (most : Limits) → ArePossible most → AreParts (record { placed = nothing_placed most; assertions = no_assertions; regions = no_open_regions })
+parts-nothing most possible = record { heap = well_formed-empty most possible; seen = λ kind some. absurd (false≢true some); unasserted = refl }
 
 -- ---- the steps of a call, where `step` is this
 

@@ -1,5 +1,6 @@
 //! The parts of a heap: its objects, what is asserted of them, and the open regions.
 ghost use Rattle.std.specs.Prelude.{◌≡◌, [], length, IsTrue, IfOk};
+ghost use Rattle.heap_base.specs.Limits.{ArePossible};
 ghost use Rattle.graph_meaning.specs.Heap.{empty_heap};
 ghost use Rattle.graph_meaning.specs.Roles.{AreRolesOf};
 ghost use Rattle.assert_registry.specs.Laws.{StandFor};
@@ -7,7 +8,7 @@ ghost use Rattle.heap_parts.specs.Parts.{Steps, is_operation, placed_in};
 
 use assert_registry::AssertRegistry;
 use graph_meaning::{Event, Roles, Stop};
-use heap_base::{MOST_OBJECTS, OutOfMemory};
+use heap_base::{Limits, MOST_OBJECTS, OutOfMemory};
 use object_table::ObjectTable;
 use region_log::RegionLog;
 use std::alloc::Global;
@@ -32,11 +33,12 @@ impl Model for HeapParts {
 }
 
 impl HeapParts {
-    /// The parts of the empty heap. Answers `OutOfMemory` when memory runs out.
-    pub fn make(alloc: Global) -> Result<HeapParts, OutOfMemory>
-        ensures { IfOk result (λ a. a ≡ record { heap = empty_heap; cells = [] }) }
+    /// The parts of the empty heap under these limits. Answers `OutOfMemory` when memory runs out.
+    pub fn make(alloc: Global, most: Limits) -> Result<HeapParts, OutOfMemory>
+        requires possible { ArePossible most }
+        ensures empty { IfOk result (λ a. a ≡ record { heap = empty_heap most; cells = [] }) }
     {
-        let table = ObjectTable::make(alloc)?;
+        let table = ObjectTable::make(alloc, most)?;
         let registry = AssertRegistry::make(alloc)?;
         let regions = RegionLog::make(alloc)?;
         Ok(HeapParts {

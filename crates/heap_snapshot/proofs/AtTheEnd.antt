@@ -1,6 +1,7 @@
 -- Nothing is written before the end.
 use Rattle.std.proofs.Common.{◌≡◌, ℕ, ◌+◌, List, [], ◌∷◌, ◌++◌, Option, None, Some, Result, Ok, Err, refl, ap, ◌∙◌, subst, append-nil}
 use Rattle.std.specs.Io.KnownBytes.{Appends, Keeps}
+use Rattle.heap_base.specs.Limits.{usual_limits}
 use Rattle.heap_base.specs.declared.status.Status.{Status}
 use Rattle.heap_base.specs.declared.status.Status.TheVariants.{ReadFault}
 use Rattle.graph_meaning.specs.declared.event.Event.{Event}
@@ -50,7 +51,7 @@ run_silent h lines (item ∷ items) =
     item_silent (lines + 1) (λ next. run snapshot_meaning next (lines + 1) items) (λ next. run_silent next (lines + 1) items) h item
 
 pub writes_at_the_end : WritesAtTheEnd
-writes_at_the_end items = run_silent empty_heap 0 items
+writes_at_the_end items = run_silent (empty_heap usual_limits) 0 items
 
 -- ---- where a read failed
 
@@ -60,9 +61,9 @@ nothing_appended (Some xs) None none appends = absurd appends
 nothing_appended (Some xs) (Some ys) none appends = appends ∙ ap (λ (t : List ℕ). xs ++ t) none ∙ append-nil xs
 
 module _ (old new : Outside) {status : Status} (failed : status ≡ ReadFault) where
-  pub unwritten_from_trace : EndsAs (trace_report LONGEST_TRACE (report_by snapshot_meaning empty_heap)) old new status → Keeps old.sink.bytes new.sink.bytes
+  pub unwritten_from_trace : EndsAs (trace_report LONGEST_TRACE (report_by snapshot_meaning (empty_heap usual_limits))) old new status → Keeps old.sink.bytes new.sink.bytes
   unwritten_from_trace ended =
-      let cut = (subst (λ (s : Status). EndsAs (trace_report LONGEST_TRACE (report_by snapshot_meaning empty_heap)) old new s) failed ended).1 in
+      let cut = (subst (λ (s : Status). EndsAs (trace_report LONGEST_TRACE (report_by snapshot_meaning (empty_heap usual_limits))) old new s) failed ended).1 in
       nothing_appended old.sink.bytes new.sink.bytes (writes_at_the_end (items_of LONGEST_TRACE (whole_lines cut.bytes))) cut.part
 
   pub unwritten_to_trace : ConversionEndsAs old new status → Keeps old.sink.bytes new.sink.bytes

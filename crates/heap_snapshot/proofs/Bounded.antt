@@ -6,7 +6,7 @@ use Rattle.std.proofs.lemmas.Option.{cond_some, none-some}
 use Rattle.std.proofs.lemmas.List.{map-append, length-replicate}
 use Rattle.std.proofs.lemmas.List.Elements.{All-weaker, All-push}
 use Rattle.std.proofs.lemmas.List.Quantifiers.{all_pairs_push}
-use Rattle.heap_base.specs.declared.limits.TheConstants.{MOST_OBJECTS, MOST_SLOTS, MOST_ROOTS, MOST_KINDS}
+use Rattle.heap_base.specs.declared.limits.TheConstants.{USUAL_OBJECTS, USUAL_SLOTS, USUAL_ROOTS, MOST_KINDS}
 use Rattle.graph_meaning.specs.Heap.{is_seen}
 use Rattle.graph_meaning.specs.declared.views.ObjectView.{ObjectView}
 use Rattle.heap_snapshot.specs.declared.line.Line.{Line}
@@ -26,11 +26,11 @@ bounded_nothing = record { filled = tt; few_objects = omega arith; few_slots = o
 
 -- the objects are the same
 keeps_objects : (r : Reading) (s : Reading) → IsBounded r → object_ids (objects_read s) ≡ object_ids (objects_read r) → length (objects_read s) ≡ length (objects_read r)
-    → s.greatest ≡ r.greatest → s.slots ≡ r.slots → length s.roots ≤ MOST_ROOTS → IsWithin s.stage → IsBounded s
+    → s.greatest ≡ r.greatest → s.slots ≡ r.slots → length s.roots ≤ USUAL_ROOTS → IsWithin s.stage → IsBounded s
 keeps_objects r s is same count greatest slots roots within = record {
   filled = within;
-  few_objects = subst (λ n. n ≤ MOST_OBJECTS) (sym count) is.few_objects;
-  few_slots = subst (λ n. n ≤ MOST_SLOTS) (sym slots) is.few_slots;
+  few_objects = subst (λ n. n ≤ USUAL_OBJECTS) (sym count) is.few_objects;
+  few_slots = subst (λ n. n ≤ USUAL_SLOTS) (sym slots) is.few_slots;
   few_roots = roots;
   rising = subst (AllPairs (λ x y. x < y)) (sym same) is.rising;
   within = subst (λ xs. All (λ id. id ≤ s.greatest) xs) (sym same) (subst (λ n. All (λ id. id ≤ n) (object_ids (objects_read r))) (sym greatest) is.within);
@@ -44,14 +44,14 @@ object_bounded : (r : Reading) (id slots : ℕ) (kind : List ℕ) → may_add r 
 unfolding may_add
 object_bounded r id slots kind may is =
     let a =
-    and_parts (is_before_roots r.stage && ltb r.greatest id && ltb (length (objects_read r)) MOST_OBJECTS && leb (r.slots + slots) MOST_SLOTS)
+    and_parts (is_before_roots r.stage && ltb r.greatest id && ltb (length (objects_read r)) USUAL_OBJECTS && leb (r.slots + slots) USUAL_SLOTS)
     (is_seen r.kinds kind || ltb (length r.kinds) MOST_KINDS) may in
-    let b = and_parts (is_before_roots r.stage && ltb r.greatest id && ltb (length (objects_read r)) MOST_OBJECTS) (leb (r.slots + slots) MOST_SLOTS) a.0 in
-    let c = and_parts (is_before_roots r.stage && ltb r.greatest id) (ltb (length (objects_read r)) MOST_OBJECTS) b.0 in
+    let b = and_parts (is_before_roots r.stage && ltb r.greatest id && ltb (length (objects_read r)) USUAL_OBJECTS) (leb (r.slots + slots) USUAL_SLOTS) a.0 in
+    let c = and_parts (is_before_roots r.stage && ltb r.greatest id) (ltb (length (objects_read r)) USUAL_OBJECTS) b.0 in
     let d = and_parts (is_before_roots r.stage) (ltb r.greatest id) c.0 in
     let above : r.greatest < id = ltb-true r.greatest id d.1 in
-    let few : length (objects_read r) < MOST_OBJECTS = ltb-true (length (objects_read r)) MOST_OBJECTS c.1 in
-    let room : r.slots + slots ≤ MOST_SLOTS = leb-true (r.slots + slots) MOST_SLOTS b.1 in
+    let few : length (objects_read r) < USUAL_OBJECTS = ltb-true (length (objects_read r)) USUAL_OBJECTS c.1 in
+    let room : r.slots + slots ≤ USUAL_SLOTS = leb-true (r.slots + slots) USUAL_SLOTS b.1 in
     let new : ObjectView = record { id = id; kind = kind; slots = replicate (slots - 0) None } in
     let ids : object_ids (objects_read r ++ new ∷ []) ≡ object_ids (objects_read r) ++ id ∷ [] = map-append (λ (o : ObjectView). o.id) (objects_read r) (new ∷ []) in
     let counted : length (objects_read r ++ new ∷ []) ≡ length (objects_read r) + 1 = length-append (objects_read r) (new ∷ []) in
@@ -96,9 +96,9 @@ slot_bounded r slot to Ended s at taken is = absurd (none-some s taken)
 closed_ids : (r : Reading) → objects_read r ++ [] ≡ objects_read r
 closed_ids r = append-nil (objects_read r)
 
-may_root-few : (r : Reading) (name : List ℕ) → may_root r name ≡ true → length r.roots < MOST_ROOTS
+may_root-few : (r : Reading) (name : List ℕ) → may_root r name ≡ true → length r.roots < USUAL_ROOTS
 unfolding may_root
-may_root-few r name may = ltb-true (length r.roots) MOST_ROOTS (and_parts _ _ may).1
+may_root-few r name may = ltb-true (length r.roots) USUAL_ROOTS (and_parts _ _ may).1
 
 head_bounded : (r : Reading) (stage : Stage) → r.stage ≡ stage → is_empty stage ≡ true → IsBounded r → IsBounded (record r { stage = Begun })
 head_bounded r Empty at empty is =
@@ -141,8 +141,8 @@ ended_objects r (InObject o) at is_so = absurd (false≢true is_so)
 ended_objects r InRoots at is_so = absurd (false≢true is_so)
 ended_objects r Ended at is_so = ap (λ (t : Stage). r.objects ++ open_objects t) at ∙ append-nil r.objects
 
-pub ended_few : (r : Reading) → is_ended r.stage ≡ true → IsBounded r → length r.objects ≤ MOST_OBJECTS
-ended_few r is_so is = subst (λ (xs : List ObjectView). length xs ≤ MOST_OBJECTS) (ended_objects r r.stage refl is_so) is.few_objects
+pub ended_few : (r : Reading) → is_ended r.stage ≡ true → IsBounded r → length r.objects ≤ USUAL_OBJECTS
+ended_few r is_so is = subst (λ (xs : List ObjectView). length xs ≤ USUAL_OBJECTS) (ended_objects r r.stage refl is_so) is.few_objects
 
 pub ended_rising : (r : Reading) → is_ended r.stage ≡ true → IsBounded r → AllPairs (λ x y. x < y) (object_ids r.objects)
 ended_rising r is_so is = subst (λ (xs : List ObjectView). AllPairs (λ x y. x < y) (object_ids xs)) (ended_objects r r.stage refl is_so) is.rising

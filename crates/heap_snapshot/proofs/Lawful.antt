@@ -4,7 +4,7 @@ use Rattle.std.specs.List.{flat_map}
 use Rattle.std.proofs.lemmas.Bool.{false≢true, cond-true, eqb-true, or_cases}
 use Rattle.std.proofs.lemmas.List.Elements.{All-nil, All-cons, All-head, All-tail, All-weaker, All-append}
 use Rattle.std.proofs.lemmas.List.Sums.{sum_by-cons}
-use Rattle.heap_base.specs.declared.limits.TheConstants.{MOST_SLOTS}
+use Rattle.heap_base.specs.declared.limits.TheConstants.{USUAL_SLOTS}
 use Rattle.graph_meaning.specs.Reach.{has_id}
 use Rattle.graph_meaning.specs.declared.views.HeapView.{HeapView}
 use Rattle.graph_meaning.specs.declared.views.ObjectView.{ObjectView}
@@ -41,7 +41,7 @@ module _ (v : HeapView) (formed : IsWellFormed v) where
   abbrev all_ids : List ℕ
   all_ids = object_ids v.objects
 
-  slots_right : (slot : ℕ) (slots : List (Option ℕ)) → slot + length slots ≤ MOST_SLOTS → All (Refers all_ids) slots → All (IsRight all_ids) (lines_of_slots slot slots)
+  slots_right : (slot : ℕ) (slots : List (Option ℕ)) → slot + length slots ≤ USUAL_SLOTS → All (Refers all_ids) slots → All (IsRight all_ids) (lines_of_slots slot slots)
   slots_right slot [] few refer = All-nil (IsRight all_ids)
   slots_right slot (None ∷ slots) few refer = slots_right (slot + 1) slots (omega arith) (All-tail (Refers all_ids) None slots refer)
   slots_right slot (Some to ∷ slots) few refer =
@@ -49,7 +49,7 @@ module _ (v : HeapView) (formed : IsWellFormed v) where
       All-cons (IsRight all_ids) (Slot slot to) (lines_of_slots (slot + 1) slots) ((omega arith, legal_id v.objects to formed.objects there), there)
       (slots_right (slot + 1) slots (omega arith) (All-tail (Refers all_ids) (Some to) slots refer))
 
-  objects_right : (objects : List ObjectView) → slot_total objects ≤ MOST_SLOTS → All IsLegalObject objects → All (λ (o : ObjectView). All (Refers all_ids) o.slots) objects →
+  objects_right : (objects : List ObjectView) → slot_total objects ≤ USUAL_SLOTS → All IsLegalObject objects → All (λ (o : ObjectView). All (Refers all_ids) o.slots) objects →
       All (IsRight all_ids) (flat_map lines_of_object objects)
   objects_right [] few legal refer = All-nil (IsRight all_ids)
   objects_right (o ∷ objects) few legal refer =

@@ -10,6 +10,8 @@ use Rattle.std.proofs.lemmas.List.Elements.{All-nil, All-cons, All-head, All-tai
 use Rattle.std.proofs.lemmas.List.Sums.{sum_by-cons}
 use Rattle.std.proofs.lemmas.Map.Views.{All-keys-insert_entry, All-map-remove_entry}
 use Rattle.std.proofs.lemmas.Str.{is_utf8-from_IsUtf8}
+use Rattle.heap_base.specs.Limits.{ArePossible, usual_limits}
+use Rattle.heap_base.specs.declared.limits.Limits.{Limits}
 use Rattle.heap_base.specs.Names.{is_name}
 use Rattle.heap_base.specs.declared.limits.TheConstants.{MOST_KINDS}
 use Rattle.graph_meaning.specs.declared.event.Event.{Event}
@@ -53,6 +55,7 @@ made_object t id kind slots is_id is_kind is =
           ∙ ap kind_names (sym (map-append object_view t.objects (new ∷ [])));
       objects = All-push IsLegal t.objects new is.objects (is_id, is_kind);
       roots = is.roots;
+      most = is.most;
     }
 
 same_kinds : (f : Object → Object) → ((o : Object) → (f o).kind ≡ o.kind) → (kinds : List (List ℕ)) (objects : List Object) →
@@ -67,6 +70,7 @@ made_store t at slot change is = record {
   kinds = is.kinds ∙ same_kinds (with_slot at slot change) (λ o. kind_of o (eqb o.id at)) [] t.objects;
   objects = All-map IsLegal (with_slot at slot change) t.objects (All-weaker IsLegal (λ o. IsLegal (with_slot at slot change o)) (λ o legal. legal_of o (eqb o.id at) legal) t.objects is.objects);
   roots = is.roots;
+  most = is.most;
 }
   where
     kind_of : (o : Object) (b : Bool) → (cond b (record o { slots = slice_set o.slots slot (change (get_or o.slots slot empty_slot)) }) o).kind ≡ o.kind
@@ -80,9 +84,9 @@ made_store t at slot change is = record {
 pub made_root : (t : Table) (name : List ℕ) (to : Option ℕ) → IsName name → IsMade t → IsMade (with_root t name to)
 unfolding with_root
 made_root t name None named is =
-    record { kinds = is.kinds; objects = is.objects; roots = All-map-remove_entry (is_at (name_cmp name)) (λ r. r.0) IsName t.roots is.roots }
+    record { kinds = is.kinds; objects = is.objects; roots = All-map-remove_entry (is_at (name_cmp name)) (λ r. r.0) IsName t.roots is.roots; most = is.most }
 made_root t name (Some id) named is =
-    record { kinds = is.kinds; objects = is.objects; roots = All-keys-insert_entry name_cmp name id IsName t.roots is.roots named }
+    record { kinds = is.kinds; objects = is.objects; roots = All-keys-insert_entry name_cmp name id IsName t.roots is.roots named; most = is.most }
 
 -- the name that a text is
 pub is_named : (text name : List ℕ) → IsUtf8 text → text ≡ name → IsTrue (is_name name) → IsName name
@@ -147,9 +151,9 @@ module _ (t : Table) (is : IsReady t) where
 
   view_formed : IsWellFormed (heap_view t)
   view_formed = record {
-    few_objects = omega (arith, length-map t.objects object_view, is.limits.objects);
-    few_slots = omega (arith, total-view t t.objects, is.limits.slots);
-    few_roots = is.limits.roots;
+    few_objects = omega (arith, length-map t.objects object_view, is.limits.objects, ap (λ (l : Limits). l.objects) is.made.most);
+    few_slots = omega (arith, total-view t t.objects, is.limits.slots, ap (λ (l : Limits). l.slots) is.made.most);
+    few_roots = omega (arith, is.limits.roots, ap (λ (l : Limits). l.roots) is.made.most);
     few_kinds = subst (λ (ks : List (List ℕ)). length ks ≤ MOST_KINDS) is.made.kinds is.limits.kinds;
     objects = All-map (λ (o : ObjectView). IsId o.id × IsName o.kind) object_view t.objects is.made.objects;
     root_names = named_keys t.roots is.made.roots;
@@ -179,12 +183,15 @@ pub record IsGood (h : Heap) : Type 0 where
   pub limited : IsOrdered h × IsWithinLimits h.table
   pub made : IsMade h.table
 
-pub empty_good : IsGood empty_heap
+usual_possible : ArePossible usual_limits
+usual_possible = record { objects = omega arith; slots = omega arith; roots = omega arith }
+
+pub empty_good : IsGood (empty_heap usual_limits)
 empty_good = record {
-  refers = heaps_refer_to_live.0;
-  rise = ids_always_rise.0;
-  limited = limits_are_kept.0;
-  made = record { kinds = refl; objects = All-nil _; roots = All-nil _ };
+  refers = heaps_refer_to_live.0 usual_limits usual_possible;
+  rise = ids_always_rise.0 usual_limits usual_possible;
+  limited = limits_are_kept.0 usual_limits usual_possible;
+  made = record { kinds = refl; objects = All-nil _; roots = All-nil _; most = refl };
 }
 
 made_step : (h : Heap) (e : Event) → MakesHeaps e → IsNamed e → IsMade h.table → IfOk (step h e) (λ next. IsMade next.table)
@@ -226,9 +233,9 @@ good_run h k (e ∷ events) makes named is ran =
     go (Err x) good later ran = absurd (cc)
 
 pub views_are_lawful : ViewsAreLawful
-views_are_lawful events h makes named ran = good_lawful h (good_run empty_heap h events makes named empty_good ran)
+views_are_lawful events h makes named ran = good_lawful h (good_run (empty_heap usual_limits) h events makes named empty_good ran)
 
 -- ---- an `ObjectTable` of which nothing was asked yet
 
-pub made_nothing : (p : PlacedTable) → p ≡ nothing_placed → IsMade p.table
+pub made_nothing : (p : PlacedTable) → p ≡ nothing_placed usual_limits → IsMade p.table
 made_nothing p is = subst (λ (q : PlacedTable). IsMade q.table) (sym is) empty_good.made

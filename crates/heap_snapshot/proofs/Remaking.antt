@@ -16,7 +16,8 @@ use Rattle.std.proofs.lemmas.List.{length-map, length-replicate, map-append}
 use Rattle.std.proofs.lemmas.List.Elements.{All-nil, All-cons, All-head, All-tail, All-push, All-weaker, All-from_recursion}
 use Rattle.std.proofs.lemmas.List.Sums.{sum_by-append, fold-append, fold_push}
 use Rattle.std.proofs.lemmas.Map.Keys.{sorted_head, sorted_tail}
-use Rattle.heap_base.specs.declared.limits.TheConstants.{MOST_OBJECTS, MOST_SLOTS, MOST_ROOTS, MOST_KINDS}
+use Rattle.heap_base.specs.Limits.{usual_limits}
+use Rattle.heap_base.specs.declared.limits.TheConstants.{USUAL_OBJECTS, USUAL_SLOTS, MOST_KINDS}
 use Rattle.graph_meaning.specs.declared.event.Event.{Event}
 use Rattle.graph_meaning.specs.declared.event.Event.TheVariants.{Store, Root}
 use Rattle.graph_meaning.specs.declared.refusal.Refusal.{Refusal}
@@ -103,7 +104,7 @@ seen kinds o = with_kind kinds o.kind
 
 -- the table of these objects, with every slot empty
 abbrev table_of : List ObjectView → ℕ → Table
-table_of objects greatest = record { objects = map empty_object objects; roots = []; greatest = greatest; kinds = kind_names objects }
+table_of objects greatest = record { objects = map empty_object objects; roots = []; greatest = greatest; kinds = kind_names objects; most = usual_limits }
 
 slot_count-empty : (before : ℕ) (objects : List ObjectView) →
     fold (λ (n : ℕ) (o : Object). n + length o.slots) before (map empty_object objects) ≡ fold (λ (n : ℕ) (o : ObjectView). n + length o.slots) before objects
@@ -135,26 +136,26 @@ kind_allowed t kind few = go (is_seen t.kinds kind) few
 -- the object may be allocated in the table
 record HasRoomFor (t : Table) (o : ObjectView) : Type 0 where
   above : t.greatest < o.id
-  few : length t.objects < MOST_OBJECTS
-  room : slot_count t + length o.slots ≤ MOST_SLOTS
+  few : length t.objects < t.most.objects
+  room : slot_count t + length o.slots ≤ t.most.slots
   kinds : length (with_kind t.kinds o.kind) ≤ MOST_KINDS
 
 alloc_allowed : (t : Table) (o : ObjectView) → HasRoomFor t o → alloc_refusal t o.id o.kind (length o.slots) ≡ None
 unfolding alloc_refusal
 alloc_allowed t o has =
-    let objects : Option Refusal = refusal_where (leb MOST_OBJECTS (length t.objects)) TooManyObjects in
-    let many : Option Refusal = refusal_where (ltb MOST_SLOTS (slot_count t + length o.slots)) TooManySlots in
+    let objects : Option Refusal = refusal_where (leb t.most.objects (length t.objects)) TooManyObjects in
+    let many : Option Refusal = refusal_where (ltb t.most.slots (slot_count t + length o.slots)) TooManySlots in
     let kinds : Option Refusal = kind_refusal t o.kind in
     ap (λ (b : Bool). first_refusal (refusal_where b (IdNotRising o.id)) (first_refusal objects (first_refusal many kinds))) (lt-leb o.id t.greatest has.above)
-    ∙ ap (λ (b : Bool). first_refusal (refusal_where b TooManyObjects) (first_refusal many kinds)) (lt-leb MOST_OBJECTS (length t.objects) has.few)
-    ∙ ap (λ (b : Bool). first_refusal (refusal_where b TooManySlots) kinds) (le-ltb MOST_SLOTS (slot_count t + length o.slots) has.room)
+    ∙ ap (λ (b : Bool). first_refusal (refusal_where b TooManyObjects) (first_refusal many kinds)) (lt-leb t.most.objects (length t.objects) has.few)
+    ∙ ap (λ (b : Bool). first_refusal (refusal_where b TooManySlots) kinds) (le-ltb t.most.slots (slot_count t + length o.slots) has.room)
     ∙ kind_allowed t o.kind has.kinds
 
 table_of-push : (done : List ObjectView) (o : ObjectView) (greatest : ℕ) → table_of (done ++ o ∷ []) o.id ≡ with_object (table_of done greatest) o.id o.kind (length o.slots)
 unfolding with_object
 table_of-push done o greatest =
-    ap (λ (xs : List Object). record { objects = xs; roots = []; greatest = o.id; kinds = kind_names (done ++ o ∷ []) }) (map-append empty_object done (o ∷ []))
-    ∙ ap (λ (ks : List (List ℕ)). record { objects = map empty_object done ++ empty_object o ∷ []; roots = []; greatest = o.id; kinds = ks }) (fold_push seen [] done o)
+    ap (λ (xs : List Object). record { objects = xs; roots = []; greatest = o.id; kinds = kind_names (done ++ o ∷ []); most = usual_limits }) (map-append empty_object done (o ∷ []))
+    ∙ ap (λ (ks : List (List ℕ)). record { objects = map empty_object done ++ empty_object o ∷ []; roots = []; greatest = o.id; kinds = ks; most = usual_limits }) (fold_push seen [] done o)
 
 alloc_one : (done : List ObjectView) (o : ObjectView) (greatest : ℕ) → HasRoomFor (table_of done greatest) o
     → step (bare_heap (table_of done greatest)) (alloc_of o) ≡ Ok (bare_heap (table_of (done ++ o ∷ []) o.id))
@@ -173,8 +174,8 @@ rising_tail o rest rising i j d below within = rising (suc i) (suc j) d (omega a
 
 -- these objects may be allocated behind those that were, whose greatest id is this one
 record MayFollow (done rest : List ObjectView) (greatest : ℕ) : Type 0 where
-  few : length done + length rest ≤ MOST_OBJECTS
-  room : slot_total (done ++ rest) ≤ MOST_SLOTS
+  few : length done + length rest ≤ USUAL_OBJECTS
+  room : slot_total (done ++ rest) ≤ USUAL_SLOTS
   kinds : length (kind_names (done ++ rest)) ≤ MOST_KINDS
   above : All (λ (id : ℕ). greatest < id) (object_ids rest)
   rising : Rising rest
@@ -186,7 +187,7 @@ first_has_room done o rest greatest may =
     let total : slot_count (table_of done greatest) ≡ slot_total done = slot_count-empty 0 done in
     let sum : slot_total now ≡ slot_total done + length o.slots = sum_by-append (λ (x : ObjectView). length x.slots) done (o ∷ []) ∙ omega arith in
     let split : slot_total (now ++ rest) ≡ slot_total now + slot_total rest = sum_by-append (λ (x : ObjectView). length x.slots) now rest in
-    let room : slot_total (now ++ rest) ≤ MOST_SLOTS = subst (λ (xs : List ObjectView). slot_total xs ≤ MOST_SLOTS) (sym all) may.room in
+    let room : slot_total (now ++ rest) ≤ USUAL_SLOTS = subst (λ (xs : List ObjectView). slot_total xs ≤ USUAL_SLOTS) (sym all) may.room in
     let kinds : length (kind_names (now ++ rest)) ≤ MOST_KINDS = subst (λ (xs : List ObjectView). length (kind_names xs) ≤ MOST_KINDS) (sym all) may.kinds in
     let more : length (kind_names now) ≤ length (fold seen (kind_names now) rest) = more_kinds (kind_names now) rest in
     let kinds_split : length (kind_names (now ++ rest)) ≡ length (fold seen (kind_names now) rest) = ap (λ (ks : List (List ℕ)). length ks) (fold-append seen [] now rest) in
@@ -209,7 +210,7 @@ alloc_all done (o ∷ rest) greatest may =
     let one = alloc_one done o greatest (first_has_room done o rest greatest may) in
     let later = alloc_all now rest o.id (record {
       few = omega (arith, few, length-append done (o ∷ []));
-      room = subst (λ (xs : List ObjectView). slot_total xs ≤ MOST_SLOTS) (sym all) may.room;
+      room = subst (λ (xs : List ObjectView). slot_total xs ≤ USUAL_SLOTS) (sym all) may.room;
       kinds = subst (λ (xs : List ObjectView). length (kind_names xs) ≤ MOST_KINDS) (sym all) may.kinds;
       above = rising_head o rest may.rising;
       rising = rising_tail o rest may.rising;
@@ -390,26 +391,26 @@ insert_last (r ∷ roots) name id below =
     ap (λ (o : Ordering). match_ordering o ((name, id) ∷ r ∷ roots) ((r.0, id) ∷ roots) (r ∷ insert_entry name_cmp roots name id)) greater
     ∙ ap (λ (rs : Roots). r ∷ rs) (insert_last roots name id (All-tail (λ (r : List ℕ × ℕ). name_cmp r.0 name ≡ Less) r roots below))
 
-root_allowed : (t : Table) (name : List ℕ) (id : ℕ) → is_live t id ≡ true → length t.roots < MOST_ROOTS → root_refusal t name (Some id) ≡ None
+root_allowed : (t : Table) (name : List ℕ) (id : ℕ) → is_live t id ≡ true → length t.roots < t.most.roots → root_refusal t name (Some id) ≡ None
 unfolding root_refusal
 root_allowed t name id live few =
     let room : Bool → Option Refusal = λ b. refusal_where (not (is_root t name) && b) TooManyRoots in
-    ap (λ (b : Bool). first_refusal (refusal_where (not b) (NotLive id)) (room (leb MOST_ROOTS (length t.roots)))) live
-    ∙ ap room (lt-leb MOST_ROOTS (length t.roots) few)
+    ap (λ (b : Bool). first_refusal (refusal_where (not b) (NotLive id)) (room (leb t.most.roots (length t.roots)))) live
+    ∙ ap room (lt-leb t.most.roots (length t.roots) few)
     ∙ ap (λ (b : Bool). refusal_where b TooManyRoots) (and_false (not (is_root t name)))
   where
     and_false : (b : Bool) → (b && false) ≡ false
     and_false true = refl
     and_false false = refl
 
-root_one : (t : Table) (roots : Roots) (name : List ℕ) (id : ℕ) → is_live (with_roots t roots) id ≡ true → length roots < MOST_ROOTS → All (λ (r : List ℕ × ℕ). name_cmp r.0 name ≡ Less) roots
+root_one : (t : Table) (roots : Roots) (name : List ℕ) (id : ℕ) → is_live (with_roots t roots) id ≡ true → length roots < t.most.roots → All (λ (r : List ℕ × ℕ). name_cmp r.0 name ≡ Less) roots
     → step (bare_heap (with_roots t roots)) (Root name (Some id)) ≡ Ok (bare_heap (with_roots t (roots ++ (name, id) ∷ [])))
 unfolding step with_root
 root_one t roots name id live few below =
     ap (λ (o : Option Refusal). heap_unless o (bare_heap (with_roots t (insert_entry name_cmp roots name id)))) (root_allowed (with_roots t roots) name id live few)
     ∙ ap (λ (rs : Roots). Ok (bare_heap (with_roots t rs))) (insert_last roots name id below)
 
-roots_set : (t : Table) (done rest : Roots) → All (λ (r : List ℕ × ℕ). is_live t r.1 ≡ true) rest → length done + length rest ≤ MOST_ROOTS →
+roots_set : (t : Table) (done rest : Roots) → All (λ (r : List ℕ × ℕ). is_live t r.1 ≡ true) rest → length done + length rest ≤ t.most.roots →
     All (λ (r : List ℕ × ℕ). All (λ (n : List ℕ). name_cmp r.0 n ≡ Less) (keys_of rest)) done → IsStrictlySortedBy name_cmp (keys_of rest)
     → run_of (bare_heap (with_roots t done)) (map root_of rest) ≡ Ok (bare_heap (with_roots t (done ++ rest)))
 roots_set t done [] live few below sorted = ap (λ (rs : Roots). Ok (bare_heap (with_roots t rs))) (sym (append-nil done))
@@ -439,7 +440,7 @@ ids_above (o ∷ objects) legal =
     All-cons (λ (id : ℕ). 0 < id) o.id (object_ids objects) (All-head IsLegalObject o objects legal).0.0
     (ids_above objects (All-tail IsLegalObject o objects legal))
 
-pub remakes_view : (v : HeapView) → IsWellFormed v → (h : Heap) × (heap_after empty_heap (map (λ e. event e) (events_of v)) ≡ Ok h) × (heap_view h.table ≡ v)
+pub remakes_view : (v : HeapView) → IsWellFormed v → (h : Heap) × (heap_after (empty_heap usual_limits) (map (λ e. event e) (events_of v)) ≡ Ok h) × (heap_view h.table ≡ v)
 remakes_view v formed =
     let all : List ℕ = object_ids v.objects in
     let made = alloc_all [] v.objects 0 (record {
@@ -459,6 +460,6 @@ remakes_view v formed =
     let allocs : List Event = map alloc_of v.objects in
     let stores : List Event = flat_map stores_of v.objects in (
       bare_heap (with_roots u v.roots),
-      then_events empty_heap (bare_heap u) (allocs ++ stores) (map root_of v.roots) (then_events empty_heap (bare_heap t) allocs stores made.1 ∙ stored) ∙ rooted,
+      then_events (empty_heap usual_limits) (bare_heap u) (allocs ++ stores) (map root_of v.roots) (then_events (empty_heap usual_limits) (bare_heap t) allocs stores made.1 ∙ stored) ∙ rooted,
       ap (λ (objects : List ObjectView). record { objects = objects; roots = v.roots }) (views-full v.objects),
     )

@@ -4,6 +4,7 @@ use Rattle.std.specs.List.{flat_map}
 use Rattle.std.specs.Prelude.{nat_lt}
 use Rattle.std.proofs.lemmas.Bool.{cond-false, le-ltb}
 use Rattle.std.proofs.lemmas.List.Elements.{All-nil, All-cons, All-head, All-tail, All-append}
+use Rattle.heap_base.specs.Limits.{usual_limits}
 use Rattle.heap_base.specs.declared.status.Status.TheVariants.{Clean}
 use Rattle.graph_meaning.specs.declared.event.Event.{Event}
 use Rattle.graph_meaning.specs.declared.event.Event.TheVariants.{Alloc, Store, Root, SetWeak, AssertDead, StartRegion, AssertAllDead, AssertInstances, AssertUnshared, AssertOwnedBy, Collect}
@@ -142,7 +143,7 @@ is_made_again : (v : HeapView) → IsLawful v → length (trace_text v) ≤ LONG
     ((snapshot_report (items_of LONGEST_TRACE (trace_text v))).text ≡ snapshot_text v) × ((snapshot_report (items_of LONGEST_TRACE (trace_text v))).status ≡ Clean)
 is_made_again v lawful short =
     let made = remakes_view v (lawful_is_well_formed v lawful) in
-    let again = run_made empty_heap made.0 0 (events_of v) (events_make v) made.1 in
+    let again = run_made (empty_heap usual_limits) made.0 0 (events_of v) (events_make v) made.1 in
     let items = trace_has_events LONGEST_TRACE v lawful short in (
       ap (λ (items : List Item). (snapshot_report items).text) items ∙ again.0 ∙ ap snapshot_text made.2,
       ap (λ (items : List Item). (snapshot_report items).status) items ∙ again.1,
@@ -150,7 +151,7 @@ is_made_again v lawful short =
 
 pub round_trips : RoundTrips
 round_trips items named clean short fits =
-    let ran = run_snapped empty_heap 0 items named empty_good clean in
+    let ran = run_snapped (empty_heap usual_limits) 0 items named empty_good clean in
     let v : HeapView = heap_view ran.0.table in
     let lawful = good_lawful ran.0 ran.1 in
     let first : (snapshot_report items).text ≡ snapshot_text v = ran.2 in

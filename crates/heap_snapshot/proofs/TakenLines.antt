@@ -13,7 +13,7 @@ use Rattle.std.proofs.lemmas.List.Elements.{All-nil, All-cons, All-head, All-tai
 use Rattle.std.proofs.lemmas.List.Sums.{sum_by-append, fold-append}
 use Rattle.std.proofs.lemmas.Map.Keys.{sorted_tail}
 use Rattle.heap_base.specs.Names.{is_name}
-use Rattle.heap_base.specs.declared.limits.TheConstants.{MOST_OBJECTS, MOST_SLOTS, MOST_ROOTS, MOST_KINDS}
+use Rattle.heap_base.specs.declared.limits.TheConstants.{USUAL_OBJECTS, USUAL_SLOTS, USUAL_ROOTS, MOST_KINDS}
 use Rattle.graph_meaning.specs.Heap.{name_cmp, is_seen}
 use Rattle.graph_meaning.specs.Step.{with_kind}
 use Rattle.graph_meaning.specs.declared.views.HeapView.{HeapView}
@@ -132,8 +132,8 @@ record HasObjects (r : Reading) (done : List ObjectView) : Type 0 where
 record MayAdd (done : List ObjectView) (o : ObjectView) : Type 0 where
   positive : 0 < o.id
   above : All (λ id. id < o.id) (object_ids done)
-  few : length done < MOST_OBJECTS
-  room : slot_total done + length o.slots ≤ MOST_SLOTS
+  few : length done < USUAL_OBJECTS
+  room : slot_total done + length o.slots ≤ USUAL_SLOTS
   kinds : length (with_kind (kind_names done) o.kind) ≤ MOST_KINDS
 
 kind_may : (kinds : List (List ℕ)) (kind : List ℕ) → length (with_kind kinds kind) ≤ MOST_KINDS → (is_seen kinds kind || ltb (length kinds) MOST_KINDS) ≡ true
@@ -147,8 +147,8 @@ may_be_added : (r : Reading) (done : List ObjectView) (o : ObjectView) → HasOb
 unfolding may_add
 may_be_added r done o has may =
     let low = lt-ltb r.greatest o.id (has.low o.id may.positive may.above) in
-    let few = lt-ltb (length (objects_read r)) MOST_OBJECTS (subst (λ (xs : List ObjectView). length xs < MOST_OBJECTS) (sym has.objects) may.few) in
-    let room = le-leb (r.slots + length o.slots) MOST_SLOTS (subst (λ n. n + length o.slots ≤ MOST_SLOTS) (sym has.slots) may.room) in
+    let few = lt-ltb (length (objects_read r)) USUAL_OBJECTS (subst (λ (xs : List ObjectView). length xs < USUAL_OBJECTS) (sym has.objects) may.few) in
+    let room = le-leb (r.slots + length o.slots) USUAL_SLOTS (subst (λ n. n + length o.slots ≤ USUAL_SLOTS) (sym has.slots) may.room) in
     let kinds = kind_may r.kinds o.kind (subst (λ (ks : List (List ℕ)). length (with_kind ks o.kind) ≤ MOST_KINDS) (sym has.kinds) may.kinds) in
     and_from _ _ (and_from _ _ (and_from _ _ (and_from _ _ has.before low) few) room) kinds
 
@@ -216,8 +216,8 @@ module _ (v : HeapView) (formed : IsWellFormed v) where
       let total : slot_total (done ++ o ∷ rest) ≡ slot_total done + slot_total (o ∷ rest) = sum_by-append (λ (x : ObjectView). length x.slots) done (o ∷ rest) in
       let split : slot_total ((o ∷ []) ++ rest) ≡ slot_total (o ∷ []) + slot_total rest = sum_by-append (λ (x : ObjectView). length x.slots) (o ∷ []) rest in
       let one : slot_total (o ∷ []) ≡ length o.slots = omega arith in
-      let room : slot_total (done ++ o ∷ rest) ≤ MOST_SLOTS = subst (λ (xs : List ObjectView). slot_total xs ≤ MOST_SLOTS) (sym same) formed.few_slots in
-      let count : length (done ++ o ∷ rest) ≤ MOST_OBJECTS = subst (λ (xs : List ObjectView). length xs ≤ MOST_OBJECTS) (sym same) formed.few_objects in
+      let room : slot_total (done ++ o ∷ rest) ≤ USUAL_SLOTS = subst (λ (xs : List ObjectView). slot_total xs ≤ USUAL_SLOTS) (sym same) formed.few_slots in
+      let count : length (done ++ o ∷ rest) ≤ USUAL_OBJECTS = subst (λ (xs : List ObjectView). length xs ≤ USUAL_OBJECTS) (sym same) formed.few_objects in
       let now : List ObjectView = done ++ o ∷ [] in
       let all : now ++ rest ≡ v.objects = append_assoc done (o ∷ []) rest ∙ same in
       let kinds : length (kind_names (now ++ rest)) ≤ MOST_KINDS = subst (λ (xs : List ObjectView). length (kind_names xs) ≤ MOST_KINDS) (sym all) formed.few_kinds in
@@ -275,8 +275,8 @@ module _ (v : HeapView) (formed : IsWellFormed v) where
       let keys : keys_of v.roots ≡ keys_of done ++ q.0 ∷ keys_of rest = ap keys_of (sym same) ∙ map-append (λ (e : List ℕ × ℕ). e.0) done (q ∷ rest) in
       let below = lower (keys_of done) q.0 (keys_of rest) (subst (IsStrictlySortedBy name_cmp) keys formed.names) in
       let above = ap (λ (roots : List (List ℕ × ℕ)). is_lt (name_cmp (last_name roots) q.0)) has.roots ∙ above_last done q.0 below legal.0 in
-      let count : length (done ++ q ∷ rest) ≤ MOST_ROOTS = subst (λ (xs : List (List ℕ × ℕ)). length xs ≤ MOST_ROOTS) (sym same) formed.few_roots in
-      let few = lt-ltb (length r.roots) MOST_ROOTS (subst (λ (xs : List (List ℕ × ℕ)). length xs < MOST_ROOTS) (sym has.roots) (omega (arith, count, length-append done (q ∷ rest)))) in
+      let count : length (done ++ q ∷ rest) ≤ USUAL_ROOTS = subst (λ (xs : List (List ℕ × ℕ)). length xs ≤ USUAL_ROOTS) (sym same) formed.few_roots in
+      let few = lt-ltb (length r.roots) USUAL_ROOTS (subst (λ (xs : List (List ℕ × ℕ)). length xs < USUAL_ROOTS) (sym has.roots) (omega (arith, count, length-append done (q ∷ rest)))) in
       and_from _ _ (and_from _ _ has.way above) few
 
   root_taken : (r : Reading) (q : List ℕ × ℕ) → may_root r q.0 ≡ true → take_line r (line_of_root q) ≡ Some (after_root_line r q.0 q.1)

@@ -7,7 +7,8 @@ use Rattle.std.proofs.lemmas.Bool.Decides.{eqb_tells}
 use Rattle.std.proofs.lemmas.List.{map-append, length-map}
 use Rattle.std.proofs.lemmas.List.Elements.{All-nil, All-cons, All-head, All-tail, All-weaker}
 use Rattle.std.proofs.lemmas.List.Sums.{sum_by-cons}
-use Rattle.heap_base.specs.declared.limits.TheConstants.{LONGEST_LINE, LONGEST_TRACE, MOST_OBJECTS, MOST_SLOTS, MOST_ROOTS}
+use Rattle.heap_base.specs.Limits.{usual_limits}
+use Rattle.heap_base.specs.declared.limits.TheConstants.{LONGEST_LINE, LONGEST_TRACE, USUAL_OBJECTS, USUAL_SLOTS, USUAL_ROOTS}
 use Rattle.graph_meaning.specs.declared.event.Event.{Event}
 use Rattle.graph_meaning.specs.declared.event.Event.TheVariants.{Store}
 use Rattle.graph_meaning.specs.declared.views.HeapView.{HeapView}
@@ -100,7 +101,7 @@ root_reads r is c = reads-line (compact_text (root_data r.0 r.1)) (root_of r) (r
 abbrev HoldsId : Option ℕ → Type 0
 HoldsId held = IfSome held IsId
 
-allocs_read : (objects : List ObjectView) → All IsLegalObject objects → slot_total objects ≤ MOST_SLOTS → Reads (flat_map alloc_line objects) (map alloc_of objects)
+allocs_read : (objects : List ObjectView) → All IsLegalObject objects → slot_total objects ≤ USUAL_SLOTS → Reads (flat_map alloc_line objects) (map alloc_of objects)
 allocs_read [] legal few = reads-nil
 allocs_read (o ∷ objects) legal few =
     let total : slot_total (o ∷ objects) ≡ length o.slots + slot_total objects = sum_by-cons (λ (o : ObjectView). length o.slots) o objects in
@@ -115,7 +116,7 @@ slots_read at slot (Some to ∷ slots) a few hold =
     (store_reads at slot to (record { legal_at = a; low_slot = omega (arith, few); legal_to = All-head HoldsId (Some to) slots hold }))
     (slots_read at (slot + 1) slots a (omega (arith, few)) (All-tail HoldsId (Some to) slots hold))
 
-stores_read : (objects : List ObjectView) → All IsLegalObject objects → slot_total objects ≤ MOST_SLOTS →
+stores_read : (objects : List ObjectView) → All IsLegalObject objects → slot_total objects ≤ USUAL_SLOTS →
     All (λ (o : ObjectView). All HoldsId o.slots) objects → Reads (flat_map store_lines objects) (flat_map stores_of objects)
 stores_read [] legal few hold = reads-nil
 stores_read (o ∷ objects) legal few hold =
@@ -190,7 +191,7 @@ few_stores_of [] = omega arith
 few_stores_of (o ∷ objects) =
     omega (arith, few_stores o.id 0 o.slots, few_stores_of objects, length-append (stores_of o) (flat_map stores_of objects), sum_by-cons (λ (o : ObjectView). length o.slots) o objects)
 
-few_events : (v : HeapView) → IsWellFormed v → length (events_of v) ≤ MOST_OBJECTS + MOST_SLOTS + MOST_ROOTS
+few_events : (v : HeapView) → IsWellFormed v → length (events_of v) ≤ USUAL_OBJECTS + USUAL_SLOTS + USUAL_ROOTS
 few_events v formed =
     let allocs : List Event = map alloc_of v.objects in
     let stores : List Event = flat_map stores_of v.objects in
@@ -216,4 +217,4 @@ trace_is_short v lawful =
 pub remakes_heap : RemakesHeap
 remakes_heap v lawful =
     let made = remakes_view v (lawful_is_well_formed v lawful) in
-    (made.0, ap (λ (is : List Item). heap_after empty_heap is) (trace_has_events LONGEST_TRACE v lawful (trace_is_short v lawful)) ∙ made.1, made.2)
+    (made.0, ap (λ (is : List Item). heap_after (empty_heap usual_limits) is) (trace_has_events LONGEST_TRACE v lawful (trace_is_short v lawful)) ∙ made.1, made.2)

@@ -4,7 +4,7 @@ use Rattle.std.specs.List.Sorted.{IsStrictlySortedBy}
 use Rattle.std.specs.Map.{keys_of}
 use Rattle.std.specs.Str.{is_utf8}
 use Rattle.heap_base.specs.Names.{is_name}
-use Rattle.heap_base.specs.declared.limits.TheConstants.{MOST_OBJECTS, MOST_SLOTS, MOST_ROOTS, MOST_KINDS}
+use Rattle.heap_base.specs.declared.limits.TheConstants.{USUAL_OBJECTS, USUAL_SLOTS, USUAL_ROOTS, MOST_KINDS}
 use Rattle.graph_meaning.specs.Heap.{name_cmp}
 use Rattle.graph_meaning.specs.Reach.{has_id}
 use Rattle.graph_meaning.specs.Step.{with_kind}
@@ -28,9 +28,9 @@ kind_names objects = fold (λ kinds o. with_kind kinds o.kind) [] objects
 -- The limits are kept; ids, types and names are such as a heap may have; ids and the names of roots rise; and whatever a
 -- slot or a root holds is an object of the view.
 pub record IsWellFormed (v : HeapView) : Type 0 where
-  pub few_objects : length v.objects ≤ MOST_OBJECTS
-  pub few_slots : sum_by (λ o. length o.slots) v.objects ≤ MOST_SLOTS
-  pub few_roots : length v.roots ≤ MOST_ROOTS
+  pub few_objects : length v.objects ≤ USUAL_OBJECTS
+  pub few_slots : sum_by (λ o. length o.slots) v.objects ≤ USUAL_SLOTS
+  pub few_roots : length v.roots ≤ USUAL_ROOTS
   pub few_kinds : length (kind_names v.objects) ≤ MOST_KINDS
   pub objects : All (λ o. IsId o.id × IsName o.kind) v.objects
   pub root_names : All (λ r. IsName r.0) v.roots

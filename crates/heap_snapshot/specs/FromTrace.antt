@@ -1,5 +1,6 @@
 -- A snapshot of the heap that a trace makes, as a program over the trace.
 use Rattle.std.specs.Prelude.{◌≡◌, [], false, Result, Ok, Err, ⊤}
+use Rattle.heap_base.specs.Limits.{usual_limits}
 use Rattle.graph_meaning.specs.declared.event.Event.{Event}
 use Rattle.graph_meaning.specs.declared.event.Event.TheVariants.{Alloc, Store, SetWeak, Root, AssertDead, StartRegion, AssertAllDead, AssertInstances, AssertUnshared, AssertOwnedBy, Collect}
 use Rattle.graph_meaning.specs.declared.refusal.Refusal.{Refusal}
@@ -37,7 +38,7 @@ snapshot_meaning = record { takes = takes; ends = λ h. record { text = snapshot
 
 -- no region is open and nothing is asserted
 abbrev pub bare_heap : Table → Heap
-bare_heap t = record empty_heap { table = t }
+bare_heap t = record (empty_heap usual_limits) { table = t }
 
 -- the answer to a step is what it leads to, unless memory ran out
 abbrev pub Answers : Result Heap Refusal → Result ⊤ Stop → Heap → Type 0

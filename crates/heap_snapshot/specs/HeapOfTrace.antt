@@ -1,6 +1,7 @@
 -- The trace of a snapshot, as operations, and the heap that they make.
 use Rattle.std.specs.Prelude.{◌≡◌, ℕ, ◌+◌, ◌≤◌, List, [], ◌∷◌, ◌++◌, length, map, Option, None, Some, Result, Ok, Err}
 use Rattle.std.specs.List.{flat_map}
+use Rattle.heap_base.specs.Limits.{usual_limits}
 use Rattle.heap_base.specs.declared.limits.TheConstants.{LONGEST_TRACE}
 use Rattle.graph_meaning.specs.declared.event.Event.{Event}
 use Rattle.graph_meaning.specs.declared.event.Event.TheVariants.{Alloc, Store, Root}
@@ -70,4 +71,4 @@ TraceIsShort = (v : HeapView) → IsLawful v → length (trace_text v) ≤ LONGE
 -- From the empty heap, no line of the trace of a lawful view is refused, and the heap behind the last has this view.
 abbrev pub RemakesHeap : Type 0
 RemakesHeap =
-    (v : HeapView) → IsLawful v → (h : Heap) × (heap_after empty_heap (items_of LONGEST_TRACE (trace_text v)) ≡ Ok h) × (heap_view h.table ≡ v)
+    (v : HeapView) → IsLawful v → (h : Heap) × (heap_after (empty_heap usual_limits) (items_of LONGEST_TRACE (trace_text v)) ≡ Ok h) × (heap_view h.table ≡ v)

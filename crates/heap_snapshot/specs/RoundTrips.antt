@@ -1,5 +1,6 @@
 -- From a trace to a snapshot, from that to a trace, and from this to a snapshot.
 use Rattle.std.specs.Prelude.{◌≡◌, ◌≤◌, ⊤, List, length, All}
+use Rattle.heap_base.specs.Limits.{usual_limits}
 use Rattle.heap_base.specs.declared.status.Status.TheVariants.{Clean}
 use Rattle.graph_meaning.specs.Heap.{empty_heap}
 use Rattle.trace_reader.specs.Items.{items_of}
@@ -19,7 +20,7 @@ IsNamedItem (refused r) = ⊤
 
 -- what is written of the heap that the items of a trace make
 abbrev pub snapshot_report : List Item → Report
-snapshot_report items = report_by snapshot_meaning empty_heap items
+snapshot_report items = report_by snapshot_meaning (empty_heap usual_limits) items
 
 -- Where no line of a trace is refused, its snapshot is one, and the snapshot of the trace that is made of it is the same text. The two texts that
 -- are read are no longer than they may be.

@@ -2,7 +2,7 @@
 use Rattle.std.specs.Prelude.{ℕ, ◌+◌, ◌-◌, List, [], ◌∷◌, ◌++◌, length, replicate, Bool, true, false, ◌&&◌, ◌||◌, nat_le, nat_lt, if◌then◌else◌, Option, None, Some, slice_get}
 use Rattle.std.specs.Option.{option_map_or}
 use Rattle.std.specs.Ordering.{is_lt}
-use Rattle.heap_base.specs.declared.limits.TheConstants.{MOST_OBJECTS, MOST_SLOTS, MOST_ROOTS, MOST_KINDS}
+use Rattle.heap_base.specs.declared.limits.TheConstants.{USUAL_OBJECTS, USUAL_SLOTS, USUAL_ROOTS, MOST_KINDS}
 use Rattle.graph_meaning.specs.declared.views.ObjectView.{ObjectView}
 use Rattle.graph_meaning.specs.Heap.{is_seen, name_cmp}
 use Rattle.graph_meaning.specs.Step.{with_kind}
@@ -69,7 +69,7 @@ reading_where condition r = if condition then Some r else None
 -- an id above all before, a number of slots and a type within the limits
 unfoldable pub may_add : Reading → ℕ → ℕ → List ℕ → Bool
 may_add r id slots kind =
-    is_before_roots r.stage && nat_lt r.greatest id && nat_lt (length (objects_read r)) MOST_OBJECTS && nat_le (r.slots + slots) MOST_SLOTS &&
+    is_before_roots r.stage && nat_lt r.greatest id && nat_lt (length (objects_read r)) USUAL_OBJECTS && nat_le (r.slots + slots) USUAL_SLOTS &&
     (is_seen r.kinds kind || nat_lt (length r.kinds) MOST_KINDS)
 
 abbrev pub after_object_line : Reading → ℕ → ℕ → List ℕ → Reading
@@ -100,7 +100,7 @@ last_name roots = option_map_or (λ r. r.0) (slice_get roots (length roots - 1))
 
 -- a name whose bytes are above the last root's
 unfoldable pub may_root : Reading → List ℕ → Bool
-may_root r name = is_under_way r.stage && is_lt (name_cmp (last_name r.roots) name) && nat_lt (length r.roots) MOST_ROOTS
+may_root r name = is_under_way r.stage && is_lt (name_cmp (last_name r.roots) name) && nat_lt (length r.roots) USUAL_ROOTS
 
 abbrev pub after_root_line : Reading → List ℕ → ℕ → Reading
 after_root_line r name to = record r { stage = InRoots; objects = objects_read r; roots = r.roots ++ (name, to) ∷ [] }

@@ -1,6 +1,6 @@
 //! What has been read of a snapshot, line by line.
 ghost use Rattle.std.specs.Prelude.{◌≡◌, ◌+◌, ◌&&◌, nat_le, nat_lt, length, Some, None, IfOk, OnOk, if◌then◌else◌};
-ghost use Rattle.heap_base.specs.declared.limits.TheConstants.{MOST_OBJECTS, MOST_SLOTS};
+ghost use Rattle.heap_base.specs.declared.limits.TheConstants.{USUAL_OBJECTS, USUAL_SLOTS};
 ghost use Rattle.std.specs.Ordering.{is_lt};
 ghost use Rattle.graph_meaning.specs.Heap.{name_cmp};
 ghost use Rattle.heap_snapshot.specs.Lines.{line_in};
@@ -11,7 +11,7 @@ use crate::line::{Line, line_in};
 use crate::stage::{OpenObject, Stage};
 use crate::types::Types;
 use graph_meaning::{HeapView, ObjectList, RootList, SlotList};
-use heap_base::{MOST_OBJECTS, MOST_ROOTS, MOST_SLOTS, Name, ObjId, OutOfMemory};
+use heap_base::{Name, ObjId, OutOfMemory, USUAL_OBJECTS, USUAL_ROOTS, USUAL_SLOTS};
 use std::alloc::Global;
 use std::marker::Model;
 use std::mem;
@@ -128,7 +128,7 @@ impl Assembly {
     // Whether an object may follow with this id and so many slots, whatever its type.
     fn may_add(&self, id: u32, slots: u32) -> bool
         requires bounded { IsBounded self.now }
-        ensures { result ≡ (is_before_roots self.now.stage && nat_lt self.now.greatest id && nat_lt (length (objects_read self.now)) MOST_OBJECTS && nat_le (self.now.slots + slots) MOST_SLOTS) }
+        ensures { result ≡ (is_before_roots self.now.stage && nat_lt self.now.greatest id && nat_lt (length (objects_read self.now)) USUAL_OBJECTS && nat_le (self.now.slots + slots) USUAL_SLOTS) }
     {
         let (is_before_roots, open) = match &self.stage {
             Stage::Begun => (true, 0),
@@ -137,8 +137,8 @@ impl Assembly {
         };
         is_before_roots
             && self.greatest < id
-            && self.objects.len() + open < MOST_OBJECTS
-            && slots <= MOST_SLOTS - self.slots
+            && self.objects.len() + open < USUAL_OBJECTS
+            && slots <= USUAL_SLOTS - self.slots
     }
 
     fn take_slot(&mut self, slot: u32, to: ObjId) -> Result<bool, OutOfMemory>
@@ -166,7 +166,7 @@ impl Assembly {
     fn may_root(&self, name: &Name) -> bool
         ensures { result ≡ may_root self.now name.now }
     {
-        self.is_under_way() && self.is_above_last(name) && self.roots.len() < MOST_ROOTS
+        self.is_under_way() && self.is_above_last(name) && self.roots.len() < USUAL_ROOTS
     }
 
     fn take_end(&mut self) -> Result<bool, OutOfMemory>

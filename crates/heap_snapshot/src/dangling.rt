@@ -1,7 +1,7 @@
 //! Looks for references to objects that aren't there.
 ghost use Rattle.std.specs.Prelude.{◌≡◌, ◌+◌, ◌*◌, ◌<◌, ◌≤◌, ◌++◌, ◌∷◌, [], ◌^◌, List, length, map, AllPairs, Some, None, ℕ, IfOk};
 ghost use Rattle.std.specs.List.{flat_map};
-ghost use Rattle.heap_base.specs.declared.limits.TheConstants.{MOST_OBJECTS};
+ghost use Rattle.heap_base.specs.declared.limits.TheConstants.{USUAL_OBJECTS};
 ghost use Rattle.graph_meaning.specs.Reach.{has_id};
 ghost use Rattle.heap_snapshot.specs.declared.line.Line.{Line};
 ghost use Rattle.heap_snapshot.specs.declared.line.Line.TheVariants.{End};
@@ -23,7 +23,7 @@ pub(crate) struct DanglingReference {
 
 /// The view, unless a line of its text refers to no object.
 pub(crate) fn without_dangling(alloc: Global, view: HeapView) -> Result<HeapView, SnapError>
-    requires few { length view.objects ≤ MOST_OBJECTS }
+    requires few { length view.objects ≤ USUAL_OBJECTS }
     requires rising { AllPairs (λ x y. x < y) (object_ids view.objects) }
     ensures { Reads result (unless_dangling view (first_dangling view)) }
 {
@@ -57,7 +57,7 @@ fn has_id(ids: &[u32], id: u32) -> bool
 
 // The number of the line behind those of the view, or the first line that refers to none of these objects.
 fn dangling_in_view(ids: &[u32], view: &HeapView) -> Result<(), DanglingReference>
-    requires few { length view.now.objects ≤ MOST_OBJECTS }
+    requires few { length view.now.objects ≤ USUAL_OBJECTS }
     requires rising { AllPairs (λ x y. x < y) ids.now }
     ensures { FindsDangling result (dangling_from ids.now 1 (lines_of view.now)) }
 {
@@ -74,11 +74,11 @@ fn dangling_in_objects(
     line: u64,
     objects: &ObjectList,
 ) -> Result<u64, DanglingReference>
-    requires few { length objects.now ≤ MOST_OBJECTS }
+    requires few { length objects.now ≤ USUAL_OBJECTS }
     requires early { line ≤ 2 }
     requires rising { AllPairs (λ x y. x < y) ids.now }
     ensures passes { (rest : List Line) → Passes result (dangling_from ids.now line (flat_map lines_of_object objects.now ++ rest)) (λ next. dangling_from ids.now next rest) }
-    ensures bound { IfOk result (λ next. next ≤ 2 + MOST_OBJECTS * 2 ^ 32) }
+    ensures bound { IfOk result (λ next. next ≤ 2 + USUAL_OBJECTS * 2 ^ 32) }
 {
     let mut next = line;
     for place in 0..objects.len() {

@@ -1,6 +1,7 @@
 //! A snapshot of the heap that a trace makes.
 ghost use Rattle.std.specs.Prelude.{ℕ, Result};
 ghost use Rattle.streams.specs.Streams.{stream_of};
+ghost use Rattle.heap_base.specs.Limits.{usual_limits};
 ghost use Rattle.trace_run.specs.Program.{TakesEvent, report_by};
 ghost use Rattle.trace_run.specs.Outcome.{EndsAs, outside_of, trace_report};
 ghost use Rattle.graph_meaning.specs.Heap.{Heap, empty_heap};
@@ -13,7 +14,7 @@ ghost use Rattle.heap_snapshot.specs.declared.from_trace.TheConstants.{LONGEST_T
 
 use crate::write::write_snapshot;
 use graph_meaning::{Event, Refusal, Stop};
-use heap_base::{MOST_OBJECTS, Name, ObjId, OutOfMemory, Status};
+use heap_base::{Limits, MOST_OBJECTS, Name, ObjId, OutOfMemory, Status};
 use object_table::ObjectTable;
 use std::alloc::Global;
 use std::marker::Model;
@@ -66,9 +67,9 @@ impl Program for Making {
 pub(crate) fn from_trace<S: Source, K: Sink>(alloc: Global, source: &mut S, sink: &mut K) -> Status
     ensures { let old = outside_of (stream_of S.left S.faults source.old) (stream_of K.held K.faults sink.old) in
         let new = outside_of (stream_of S.left S.faults source.new) (stream_of K.held K.faults sink.new) in
-        EndsAs (trace_report LONGEST_TRACE (report_by snapshot_meaning empty_heap)) old new result }
+        EndsAs (trace_report LONGEST_TRACE (report_by snapshot_meaning (empty_heap usual_limits))) old new result }
 {
-    let Ok(table) = ObjectTable::make(alloc) else {
+    let Ok(table) = ObjectTable::make(alloc, Limits::usual()) else {
         return Status::NoMemory;
     };
     let mut reader = LineReader::make(alloc);

@@ -1,6 +1,6 @@
 //! Reads a snapshot.
 ghost use Rattle.std.specs.Prelude.{◌≡◌, ◌+◌, ◌<◌, ◌≤◌, length, drop, AllPairs, MatchOption, OnOk, IfErr};
-ghost use Rattle.heap_base.specs.declared.limits.TheConstants.{MOST_OBJECTS};
+ghost use Rattle.heap_base.specs.declared.limits.TheConstants.{USUAL_OBJECTS};
 ghost use Rattle.trace_reader.specs.Cuts.{HasNoNewline, IsFirstNewline};
 ghost use Rattle.heap_snapshot.specs.Reading.{Fails, Reads, line_behind, meaning_of, snapshot_in, unless_dangling, view_read};
 ghost use Rattle.heap_snapshot.specs.Table.{nothing_read};
@@ -54,7 +54,7 @@ fn take_lines(assembly: &mut Assembly, bytes: &[u8]) -> Result<(), SnapError>
     requires few { length bytes.now ≤ LONGEST_SNAPSHOT }
     requires nothing { assembly.old ≡ nothing_read }
     ensures meaning { OnOk result (meaning_of bytes.now ≡ unless_dangling (view_read assembly.new) (first_dangling (view_read assembly.new))) }
-    ensures few { OnOk result (length assembly.new.objects ≤ MOST_OBJECTS) }
+    ensures few { OnOk result (length assembly.new.objects ≤ USUAL_OBJECTS) }
     ensures rising { OnOk result (AllPairs (λ x y. x < y) (object_ids assembly.new.objects)) }
     ensures fails { IfErr result (λ error. Fails error (meaning_of bytes.now)) }
 {

@@ -1,6 +1,7 @@
 ghost use Rattle.std.specs.Prelude.{◌≡◌, Some, None, map};
 ghost use Rattle.std.specs.Io.KnownBytes.{Keeps};
 ghost use Rattle.streams.specs.Streams.{stream_of};
+ghost use Rattle.heap_base.specs.Limits.{usual_limits};
 ghost use Rattle.trace_run.specs.Program.{report_by};
 ghost use Rattle.trace_run.specs.Outcome.{EndsAs, RefusesWords, outside_of, trace_report};
 ghost use Rattle.graph_meaning.specs.Heap.{empty_heap};
@@ -38,7 +39,7 @@ pub fn snap_run<S: Source, K: Sink>(
 ) -> Status
     ensures from_trace { let old = outside_of (stream_of S.left S.faults source.old) (stream_of K.held K.faults sink.old) in
         let new = outside_of (stream_of S.left S.faults source.new) (stream_of K.held K.faults sink.new) in
-        command_in (map (λ w. w.now) words.now) ≡ Some Command.FromTrace → EndsAs (trace_report LONGEST_TRACE (report_by snapshot_meaning empty_heap)) old new result }
+        command_in (map (λ w. w.now) words.now) ≡ Some Command.FromTrace → EndsAs (trace_report LONGEST_TRACE (report_by snapshot_meaning (empty_heap usual_limits))) old new result }
     ensures to_trace { let old = outside_of (stream_of S.left S.faults source.old) (stream_of K.held K.faults sink.old) in
         let new = outside_of (stream_of S.left S.faults source.new) (stream_of K.held K.faults sink.new) in
         command_in (map (λ w. w.now) words.now) ≡ Some Command.ToTrace → ConversionEndsAs old new result }

@@ -4,7 +4,7 @@ ghost use Rattle.graph_meaning.specs.Heap.{is_seen};
 ghost use Rattle.graph_meaning.specs.Step.{with_kind};
 
 use graph_meaning::Stop;
-use heap_base::{Name, OutOfMemory};
+use heap_base::{Limits, Name, OutOfMemory};
 use object_table::ObjectTable;
 use std::alloc::Global;
 use std::marker::Model;
@@ -29,7 +29,7 @@ impl Types {
         ensures { IfOk result (λ types. types ≡ []) }
     {
         Ok(Types {
-            table: ObjectTable::make(alloc)?,
+            table: ObjectTable::make(alloc, Limits::usual())?,
         })
     }
 

@@ -1,5 +1,6 @@
 -- Minor collections as a program over a trace.
 use Rattle.std.specs.Prelude.{ℕ, ◌+◌, ◌==◌, ◌%◌, List, [], ◌++◌, Bool, false, if◌then◌else◌, codes, decimal, Option, None, Some}
+use Rattle.heap_base.specs.Limits.{usual_limits}
 use Rattle.graph_meaning.specs.declared.event.Event.{Event}
 use Rattle.graph_meaning.specs.declared.event.Event.TheVariants.{Alloc, Store, Root, Collect}
 use Rattle.graph_meaning.specs.declared.refusal.Refusal.{Refusal}
@@ -17,7 +18,7 @@ pub record MinorState : Type 0 where
 
 -- at the beginning of a trace
 abbrev pub first_minor_state : MinorState
-first_minor_state = record { heap = record { table = empty_table; old_up_to = 0 }; collections = 0 }
+first_minor_state = record { heap = record { table = empty_table usual_limits; old_up_to = 0 }; collections = 0 }
 
 abbrev pub minor_usage : List ℕ
 minor_usage = codes "usage: gcminor\n"

@@ -1,6 +1,7 @@
 -- What a nursery is made of.
 use Rattle.std.specs.Prelude.{◌≡◌, ℕ, ◌≤◌, List, [], length, All, Bool, false, if◌then◌else◌, Option, None, Some, count_by, slice_index_or}
 use Rattle.std.specs.Option.{option_map_or}
+use Rattle.heap_base.specs.Limits.{usual_limits}
 use Rattle.graph_meaning.specs.Heap.{Table, empty_table, targets}
 use Rattle.object_table.specs.Placed.{PlacedTable, id_in, IsStacked}
 use Rattle.minor_gc.specs.Generations.{Generations, is_young, is_old, remembered_set}
@@ -11,7 +12,7 @@ pub record NurseryState : Type 0 where
   pub cells : List (Option ℕ)
 
 abbrev pub nothing_nursed : NurseryState
-nothing_nursed = record { heap = record { table = empty_table; old_up_to = 0 }; cells = [] }
+nothing_nursed = record { heap = record { table = empty_table usual_limits; old_up_to = 0 }; cells = [] }
 
 -- the table of its heap, with the cells
 abbrev pub nursery_table : NurseryState → PlacedTable

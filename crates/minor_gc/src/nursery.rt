@@ -13,7 +13,7 @@ use crate::room::{add_cells, drop_cells, reserve_one};
 use crate::search::Search;
 use crate::tally::{Change, forget, holds_young, recount};
 use graph_meaning::{Refusal, Stop};
-use heap_base::{MOST_OBJECTS, Name, ObjId, OutOfMemory};
+use heap_base::{Limits, MOST_OBJECTS, Name, ObjId, OutOfMemory};
 use object_table::ObjectTable;
 use std::alloc::Global;
 use std::marker::Model;
@@ -45,12 +45,12 @@ impl Model for Nursery {
 }
 
 impl Nursery {
-    /// The empty heap.
+    /// The empty heap, under the usual limits.
     pub fn make(alloc: Global) -> Result<Nursery, OutOfMemory>
         ensures empty { IfOk result (λ n. n ≡ nothing_nursed) }
     {
         Ok(Nursery {
-            table: ObjectTable::make(alloc)?,
+            table: ObjectTable::make(alloc, Limits::usual())?,
             old_up_to: 0,
             greatest: 0,
             search: Search::make(alloc),

@@ -197,7 +197,7 @@ module _ (p : TableParts) (laid : IsLaidOut p) (name : List ℕ) (id number slot
   cell = next_cell p.cells
 
   abbrev pub with_one : TableParts
-  with_one = record { cells = later; ids = p.ids ++ (id, cell) ∷ []; roots = p.roots; kinds = with_kind p.kinds name; greatest = id; slots = p.slots + slots }
+  with_one = record { cells = later; ids = p.ids ++ (id, cell) ∷ []; roots = p.roots; kinds = with_kind p.kinds name; greatest = id; slots = p.slots + slots; most = p.most }
 
   stays : (k : ℕ) → IsTrue (is_taken p.cells k) → id_held later k ≡ id_held p.cells k
   stays k taken = ap (option_map (λ (o : Resident). o.id)) (put_stays p.cells new k taken)
@@ -224,7 +224,7 @@ module _ (p : TableParts) (laid : IsLaidOut p) (name : List ℕ) (id number slot
       let objects = map-append (λ (e : ℕ × ℕ). object_at_cell (with_kind p.kinds name) later e.1) p.ids ((id, cell) ∷ [])
       ∙ ap (λ l. l ++ object_at_cell (with_kind p.kinds name) later cell ∷ []) old_objects
       ∙ ap (λ o. (placed_of p).table.objects ++ o ∷ []) new_object in
-      ap (λ l. record { objects = l; roots = p.roots; greatest = id; kinds = with_kind p.kinds name }) objects
+      ap (λ l. record { objects = l; roots = p.roots; greatest = id; kinds = with_kind p.kinds name; most = p.most }) objects
 
   pub added_laid : All (λ e. e.0 < id) p.ids → length p.ids < MOST_OBJECTS → IsLaidOut with_one
   added_laid above room = record {
@@ -391,7 +391,7 @@ module _ (p : TableParts) (laid : IsLaidOut p) (cell slot : ℕ) (o : Resident) 
 
   pub changed_is : (placed_of with_changed).table ≡ with_changed_slot (placed_of p).table o.id slot change
   unfolding with_changed_slot
-  changed_is = ap (λ l. record { objects = l; roots = p.roots; greatest = p.greatest; kinds = p.kinds })
+  changed_is = ap (λ l. record { objects = l; roots = p.roots; greatest = p.greatest; kinds = p.kinds; most = p.most })
       (changed_objects p.ids (object_at_cell p.kinds later_cells) (object_at_cell p.kinds p.cells) (with_slot o.id slot change) (λ k d h.
       let e : ℕ × ℕ = get_or p.ids k d in
       ⊎_elim
@@ -566,11 +566,11 @@ module _ (p : TableParts) (laid : IsLaidOut p) (kept : List Bool) (later : List 
       go false flag has swept rest = rw (has, flag) rest
 
   abbrev pub with_kept : ℕ → TableParts
-  with_kept slots = record { cells = later; ids = filter (λ e. is_flagged kept e.1) p.ids; roots = p.roots; kinds = p.kinds; greatest = p.greatest; slots = slots }
+  with_kept slots = record { cells = later; ids = filter (λ e. is_flagged kept e.1) p.ids; roots = p.roots; kinds = p.kinds; greatest = p.greatest; slots = slots; most = p.most }
 
   pub kept_is : (slots : ℕ) → (placed_of (with_kept slots)).table ≡ with_only kept_now (placed_of p).table
   unfolding with_only
-  kept_is slots = ap (λ l. record { objects = l; roots = p.roots; greatest = p.greatest; kinds = p.kinds }) (objects_swept p.ids laid.stands)
+  kept_is slots = ap (λ l. record { objects = l; roots = p.roots; greatest = p.greatest; kinds = p.kinds; most = p.most }) (objects_swept p.ids laid.stands)
 
   kept_filter : (xs : List (ℕ × ℕ)) → map (λ e. e.1) (filter (λ e. is_flagged kept e.1) xs) ≡ filter (is_flagged kept) (map (λ e. e.1) xs)
   kept_filter [] = refl

@@ -140,8 +140,8 @@ module _ (p : TableParts) (laid : IsLaidOut p) (marked : List Bool) where
       let e : ℕ × ℕ = get_or p.ids k d in
       let (o, held, same) = held_with_id p.cells e.1 e.0 (laid.stands k d h) in
       object_is e.1 o held) in
-      ap (λ l. record { objects = l; roots = roots_cleared p.ids marked p.roots; greatest = p.greatest; kinds = p.kinds }) objects
-      ∙ ap (λ l. record { objects = map (object_without gone) (placed_of p).table.objects; roots = l; greatest = p.greatest; kinds = p.kinds }) roots_are
+      ap (λ l. record { objects = l; roots = roots_cleared p.ids marked p.roots; greatest = p.greatest; kinds = p.kinds; most = p.most }) objects
+      ∙ ap (λ l. record { objects = map (object_without gone) (placed_of p).table.objects; roots = l; greatest = p.greatest; kinds = p.kinds; most = p.most }) roots_are
 
   -- ---- how many are cleared
 
@@ -226,6 +226,7 @@ module _ (p : TableParts) (is : IsTable p) (marked : List Bool) where
         slots_counted p is.laid marked,
         sum_by-le-sum_by (holders p is.laid marked) (λ o. length o.slots) (placed_of p).table.objects (λ o. count_by-le-length (λ s. option_map_or (gone p is.laid marked) s.held false) o.slots),
         is.sound.limits.slots,
+        is.sound.limits.possible.slots,
       )
 
   pub holders_counted : (slots roots : ℕ) → slots ≡ sum_by (holders_held marked) p.cells →

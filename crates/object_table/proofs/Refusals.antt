@@ -4,7 +4,7 @@ use Rattle.std.specs.Str.{bytes_eq}
 use Rattle.std.proofs.lemmas.Bool.Decides.{nat_tests}
 use Rattle.std.proofs.lemmas.List.Quantifiers.{position-Some}
 use Rattle.object_table.proofs.Positions.{any-position}
-use Rattle.heap_base.specs.declared.limits.TheConstants.{MOST_OBJECTS, MOST_SLOTS, MOST_ROOTS, MOST_KINDS}
+use Rattle.heap_base.specs.declared.limits.TheConstants.{MOST_KINDS}
 use Rattle.graph_meaning.specs.declared.refusal.Refusal.{Refusal}
 use Rattle.graph_meaning.specs.declared.refusal.Refusal.TheVariants.{IdNotRising, TooManyObjects, TooManySlots, NotLive, BadSlot, TooManyRoots, TooManyTypes}
 use Rattle.graph_meaning.specs.Heap.{Table, is_live, is_seen, slot_count}
@@ -39,25 +39,25 @@ pub alloc_rising : (t : Table) (id : ℕ) (kind : List ℕ) (slots : ℕ) → id
 unfolding alloc_refusal
 alloc_rising t id kind slots h = grind (arith, nat_tests)
 
-pub alloc_full : (t : Table) (id : ℕ) (kind : List ℕ) (slots : ℕ) → t.greatest < id → MOST_OBJECTS ≤ length t.objects → alloc_refusal t id kind slots ≡ Some TooManyObjects
+pub alloc_full : (t : Table) (id : ℕ) (kind : List ℕ) (slots : ℕ) → t.greatest < id → t.most.objects ≤ length t.objects → alloc_refusal t id kind slots ≡ Some TooManyObjects
 unfolding alloc_refusal
 alloc_full t id kind slots above h = grind (arith, nat_tests)
 
-pub alloc_slots : (t : Table) (id : ℕ) (kind : List ℕ) (slots : ℕ) → t.greatest < id → length t.objects < MOST_OBJECTS →
-    MOST_SLOTS < slot_count t + slots → alloc_refusal t id kind slots ≡ Some TooManySlots
+pub alloc_slots : (t : Table) (id : ℕ) (kind : List ℕ) (slots : ℕ) → t.greatest < id → length t.objects < t.most.objects →
+    t.most.slots < slot_count t + slots → alloc_refusal t id kind slots ≡ Some TooManySlots
 unfolding alloc_refusal
 alloc_slots t id kind slots above room h = grind (arith, nat_tests)
 
-pub alloc_kind : (t : Table) (id : ℕ) (kind : List ℕ) (slots : ℕ) → t.greatest < id → length t.objects < MOST_OBJECTS →
-    slot_count t + slots ≤ MOST_SLOTS → alloc_refusal t id kind slots ≡ kind_refusal t kind
+pub alloc_kind : (t : Table) (id : ℕ) (kind : List ℕ) (slots : ℕ) → t.greatest < id → length t.objects < t.most.objects →
+    slot_count t + slots ≤ t.most.slots → alloc_refusal t id kind slots ≡ kind_refusal t kind
 unfolding alloc_refusal
 alloc_kind t id kind slots above room h = grind (arith, nat_tests)
 
 -- what holds where an object is not refused
 pub record Fits (t : Table) (id : ℕ) (kind : List ℕ) (slots : ℕ) : Type 0 where
   pub above : t.greatest < id
-  pub room : length t.objects < MOST_OBJECTS
-  pub room_for_slots : slot_count t + slots ≤ MOST_SLOTS
+  pub room : length t.objects < t.most.objects
+  pub room_for_slots : slot_count t + slots ≤ t.most.slots
   pub allowed_kind : kind_refusal t kind ≡ None
 
 pub alloc_fits : (t : Table) (id : ℕ) (kind : List ℕ) (slots : ℕ) → alloc_refusal t id kind slots ≡ None → Fits t id kind slots
@@ -104,7 +104,7 @@ pub root_dead : (t : Table) (name : List ℕ) (id : ℕ) (r : Refusal) → not_l
 unfolding root_refusal
 root_dead t name id r dead = rw dead refl
 
-pub root_full : (t : Table) (name : List ℕ) (id : ℕ) → not_live t id ≡ None → is_root t name ≡ false → MOST_ROOTS ≤ length t.roots → root_refusal t name (Some id) ≡ Some TooManyRoots
+pub root_full : (t : Table) (name : List ℕ) (id : ℕ) → not_live t id ≡ None → is_root t name ≡ false → t.most.roots ≤ length t.roots → root_refusal t name (Some id) ≡ Some TooManyRoots
 unfolding root_refusal
 root_full t name id live new full = grind (arith, nat_tests)
 
@@ -112,12 +112,12 @@ pub root_there : (t : Table) (name : List ℕ) (id : ℕ) → not_live t id ≡ 
 unfolding root_refusal
 root_there t name id live there = grind (arith, nat_tests)
 
-pub root_room : (t : Table) (name : List ℕ) (id : ℕ) → not_live t id ≡ None → length t.roots < MOST_ROOTS → root_refusal t name (Some id) ≡ None
+pub root_room : (t : Table) (name : List ℕ) (id : ℕ) → not_live t id ≡ None → length t.roots < t.most.roots → root_refusal t name (Some id) ≡ None
 unfolding root_refusal
 root_room t name id live room = grind (arith, nat_tests)
 
 -- a new root that is not refused has room, and its object is live
-pub root_fits : (t : Table) (name : List ℕ) (id : ℕ) → root_refusal t name (Some id) ≡ None → (not_live t id ≡ None) × (is_root t name ≡ false → length t.roots < MOST_ROOTS)
+pub root_fits : (t : Table) (name : List ℕ) (id : ℕ) → root_refusal t name (Some id) ≡ None → (not_live t id ≡ None) × (is_root t name ≡ false → length t.roots < t.most.roots)
 unfolding root_refusal
 root_fits t name id allowed = (grind (arith, nat_tests), λ new. grind (arith, nat_tests))
 

@@ -18,6 +18,8 @@ use Rattle.heap_base.specs.declared.limits.TheConstants.{MOST_THREADS}
 use Rattle.graph_meaning.specs.declared.event.Event.{Event}
 use Rattle.graph_meaning.specs.declared.event.Event.TheVariants.{Alloc, Store, SetWeak, Root, AssertInstances}
 use Rattle.graph_meaning.specs.declared.refusal.Refusal.{Refusal}
+use Rattle.heap_base.specs.Limits.{ArePossible}
+use Rattle.heap_base.specs.declared.limits.Limits.{Limits}
 use Rattle.graph_meaning.specs.Heap.{Slot, Object, Table, Heap, empty_slot, empty_table, empty_heap, name_cmp, ids, is_live, is_seen, slot_count}
 use Rattle.graph_meaning.specs.Reach.{has_id}
 use Rattle.graph_meaning.specs.Assertions.{root_ids}
@@ -35,7 +37,7 @@ use Rattle.object_table.proofs.Positions.{bytes_eq-refl, bytes_eq-equivalence, d
 
 -- the heap with this table, where nothing is asserted
 abbrev heap_with : Table → Heap
-heap_with t = record empty_heap { table = t }
+heap_with t = record (empty_heap t.most) { table = t }
 
 -- what the laws of heaps ask of it
 refers : (t : Table) → IsSound t → RefersToLive (heap_with t)
@@ -50,7 +52,7 @@ refers t sound = record {
 
 limited : (t : Table) → IsSound t → IsOrdered (heap_with t) × IsWithinLimits t
 limited t sound =
-    (record { roots = sound.names; dead = limits_are_kept.0.0.dead; unshared = limits_are_kept.0.0.unshared; limits = limits_are_kept.0.0.limits; owners = limits_are_kept.0.0.owners }, sound.limits)
+    (record { roots = sound.names; dead = (limits_are_kept.0 t.most sound.limits.possible).0.dead; unshared = (limits_are_kept.0 t.most sound.limits.possible).0.unshared; limits = (limits_are_kept.0 t.most sound.limits.possible).0.limits; owners = (limits_are_kept.0 t.most sound.limits.possible).0.owners }, sound.limits)
 
 -- what holds after an operation holds of the heap that it leaves where it is not refused
 allowed : (P : Heap → Type 0) (refusal : Option Refusal) (h : Heap) → refusal ≡ None → IfOk (heap_unless refusal h) P → P h
@@ -102,15 +104,15 @@ seen_itself kinds kind = go (is_seen kinds kind) refl
 
 -- ---- each operation
 
-pub sound_nothing : IsSound empty_table
-sound_nothing = record {
-  ids = ids_always_rise.0;
+pub sound_nothing : (most : Limits) → ArePossible most → IsSound (empty_table most)
+sound_nothing most possible = record {
+  ids = ids_always_rise.0 most possible;
   kinds = distinct_none;
   seen = All-nil (λ o. IsTrue (is_seen [] o.kind));
-  names = limits_are_kept.0.0.roots;
-  roots = All-nil (λ id. IsTrue (is_live empty_table id));
-  slots = All-nil (λ o. All (HoldsLive empty_table) o.slots);
-  limits = limits_are_kept.0.1;
+  names = (limits_are_kept.0 most possible).0.roots;
+  roots = All-nil (λ id. IsTrue (is_live (empty_table most) id));
+  slots = All-nil (λ o. All (HoldsLive (empty_table most)) o.slots);
+  limits = (limits_are_kept.0 most possible).1;
 }
 
 pub sound_with_object : (t : Table) (id : ℕ) (kind : List ℕ) (slots : ℕ) → IsSound t → alloc_refusal t id kind slots ≡ None → IsSound (with_object t id kind slots)
@@ -255,7 +257,7 @@ sound_with_only t kept sound leads =
           (λ k d h. All-map (HoldsLive (with_only kept t)) (slot_without gone) (get_or t.objects k d).slots
           (All-weaker (HoldsLive t) (λ s. HoldsLive (with_only kept t) (slot_without gone s)) (kept_slot t kept) (get_or t.objects k d).slots
           (sound.slots k d h))));
-      limits = record { objects = omega arith; slots = omega arith; roots = limits.roots; kinds = limits.kinds };
+      limits = record { possible = limits.possible; objects = omega arith; slots = omega arith; roots = limits.roots; kinds = limits.kinds };
     }
   where
     root_kept : (k d : ℕ) → k < length (root_ids t) → has_id kept (get_or (root_ids t) k d) ≡ true
@@ -337,5 +339,5 @@ sound_cut_off t gone sound =
           (λ k d h. All-map (HoldsLive (cut_off gone t)) (slot_without gone) (get_or t.objects k d).slots
           (All-weaker (HoldsLive t) (λ s. HoldsLive (cut_off gone t) (slot_without gone s)) (cleared_slot t gone) (get_or t.objects k d).slots
           (sound.slots k d h)));
-      limits = record { objects = omega arith; slots = omega (arith, slot_count-cut_off gone t); roots = omega arith; kinds = limits.kinds };
+      limits = record { possible = limits.possible; objects = omega arith; slots = omega (arith, slot_count-cut_off gone t); roots = omega arith; kinds = limits.kinds };
     }

@@ -10,6 +10,8 @@ use Rattle.std.specs.BTreeMap.{insert_entry, is_at}
 use Rattle.std.proofs.lemmas.Bool.{cases_lt}
 use Rattle.std.proofs.lemmas.List.{length-map, get_or-map}
 use Rattle.std.proofs.lemmas.Option.{same_Some, slice_get_within, get_or_from_slice_get, slice_get-get_or, slice_get-map}
+use Rattle.heap_base.specs.Limits.{ArePossible}
+use Rattle.heap_base.specs.declared.limits.Limits.{Limits}
 use Rattle.heap_base.specs.declared.limits.TheConstants.{MOST_OBJECTS}
 use Rattle.graph_meaning.specs.declared.refusal.Refusal.TheVariants.{NotLive}
 use Rattle.graph_meaning.specs.Heap.{Slot, Object, name_cmp, ids, edge_of, is_live, slot_count}
@@ -30,10 +32,10 @@ use Rattle.object_table.proofs.Changes.{slot_count-changed, next_within}
 
 -- the parts of a table, as it has them
 abbrev pub parts_in : Inside → TableParts
-parts_in t = record { cells = t.cells.cells; ids = t.ids; roots = t.roots; kinds = t.kinds; greatest = t.greatest; slots = t.slots }
+parts_in t = record { cells = t.cells.cells; ids = t.ids; roots = t.roots; kinds = t.kinds; greatest = t.greatest; slots = t.slots; most = t.most }
 
-pub table_nothing : IsTable (record { cells = []; ids = []; roots = []; kinds = []; greatest = 0; slots = 0 })
-table_nothing = record {
+pub table_nothing : (most : Limits) → ArePossible most → IsTable (record { cells = []; ids = []; roots = []; kinds = []; greatest = 0; slots = 0; most = most })
+table_nothing most possible = record {
   laid = record {
     rising = λ i j d less within. absurd (omega arith);
     stands = λ k d h. absurd (omega arith);
@@ -43,7 +45,7 @@ table_nothing = record {
     few = omega arith;
   };
   counted = refl;
-  sound = sound_nothing;
+  sound = sound_nothing most possible;
 }
 
 -- ---- questions
@@ -189,7 +191,7 @@ module _ (p : TableParts) (is : IsTable p) where
       let same : (placed_of (with_name p is.laid name)).table ≡ record (placed_of p).table {
         kinds =
             with_kind p.kinds name;
-      } = ap (λ l. record { objects = l; roots = p.roots; greatest = p.greatest; kinds = with_kind p.kinds name }) (objects-with_name p is.laid name) in (
+      } = ap (λ l. record { objects = l; roots = p.roots; greatest = p.greatest; kinds = with_kind p.kinds name; most = p.most }) (objects-with_name p is.laid name) in (
         record {
           laid = laid-with_name p is.laid name;
           counted = is.counted ∙ sym (ap slot_count same);
@@ -293,7 +295,7 @@ module _ (p : TableParts) (is : IsTable p) where
     length-objects = length-map p.ids (λ e. object_at_cell p.kinds p.cells e.1)
 
     pub room_for_ids : length p.ids < MOST_OBJECTS
-    room_for_ids = omega (arith, (alloc_fits (placed_of p).table id name slots allowed).room, length-objects)
+    room_for_ids = omega (arith, (alloc_fits (placed_of p).table id name slots allowed).room, is.sound.limits.possible.objects, length-objects)
 
     pub room_for_cell : next_cell p.cells < MOST_OBJECTS
     room_for_cell = ⊎_elim

@@ -3,6 +3,7 @@ use Rattle.std.specs.Prelude.{◌≡◌, ℕ, ◌==◌, ◌<◌, ◌≤◌, List
 use Rattle.std.specs.Prelude.{None, Some, IfSome, unwrap_or, option_and_then, slice_index_or}
 use Rattle.std.specs.List.{AllPairs}
 use Rattle.std.specs.Option.{option_map}
+use Rattle.heap_base.specs.declared.limits.Limits.{Limits}
 use Rattle.heap_base.specs.declared.limits.TheConstants.{MOST_OBJECTS}
 use Rattle.heap_base.specs.Counting.{bit, times}
 use Rattle.graph_meaning.specs.Heap.{Slot, Object, slot_count}
@@ -12,7 +13,7 @@ use Rattle.object_table.specs.Placed.{PlacedTable, IsSound}
 use Rattle.object_table.specs.Residents.{Resident, held_at, id_held, is_flagged, is_taken}
 
 -- The parts: what each cell holds; the ids of the objects, rising, each with its cell; the roots; the type names; the
--- greatest id that was allocated; and how many slots all objects have.
+-- greatest id that was allocated; how many slots all objects have; and the most that there may be.
 pub record TableParts : Type 0 where
   pub cells : List (Option Resident)
   pub ids : List (ℕ × ℕ)
@@ -20,6 +21,7 @@ pub record TableParts : Type 0 where
   pub kinds : List (List ℕ)
   pub greatest : ℕ
   pub slots : ℕ
+  pub most : Limits
 
 -- a slot, with the id of the object in the cell that it holds
 abbrev pub slot_of : List (Option Resident) → CellSlot → Slot
@@ -44,7 +46,7 @@ slots_at_cell cells cell = length (unwrap_or (held_at cells cell) nobody).slots
 -- the table that the parts stand for, and which object each cell holds
 abbrev pub placed_of : TableParts → PlacedTable
 placed_of p = record {
-  table = record { objects = map (λ e. object_at_cell p.kinds p.cells e.1) p.ids; roots = p.roots; greatest = p.greatest; kinds = p.kinds };
+  table = record { objects = map (λ e. object_at_cell p.kinds p.cells e.1) p.ids; roots = p.roots; greatest = p.greatest; kinds = p.kinds; most = p.most };
   cells = map (option_map (λ o. o.id)) p.cells;
 }
 

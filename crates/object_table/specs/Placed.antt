@@ -6,6 +6,7 @@ use Rattle.std.specs.List.{cons_option, IsDistinct}
 use Rattle.std.specs.List.Sorted.{IsStrictlySortedBy}
 use Rattle.std.specs.Map.{keys_of}
 use Rattle.std.specs.Str.{bytes_eq}
+use Rattle.heap_base.specs.declared.limits.Limits.{Limits}
 use Rattle.heap_base.specs.declared.limits.TheConstants.{MOST_OBJECTS}
 use Rattle.graph_meaning.specs.Heap.{Slot, Object, Table, empty_slot, empty_table, name_cmp, object_at, is_live, is_seen, targets}
 use Rattle.graph_meaning.specs.Reach.{has_id}
@@ -17,8 +18,9 @@ pub record PlacedTable : Type 0 where
   pub table : Table
   pub cells : List (Option ℕ)
 
-abbrev pub nothing_placed : PlacedTable
-nothing_placed = record { table = empty_table; cells = [] }
+-- the empty table under these limits
+abbrev pub nothing_placed : Limits → PlacedTable
+nothing_placed most = record { table = empty_table most; cells = [] }
 
 -- the id of the object that a cell holds
 abbrev pub id_in : PlacedTable → ℕ → Option ℕ

@@ -2,6 +2,7 @@ ghost use Rattle.std.specs.Prelude.{◌≡◌, ◌+◌, ◌<◌, ◌≤◌, ℕ,
 ghost use Rattle.std.specs.Result.{result_err};
 ghost use Rattle.std.specs.Str.{bytes_eq};
 ghost use Rattle.heap_base.specs.declared.limits.TheConstants.{MOST_OBJECTS, MOST_SLOTS};
+ghost use Rattle.heap_base.specs.Limits.{ArePossible};
 ghost use Rattle.graph_meaning.specs.Answers.{RefusesBy};
 ghost use Rattle.graph_meaning.specs.Heap.{edge_of, ids, is_live};
 ghost use Rattle.graph_meaning.specs.Collecting.{with_only, cut_off, holders_of};
@@ -22,7 +23,7 @@ use crate::roots::Roots;
 use crate::slot::{Slot, is_flagged};
 use crate::views::{objects_view, roots_view};
 use graph_meaning::{HeapView, Refusal, Stop};
-use heap_base::{MOST_KINDS, MOST_OBJECTS, MOST_ROOTS, MOST_SLOTS, Name, ObjId, OutOfMemory};
+use heap_base::{Limits, MOST_KINDS, Name, ObjId, OutOfMemory};
 use std::alloc::Global;
 use std::marker::Model;
 
@@ -38,6 +39,8 @@ pub struct ObjectTable {
     greatest: u32,
     // how many slots the objects have together
     slots: u32,
+    // the most that there may be
+    most: Limits,
     alloc: Global,
 }
 
@@ -47,15 +50,16 @@ impl Model for ObjectTable {
 
     ghost Value = { PlacedTable };
 
-    ghost view = { λ t. placed_of (record { cells = t.cells.cells; ids = t.ids; roots = t.roots; kinds = t.kinds; greatest = t.greatest; slots = t.slots }) };
+    ghost view = { λ t. placed_of (record { cells = t.cells.cells; ids = t.ids; roots = t.roots; kinds = t.kinds; greatest = t.greatest; slots = t.slots; most = t.most }) };
 
-    ghost invariant = { λ t. IsTable (record { cells = t.cells.cells; ids = t.ids; roots = t.roots; kinds = t.kinds; greatest = t.greatest; slots = t.slots }) };
+    ghost invariant = { λ t. IsTable (record { cells = t.cells.cells; ids = t.ids; roots = t.roots; kinds = t.kinds; greatest = t.greatest; slots = t.slots; most = t.most }) };
 }
 
 impl ObjectTable {
-    /// The empty table.
-    pub fn make(alloc: Global) -> Result<ObjectTable, OutOfMemory>
-        ensures empty { IfOk result (λ t. t ≡ nothing_placed) }
+    /// The empty table under these limits.
+    pub fn make(alloc: Global, most: Limits) -> Result<ObjectTable, OutOfMemory>
+        requires possible { ArePossible most }
+        ensures empty { IfOk result (λ t. t ≡ nothing_placed most) }
     {
         Ok(ObjectTable {
             cells: Cells::make(alloc),
@@ -64,6 +68,7 @@ impl ObjectTable {
             kinds: Kinds::make(alloc),
             greatest: 0,
             slots: 0,
+            most,
             alloc,
         })
     }
@@ -79,6 +84,7 @@ impl ObjectTable {
             kinds: self.kinds.copy()?,
             greatest: self.greatest,
             slots: self.slots,
+            most: self.most,
             alloc: self.alloc,
         })
     }
@@ -92,8 +98,8 @@ impl ObjectTable {
     }
 
     /// Adds an object with empty slots, none weak. It refuses, in this order, an id that is not above every id
-    /// before (`IdNotRising`), an object too many where `MOST_OBJECTS` are live (`TooManyObjects`), slots that
-    /// with the live ones pass `MOST_SLOTS` (`TooManySlots`), and a new type where `MOST_KINDS` were seen
+    /// before (`IdNotRising`), an object too many where as many are live as there may be (`TooManyObjects`), slots that
+    /// with the live ones pass their limit (`TooManySlots`), and a new type where `MOST_KINDS` were seen
     /// (`TooManyTypes`). After a refusal, and when out of memory, nothing has changed. The object takes the lowest cell
     /// that is empty.
     pub fn alloc_object(&mut self, id: ObjId, kind: &Name, slots: u32) -> Result<(), Stop>
@@ -140,7 +146,7 @@ impl ObjectTable {
     }
 
     /// Lets a root name hold an object, or takes the name away, also where it is not there. It refuses, in
-    /// this order, a `to` that is not live (`NotLive`), and a new name where `MOST_ROOTS` are there
+    /// this order, a `to` that is not live (`NotLive`), and a new name where as many are there as there may be
     /// (`TooManyRoots`). Only a new name may want memory.
     pub fn set_root(&mut self, name: &Name, to: Option<ObjId>) -> Result<(), Stop>
         ensures refused { RefusesBy result (root_refusal self.old.table name.now to) }
@@ -410,9 +416,9 @@ impl ObjectTable {
     {
         if id.number() <= self.greatest {
             Some(Refusal::IdNotRising(id.number()))
-        } else if self.live() >= MOST_OBJECTS {
+        } else if self.live() >= self.most.objects {
             Some(Refusal::TooManyObjects)
-        } else if slots > MOST_SLOTS - self.slots {
+        } else if slots > self.most.slots - self.slots {
             Some(Refusal::TooManySlots)
         } else {
             self.refusal_by_kind(kind, found)
@@ -438,7 +444,7 @@ impl ObjectTable {
         if let Some(refusal) = self.not_live(id) {
             return Some(refusal);
         }
-        if self.roots.len() >= MOST_ROOTS && !self.roots.has(name) {
+        if self.roots.len() >= self.most.roots && !self.roots.has(name) {
             Some(Refusal::TooManyRoots)
         } else {
             None

@@ -1,5 +1,6 @@
 -- Worked examples: the whole report on a short trace, and the status that it ends with.
 use Rattle.std.specs.Prelude.{◌≡◌, ℕ, List, [], ◌∷◌, ◌++◌, map, codes, None}
+use Rattle.heap_base.specs.Limits.{usual_limits}
 use Rattle.heap_base.specs.declared.status.Status.{Status}
 use Rattle.heap_base.specs.declared.status.Status.TheVariants.{Clean, Violated, TraceFault}
 use Rattle.graph_meaning.specs.declared.event.Event.{Event}
@@ -17,11 +18,11 @@ Reports rules events text status =
 
 -- violations are reported, and a hundred paths are shown
 abbrev pub plain : RunRules
-plain = record { paths = 100; react = react.Report }
+plain = record { paths = 100; react = react.Report; most = usual_limits }
 
 -- the same, and the run halts at a violation
 abbrev pub halting : RunRules
-halting = record { paths = 100; react = react.Halt }
+halting = record { paths = 100; react = react.Halt; most = usual_limits }
 
 abbrev pub Nothing : Type 0
 Nothing = Reports plain [] (codes "end gcs 0 violations 0\n") Clean
@@ -108,7 +109,7 @@ PathsFromAnOwner =
 -- one path is shown, and the next is left out
 abbrev pub OnePathIsShown : Type 0
 OnePathIsShown =
-    Reports (record { paths = 1; react = react.Report }) (alloc 1 (codes "A") 0 ∷ alloc 2 (codes "A") 0 ∷ root (codes "a") 1 ∷ root (codes "b") 2 ∷ AssertDead 1 ∷ AssertDead 2 ∷ Collect ∷ [])
+    Reports (record plain { paths = 1 }) (alloc 1 (codes "A") 0 ∷ alloc 2 (codes "A") 0 ∷ root (codes "a") 1 ∷ root (codes "b") 2 ∷ AssertDead 1 ∷ AssertDead 2 ∷ Collect ∷ [])
     (codes "gc 1 live 2 traced 2 freed 0\n"
     ++ codes "gc 1 dead 1 A: root a -> 1 A\n"
     ++ codes "gc 1 dead 2 A: path left out\n"
@@ -118,7 +119,7 @@ OnePathIsShown =
 -- by force what is asserted dead is cut off, and the next collection frees it
 abbrev pub DeadIsCutOff : Type 0
 DeadIsCutOff =
-    Reports (record { paths = 100; react = react.Force }) (order ++ Collect ∷ Collect ∷ [])
+    Reports (record plain { react = react.Force }) (order ++ Collect ∷ Collect ∷ [])
     (codes "gc 1 live 1 traced 1 freed 0\n"
     ++ codes "gc 1 dead 7 Order: root a -> 7 Order\n"
     ++ codes "gc 1 cleared 1\n"

@@ -24,8 +24,8 @@ report_text before ran = collections_text ran.collections ++ last_line (with_col
 
 -- the whole report on these items
 abbrev pub report_of : RunRules → List Item → List ℕ
-report_of rules items = report_text no_totals (run rules first_state items)
+report_of rules items = report_text no_totals (run rules (first_state rules.most) items)
 
 -- the text of their collections, without a last line
 abbrev pub part_of : RunRules → List Item → List ℕ
-part_of rules items = collections_text (run rules first_state items).collections
+part_of rules items = collections_text (run rules (first_state rules.most) items).collections

@@ -1,6 +1,7 @@
 -- What the run of a trace is: what its items lead to, one after another, and how it ends.
 use Rattle.std.specs.Prelude.{ℕ, ◌+◌, List, [], ◌∷◌, ◌++◌, length, Bool, true, false, ◌&&◌, nat_lt, if◌then◌else◌, Result, Ok, Err}
 use Rattle.heap_base.specs.Counting.{total}
+use Rattle.heap_base.specs.declared.limits.Limits.{Limits}
 use Rattle.heap_base.specs.declared.status.Status.{Status}
 use Rattle.heap_base.specs.declared.status.Status.TheVariants.{Clean, Violated, TraceFault}
 use Rattle.graph_meaning.specs.declared.collection.Collection.{Collection}
@@ -16,10 +17,11 @@ use Rattle.trace_reader.specs.Meaning.{Item, blank, event, refused}
 
 -- ---- what a run goes by
 
--- How many paths of each collection are shown, and what is done about violations.
+-- How many paths of each collection are shown, what is done about violations, and the limits of the heap.
 pub record RunRules : Type 0 where
   pub paths : ℕ
   pub react : React
+  pub most : Limits
 
 abbrev pub is_force : React → Bool
 is_force Report = false
@@ -63,9 +65,9 @@ pub record RunState : Type 0 where
   pub totals : Totals
   pub lines : ℕ
 
--- the state at the beginning of a trace
-abbrev pub first_state : RunState
-first_state = record { heap = empty_heap; totals = no_totals; lines = 0 }
+-- the state at the beginning of a trace, with a heap under these limits
+abbrev pub first_state : Limits → RunState
+first_state most = record { heap = empty_heap most; totals = no_totals; lines = 0 }
 
 -- What an item does: the collections that it makes, none or one, and the state after it.
 pub record Turn : Type 0 where
@@ -164,8 +166,8 @@ run_status before ran = last_status (with_collections before ran.collections) ra
 
 -- how the run of these items ends
 abbrev pub ending_of : RunRules → List Item → Ending
-ending_of rules items = (run rules first_state items).ending
+ending_of rules items = (run rules (first_state rules.most) items).ending
 
 -- the status that they end with
 abbrev pub status_of : RunRules → List Item → Status
-status_of rules items = run_status no_totals (run rules first_state items)
+status_of rules items = run_status no_totals (run rules (first_state rules.most) items)

@@ -3,7 +3,7 @@ ghost use Rattle.std.specs.Prelude.{◌≡◌, ◌<◌, ◌≤◌, ◌+◌, IfOk
 ghost use Rattle.heap_base.specs.declared.limits.TheConstants.{LONGEST_TRACE};
 
 use graph_meaning::{Collection, Event, Stop};
-use heap_base::OutOfMemory;
+use heap_base::{Limits, OutOfMemory};
 use heap_parts::HeapParts;
 use plain_collection::collect;
 use std::alloc::Global;
@@ -53,7 +53,7 @@ impl Checking {
         ensures first { IfOk result (λ c. checked_state c ≡ first_audit_state (rules_by paths Report)) }
         ensures none { IfOk result (λ c. c.collections ≡ 0) }
     {
-        let parts = HeapParts::make(alloc)?;
+        let parts = HeapParts::make(alloc, Limits::usual())?;
         Ok(Checking {
             alloc,
             paths,

@@ -75,14 +75,29 @@ fn run_jobs<R: Wait, G: Gate + Send + Drop + 'static>(
     ensures left { IfOk result (λ ks. NoneSpent ks.items) }
     ensures workers { workers_of crew.new ≡ workers_of crew.old }
 {
-    let jobs = wrap(context.alloc, jobs)?;
-    let jobs = crew.run(context.rt, context.shared, jobs, first)?;
-    let jobs = unwrap(context.alloc, jobs)?;
+    let jobs = run_crew(context, crew, jobs, first)?;
     if none_is_spent(jobs.as_slice()) {
         Ok(jobs)
     } else {
         Err(OutOfMemory)
     }
+}
+
+// The crew's run from the first tasks, whether or not a job is spent afterwards.
+fn run_crew<R: Wait, G: Gate + Send + Drop + 'static>(
+    context: &TraceContext<'_, R>,
+    crew: &mut TraceCrew<G>,
+    jobs: Vec<ScanJob>,
+    first: &FirstTasks,
+) -> Result<Vec<ScanJob>, OutOfMemory>
+    requires can { CanRunJobs (shared_by_scan (arc_value context.now.shared.now)) (record { jobs = jobs.items; first = first.now.lists }) (2 * cells_in (shared_by_scan (arc_value context.now.shared.now)) + 1) }
+    requires jobs { length jobs.items ≡ workers_of crew.old }
+    ensures ran { IfOk result (λ ks. HasRunJobs (shared_by_scan (arc_value context.now.shared.now)) (record { jobs = jobs.items; first = first.now.lists }) ks.items) }
+    ensures workers { workers_of crew.new ≡ workers_of crew.old }
+{
+    let jobs = wrap(context.alloc, jobs)?;
+    let jobs = crew.run(context.rt, context.shared, jobs, first)?;
+    unwrap(context.alloc, jobs)
 }
 
 // The same jobs, as those of workers that stay.

@@ -11,7 +11,7 @@ use crate::words::workers_by;
 use audit_core::Auditor;
 use audit_run::{Audit, Plan, audit_trace};
 use graph_meaning::{Collection, React};
-use heap_base::{OutOfMemory, Status, USUAL_PATHS};
+use heap_base::{Limits, OutOfMemory, Status, USUAL_PATHS};
 use parked_crew::Residents;
 use std::alloc::Global;
 use std::sync::{Arc, Wait};
@@ -94,6 +94,7 @@ pub fn audit_resident_with<
         workers,
         paths: USUAL_PATHS,
         react: React::Report,
+        limits: Limits::usual(),
     };
     let collect = |auditor: &mut Auditor| -> Result<Collection, OutOfMemory>
         requires { auditor.now.collections < LONGEST_TRACE }

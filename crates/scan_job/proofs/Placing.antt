@@ -115,7 +115,7 @@ module _ (p : PlacedTable) where
     where
       go : (o : Option ℕ) → length (option_map_or (λ o. o.slots) (option_and_then (object_at p.table.objects) o) []) ≤ MOST_SLOTS
       go None = omega arith
-      go (Some id) = let l = sound.limits.slots in let s = slots_le p.table.objects id in omega arith
+      go (Some id) = let l = sound.limits.slots in let m = sound.limits.possible.slots in let s = slots_le p.table.objects id in omega arith
 
 -- ---- what is given at a place
 

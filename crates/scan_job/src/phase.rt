@@ -57,7 +57,7 @@ pub fn none_is_spent(jobs: &[ScanJob]) -> bool
     true
 }
 
-// The crew's run from the first tasks. Where there is none, nothing is to be done, and no thread is started.
+// The crew's run from the first tasks, if there is one.
 fn run_tasks<R: Threads + Sync, G: Gate>(
     context: ScanContext<'_, R, G>,
     crew: &mut Crew<ScanJob>,

@@ -70,6 +70,15 @@ settings_by words = if is_well_formed words then settings_from (λ name. option_
 abbrev pub are_accepted : List (List ℕ) → Bool
 are_accepted words = is_some (settings_by words)
 
+-- settings that ask for no generated trace
+abbrev pub without_plan : Settings → Option Settings
+without_plan s = if is_some s.plan then None else Some s
+
+-- The settings that the words ask for of an audit that generates no trace: those of `settings_by`, and none where the words ask for a
+-- generated trace.
+abbrev pub large_settings_by : List (List ℕ) → Option Settings
+large_settings_by words = option_and_then without_plan (settings_by words)
+
 -- the numbers are in their ranges
 pub record IsInRange (s : Settings) : Type 0 where
   pub least_workers : LEAST_WORKERS ≤ s.workers

@@ -9,5 +9,5 @@ mod settings;
 mod values;
 
 pub use numbers::{LEAST_WORKERS, MOST_DIGITS, MOST_PATHS, USUAL_WORKERS, number_by};
-pub use options::AUDIT_OPTIONS;
-pub use settings::{Settings, SettingsError, settings_of};
+pub use options::{AUDIT_OPTIONS, LARGE_AUDIT_OPTIONS, LARGER_HEAPS};
+pub use settings::{Settings, SettingsError, large_settings_of, settings_of};

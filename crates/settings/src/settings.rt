@@ -1,7 +1,7 @@
 ghost use Rattle.std.specs.Prelude.{◌≡◌, ◌≢◌, Some, None, Err, map, IfOk};
 ghost use Rattle.clap.specs.Words.{kind_of};
 ghost use Rattle.clap.specs.declared.error.kind.ErrorKind.{ErrorKind};
-ghost use Rattle.settings.specs.Settings.{IsInRange, settings_by};
+ghost use Rattle.settings.specs.Settings.{IsInRange, large_settings_by, settings_by};
 ghost use Rattle.settings.specs.declared.settings.SettingsError.{SettingsError};
 ghost use Rattle.settings.specs.declared.settings.SettingsError.TheVariants.{Usage};
 
@@ -82,5 +82,19 @@ pub fn settings_of(alloc: Global, words: &[&str]) -> Result<Settings, SettingsEr
     match settings_from(&matches) {
         Some(settings) => Ok(settings),
         None => Err(SettingsError::Usage),
+    }
+}
+
+/// The settings that the words of a command line ask for of an audit that generates no trace, the program's name first: as
+/// `settings_of`, without `--gen` and `--size`, which are refused.
+pub fn large_settings_of(alloc: Global, words: &[&str]) -> Result<Settings, SettingsError>
+    ensures taken { IfOk result (λ s. large_settings_by (map (λ w. w.now) words.now) ≡ Some s) }
+    ensures refused { result ≡ Err Usage → large_settings_by (map (λ w. w.now) words.now) ≡ None }
+    ensures in_range { IfOk result IsInRange }
+{
+    let settings = settings_of(alloc, words)?;
+    match settings.plan {
+        None => Ok(settings),
+        Some(_) => Err(SettingsError::Usage),
     }
 }

@@ -4,7 +4,7 @@ use crate::schedule::Schedule;
 use crate::traces::trace_of;
 use audit_core::WorkerCost;
 use audit_run::{Costs, Setup, audit_with};
-use heap_base::{OutOfMemory, Status};
+use heap_base::{Limits, OutOfMemory, Status};
 use report_check::check_run;
 use resident_crew::{ResidentSetup, audit_resident_with};
 use std::alloc::Global;
@@ -86,6 +86,7 @@ fn report_of<'a, R: Threads + Wait + Clone + Drop + Send + Sync + 'static>(
                 },
                 ..Costs::none()
             },
+            limits: Limits::usual(),
         };
         audit_with(setup, &words, &mut source, &mut sink)
     };

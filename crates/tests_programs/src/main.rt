@@ -1,6 +1,6 @@
 //! The auditors as tests run them: further workers cost nothing, so each worker that is asked for has a thread, and each line that can be is
 //! read before its turn, however small a trace is. The first argument says what runs, and takes the place of the program's name: `gcaudit`,
-//! `gcresident`, or `orders`, which audits traces that are drawn from numbers, in orders of the workers' steps that are drawn too. Nobody
+//! `gcheap`, `gcresident`, or `orders`, which audits traces that are drawn from numbers, in orders of the workers' steps that are drawn too. Nobody
 //! installs it.
 #![tactic(auto)]
 
@@ -12,9 +12,9 @@ mod schedule;
 mod summary;
 mod traces;
 
-use audit_run::{Costs, Setup, audit_with};
+use audit_run::{Costs, Setup, audit_large_with, audit_with};
 use console::{Arguments, Program, run_program};
-use heap_base::Status;
+use heap_base::{Limits, Status};
 use host::Host;
 use orders::run_orders;
 use resident_crew::{ResidentSetup, audit_resident_with};
@@ -27,7 +27,7 @@ use streams::{Sink, Source, put_all};
 
 const NAME: &str = "tests_programs";
 
-const USAGE: &[u8] = b"usage: tests_programs gcaudit|gcresident .. | orders FIRST COUNT\n";
+const USAGE: &[u8] = b"usage: tests_programs gcaudit|gcheap|gcresident .. | orders FIRST COUNT\n";
 
 fn main(rt: HostRuntime) -> ExitCode {
     run_program(&rt, NAME, |words, streams| {
@@ -49,6 +49,7 @@ fn run_named<'a, R: Threads + Wait + Clone + Drop + Send + Sync + 'static, S: So
 ) -> Status {
     match named {
         [name, ..] if *name == "gcaudit" => audit(host, named, source, sink),
+        [name, ..] if *name == "gcheap" => audit_large(host, named, source, sink),
         [name, ..] if *name == "gcresident" => audit_resident(host, named, source, sink),
         [name, first, count] if *name == "orders" => run_orders(host, first, count, sink),
         _ => refuse(sink),
@@ -67,8 +68,26 @@ fn audit<'a, R: Threads + Sync, S: Source, K: Sink>(
         alloc,
         gate: &OpenGate,
         costs: Costs::none(),
+        limits: Limits::usual(),
     };
     audit_with(setup, words, source, sink)
+}
+
+fn audit_large<'a, R: Threads + Sync, S: Source, K: Sink>(
+    host: &Host<'a, R>,
+    words: &[&str],
+    source: &mut S,
+    sink: &mut K,
+) -> Status {
+    let Host { rt, alloc } = *host;
+    let setup = Setup {
+        rt,
+        alloc,
+        gate: &OpenGate,
+        costs: Costs::none(),
+        limits: Limits::large(),
+    };
+    audit_large_with(setup, words, source, sink)
 }
 
 fn audit_resident<'a, R: Threads + Wait + Clone + Drop + Send + Sync + 'static, S: Source, K: Sink>(

@@ -3,6 +3,7 @@ ghost use Rattle.std.specs.Prelude.{◌≡◌, ℕ, [], IfOk, OnOk};
 ghost use Rattle.graph_meaning.specs.Heap.{targets};
 
 use crate::names::{id, name};
+use heap_base::Limits;
 use object_table::ObjectTable;
 use std::alloc::Global;
 use std::test::Fail;
@@ -21,7 +22,7 @@ pub fn table_apart(alloc: Global, objects: &[(u32, &str, u32)]) -> Result<Object
     ensures roots { IfOk result (λ t. t.table.roots ≡ []) }
     ensures edges { IfOk result (λ t. (x : ℕ) → targets t.table x ≡ []) }
 {
-    let mut table = ObjectTable::make(alloc)?;
+    let mut table = ObjectTable::make(alloc, Limits::usual())?;
     for object in objects {
         add(alloc, &mut table, *object)?;
     }

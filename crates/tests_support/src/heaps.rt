@@ -5,6 +5,7 @@ ghost use Rattle.graph_meaning.specs.Roles.{AreRolesOf};
 use crate::names::{id, name};
 use assert_registry::AssertRegistry;
 use graph_meaning::Roles;
+use heap_base::Limits;
 use object_table::ObjectTable;
 use std::alloc::Global;
 use std::test::Fail;
@@ -75,7 +76,7 @@ fn set_roots(alloc: Global, table: &mut ObjectTable, roots: &[(&str, u32)]) -> R
 
 /// The table of the heap; an error where one of its operations is refused.
 pub fn table_of(alloc: Global, heap: SampleHeap<'_>) -> Result<ObjectTable, Fail> {
-    let mut table = ObjectTable::make(alloc)?;
+    let mut table = ObjectTable::make(alloc, Limits::usual())?;
     add_objects(alloc, &mut table, heap.objects)?;
     fill_slots(&mut table, heap.stores)?;
     make_weak(&mut table, heap.weak)?;

@@ -142,4 +142,4 @@ same_report rules s (item ∷ items) = same_item rules s item items (λ t. same_
 
 -- from the beginning of a trace
 pub audit_is_reported : (rules : RunRules) (items : List Item) → report_by audit_meaning (first_audit_state rules) items ≡ audit_report rules items
-audit_is_reported rules items = same_report rules first_state items
+audit_is_reported rules items = same_report rules (first_state rules.most) items

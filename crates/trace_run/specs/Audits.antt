@@ -1,6 +1,8 @@
 -- What an audit makes of a trace, whoever keeps the heap and traces it: the meaning of a program whose states are heaps
 -- with the totals of their collections, and the report of an audit by the definition of its run.
 use Rattle.std.specs.Prelude.{◌≡◌, ℕ, ◌+◌, List, [], ◌∷◌, length, true, false, nat_lt, if◌then◌else◌, Result, Ok, Err}
+use Rattle.heap_base.specs.Limits.{usual_limits}
+use Rattle.heap_base.specs.declared.limits.Limits.{Limits}
 use Rattle.graph_meaning.specs.declared.collection.Collection.{Collection}
 use Rattle.graph_meaning.specs.declared.reaction.React.{React}
 use Rattle.graph_meaning.specs.declared.refusal.Refusal.{Refusal}
@@ -15,9 +17,13 @@ use Rattle.trace_run.specs.declared.taken.Taken.{Taken}
 use Rattle.trace_run.specs.declared.taken.Taken.TheVariants.{GoesOn, Halts}
 use Rattle.trace_run.specs.Program.{Effect, goes_on, refuses, halts, Last, ProgramMeaning, Report, due_text, text_if_due}
 
--- a run that shows so many paths of each collection and does this about violations
+-- a run under these limits that shows so many paths of each collection and does this about violations
+abbrev pub rules_within : Limits → ℕ → React → RunRules
+rules_within most paths react = record { paths = paths; react = react; most = most }
+
+-- such a run under the usual limits
 abbrev pub rules_by : ℕ → React → RunRules
-rules_by paths react = record { paths = paths; react = react }
+rules_by paths react = rules_within usual_limits paths react
 
 -- ---- a program
 
@@ -32,7 +38,7 @@ state_of rules s = record { rules = rules; heap = s.heap; totals = s.totals }
 
 -- at the beginning of a trace
 abbrev pub first_audit_state : RunRules → AuditState
-first_audit_state rules = state_of rules first_state
+first_audit_state rules = state_of rules (first_state rules.most)
 
 -- the texts of the collections of a turn are due; the run halts where it is to
 abbrev pub effect_of_turn : RunRules → Turn → Effect AuditState

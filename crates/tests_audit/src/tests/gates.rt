@@ -2,8 +2,10 @@
 //! workers that cost nothing. `audit` has two workers for a heap of 131,072 cells or more, and a crew of two has two threads where a worker may
 //! have 1,000 tasks or more; a smaller heap is traced by one.
 
+ghost use Rattle.heap_base.specs.Limits.{ArePossible};
+
 use audit_run::{Costs, Setup, audit_with};
-use heap_base::Status;
+use heap_base::{Limits, Status};
 use std::alloc::Global;
 use std::process::Abort;
 use std::test::Fail;
@@ -45,7 +47,9 @@ fn expect_report<R: Threads + Abort + Sync, G: Gate>(
     setup: Setup<'_, R, G>,
     trace: &str,
     objects: u32,
-) -> Result<(), Fail> {
+) -> Result<(), Fail>
+    requires { ArePossible setup.limits }
+{
     let Setup { rt, alloc, .. } = setup;
     let mut source = MemSource::make(alloc, trace.as_bytes(), 4096, &[])?;
     let mut sink = MemSink::make(alloc, 4096, 4096, &[])?;
@@ -74,6 +78,7 @@ fn expect_held<R: Threads + Abort + Sync>(
         alloc,
         gate: &gate,
         costs: Costs::none(),
+        limits: Limits::usual(),
     };
     expect_report(setup, trace, objects)?;
     assert!(rt; !gate.watch.gave_up());
@@ -139,6 +144,7 @@ fn begun_by_each<R: Threads + Abort + Sync>(
         alloc,
         gate: &gate,
         costs: Costs::usual(),
+        limits: Limits::usual(),
     };
     expect_report(setup, &family(alloc, children)?, children.saturating_add(2))?;
     assert!(rt; !gate.watch.gave_up());

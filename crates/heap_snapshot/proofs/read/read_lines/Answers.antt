@@ -1,12 +1,12 @@
 use Rattle.std.proofs.Common.{◌≤◌, ◌<◌, ap, sym, subst, ◌∙◌, length, AllPairs}
-use Rattle.heap_base.specs.declared.limits.TheConstants.{MOST_OBJECTS}
+use Rattle.heap_base.specs.declared.limits.TheConstants.{USUAL_OBJECTS}
 use Rattle.graph_meaning.specs.declared.views.HeapView.{HeapView}
 use Rattle.heap_snapshot.specs.Dangling.{first_dangling, object_ids}
 use Rattle.heap_snapshot.specs.Reading.{Reads, unless_dangling}
 use Rattle.heap_snapshot.proofs.read.read_lines.Goals as goal
 
 pub without_dangling-requires-clause-few : goal.without_dangling-requires-clause-few
-without_dangling-requires-clause-few c = subst (λ (v : HeapView). length v.objects ≤ MOST_OBJECTS) (sym c.into_view.ensures) c.in_ok-take_lines.ensures.few
+without_dangling-requires-clause-few c = subst (λ (v : HeapView). length v.objects ≤ USUAL_OBJECTS) (sym c.into_view.ensures) c.in_ok-take_lines.ensures.few
 
 pub without_dangling-requires-clause-rising : goal.without_dangling-requires-clause-rising
 without_dangling-requires-clause-rising c =

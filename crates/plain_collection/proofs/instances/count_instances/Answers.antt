@@ -50,7 +50,7 @@ count_one-requires-clause-kind c =
 
 pub count_one-requires-clause-few : goal.count_one-requires-clause-few
 count_one-requires-clause-few c =
-    omega (arith, c.loop-number.invariant.few c.kind_at.result, c.loop-number-test.true, c.live-number-end.ensures.count, c.cells-all.ensures.sound.limits.objects)
+    omega (arith, c.loop-number.invariant.few c.kind_at.result, c.loop-number-test.true, c.live-number-end.ensures.count, c.cells-all.ensures.sound.limits.objects, c.cells-all.ensures.sound.limits.possible.objects)
 
 pub loop-number-preserved : goal.loop-number-preserved
 loop-number-preserved c =

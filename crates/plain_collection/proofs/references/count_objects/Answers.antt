@@ -24,6 +24,7 @@ pub count_slots-requires-clause-few : goal.count_slots-requires-clause-few
 count_slots-requires-clause-few c =
     let within : c.loop-number.number < length c.args.table.now.table.objects = omega arith in
     let most = c.requires.sound.limits.objects in
+    let possible = c.requires.sound.limits.possible.objects in
     most-weaker c.loop-number.counts.items (2 ^ 32 + 2 ^ 32 * c.loop-number.number) (2 ^ 63) (omega arith) c.loop-number.invariant.few
 
 pub loop-number-init : goal.loop-number-init

@@ -15,7 +15,7 @@ push_ownees-requires-clause-room g c =
     let (h, are, violating) = c.requires.counts in
     let sound = c.cells-cells.ensures.sound in
     let ownees = ownees-few c.args.counted.now.table.now c.args.counted.now.roles.now h c.args.check.now sound are.stand violating in
-    omega (arith, ownees, sound.limits.objects, c.in_ok-list.ensures.few)
+    omega (arith, ownees, sound.limits.objects, sound.limits.possible.objects, c.in_ok-list.ensures.few)
 
 pub push_ownees-requires-clause-check : goal.push_ownees-requires-clause-check
 push_ownees-requires-clause-check g c = let (h, are, violating) = c.requires.counts in (h, record { stand = are.stand; violating = violating })

@@ -60,7 +60,7 @@ count_one-requires-clause-places c = omega (arith, in_range (goal.at.count_one-r
 
 pub count_one-requires-clause-small : goal.count_one-requires-clause-small
 count_one-requires-clause-small c =
-    omega (arith, c.loop-number.invariant.few c.kind_at-kind.result, c.loop-number-test.true, c.live-number-end.ensures.count, c.cells-all.ensures.sound.limits.objects)
+    omega (arith, c.loop-number.invariant.few c.kind_at-kind.result, c.loop-number-test.true, c.live-number-end.ensures.count, c.cells-all.ensures.sound.limits.objects, c.cells-all.ensures.sound.limits.possible.objects)
 
 pub loop-number-preserved : goal.loop-number-preserved
 loop-number-preserved c =

@@ -79,7 +79,7 @@ returns-clause-violators g c h are =
     (subst (λ (n : ℕ). filter (is_violated_by c.args.assertion h) (drop n (ids t)) ≡ []) last (c.many_asked-number-end.ensures.others h are)) (c.loop-number.invariant.gathered h are)
 
 pub returns-clause-few : goal.returns-clause-few
-returns-clause-few g c = omega (arith, c.loop-number.invariant.few, c.loop-number.auto.number-end, c.many_asked-number-end.ensures.few, c.cells-all.ensures.sound.limits.objects)
+returns-clause-few g c = omega (arith, c.loop-number.invariant.few, c.loop-number.auto.number-end, c.many_asked-number-end.ensures.few, c.cells-all.ensures.sound.limits.objects, c.cells-all.ensures.sound.limits.possible.objects)
 
 pub returns-clause-taken : goal.returns-clause-taken
 returns-clause-taken g c =

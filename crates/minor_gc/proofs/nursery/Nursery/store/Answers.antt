@@ -103,7 +103,8 @@ pub recount-requires-clause-fits : goal.recount-requires-clause-fits
 recount-requires-clause-fits c wasnt is =
     let b = (goal.at.recount-requires-clause-fits c).After-index_mut in
     let changes = count_changes (old b).has (young b) in
-    let few = count_few (old b).has (young b) c.cells-cells.ensures.sound.limits.slots in
+    let limits = c.cells-cells.ensures.sound.limits in
+    let few = count_few (old b).has (young b) (omega (arith, limits.slots, limits.possible.slots)) in
     let none : bit (leads_to (young b) (slot_before (old b).has)) ≡ 0 = ap bit (sym (young_before b) ∙ wasnt) in
     let one : bit (leads_to (young b) (slot_after (old b).has)) ≡ 1 = ap bit (sym (young_after b) ∙ is) in
     omega (arith, few, changes, none, one, count b)

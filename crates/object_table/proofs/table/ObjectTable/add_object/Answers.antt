@@ -43,6 +43,7 @@ module _ (c : After-number-self-inside) where
     roots = c.self.inside.roots;
     kinds = c.learn.new.self;
     greatest = c.number-self-inside.result;
+    most = c.self.inside.most;
     slots = c.self.inside.slots + c.args.slots;
   }
 

@@ -1,4 +1,4 @@
-use Rattle.std.proofs.Common.{is_some, refl, sym, ◌∙◌, ap}
+use Rattle.std.proofs.Common.{is_some, refl, sym, ◌∙◌, ap, arith}
 use Rattle.graph_meaning.specs.Heap.{Table}
 use Rattle.graph_meaning.specs.Step.{with_root}
 use Rattle.object_table.specs.Parts.{placed_of}
@@ -9,7 +9,8 @@ use Rattle.object_table.proofs.table.ObjectTable.put_root.Goals as goal
 pub set-requires : goal.set-requires
 set-requires c new =
     let t : Table = (placed_of (parts_in c.self.inside)).table in
-    (root_fits t c.args.name.now c.args.id (rw (← c.self.view_is) at (sym c.root_refusal.ensures ∙ c.in_default.is))).1 (ap is_some new)
+    let room = (root_fits t c.args.name.now c.args.id (rw (← c.self.view_is) at (sym c.root_refusal.ensures ∙ c.in_default.is))).1 (ap is_some new) in
+    omega (arith, room, c.self.invariant.sound.limits.possible.roots)
 
 pub invariant_of-self-2 : goal.invariant_of-self-2
 invariant_of-self-2 c =

@@ -10,8 +10,8 @@ returns-then-number-self c =
     let t : Table = (placed_of (parts_in c.self.inside)).table in
     record { refusal = rw (← c.self.view_is, c.number-then-number-self.ensures.value) (sym (alloc_rising t c.args.id c.args.kind.now c.args.slots (omega arith))) }
 
-pub returns-then-live-ge-MOST_OBJECTS : goal.returns-then-live-ge-MOST_OBJECTS
-returns-then-live-ge-MOST_OBJECTS c =
+pub returns-then-live-self : goal.returns-then-live-self
+returns-then-live-self c =
     let t : Table = (placed_of (parts_in c.self.inside)).table in
     let live = rw (← c.self.view_is) at c.live.ensures.count in
     record { refusal = rw (← c.self.view_is) (sym (alloc_full t c.args.id c.args.kind.now c.args.slots (omega arith) (omega (arith, live)))) }

@@ -13,11 +13,11 @@ returns-then-not-has c =
     let t : Table = (placed_of (parts_in c.self.inside)).table in
     rw (← c.self.view_is) (sym (root_full t c.args.name.now c.args.id (rw (← c.self.view_is) at (sym c.not_live.ensures ∙ c.in_default.is)) (sym c.if-not-has.ensures) (omega arith)))
 
-pub returns-else-len-ge-MOST_ROOTS : goal.returns-else-len-ge-MOST_ROOTS
-returns-else-len-ge-MOST_ROOTS c =
+pub returns-else-len-self : goal.returns-else-len-self
+returns-else-len-self c =
     let t : Table = (placed_of (parts_in c.self.inside)).table in
     let live = rw (← c.self.view_is) at (sym c.not_live.ensures ∙ c.in_default.is) in
-    rw (← c.self.view_is) (sym (elim c.else-len-ge-MOST_ROOTS.branch [
-      | goal.else-len-ge-MOST_ROOTS-via-then-len-ge-MOST_ROOTS+else-not-has w ↦ root_there t c.args.name.now c.args.id live (sym w.if-not-has.ensures)
-      | goal.else-len-ge-MOST_ROOTS-via-else-len-ge-MOST_ROOTS w ↦ root_room t c.args.name.now c.args.id live (omega arith)
+    rw (← c.self.view_is) (sym (elim c.else-len-self.branch [
+      | goal.else-len-self-via-then-len-self+else-not-has w ↦ root_there t c.args.name.now c.args.id live (sym w.if-not-has.ensures)
+      | goal.else-len-self-via-else-len-self w ↦ root_room t c.args.name.now c.args.id live (omega arith)
     ]))

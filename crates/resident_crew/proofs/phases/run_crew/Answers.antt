@@ -1,9 +1,12 @@
-use Rattle.std.proofs.Common.{sym, subst}
+use Rattle.std.proofs.Common.{◌≡◌, sym, subst}
 use Rattle.std.specs.Arc.{arc_value}
+use Rattle.std.proofs.lemmas.Result.{IfOk-weaker}
+use Rattle.steal_pool.specs.Runs.{Workload}
 use Rattle.scan_job.specs.Phases.{HasRunJobs}
+use Rattle.scan_job.specs.States.{ScanState}
 use Rattle.resident_crew.specs.Scans.{shared_by_scan}
 use Rattle.resident_crew.proofs.OwnedRuns.{has-run}
-use Rattle.resident_crew.proofs.phases.run_jobs.Goals as goal
+use Rattle.resident_crew.proofs.phases.run_crew.Goals as goal
 
 pub returns-clause-ran : goal.returns-clause-ran
 returns-clause-ran g c =
@@ -13,4 +16,5 @@ returns-clause-ran g c =
     let ran = c.in_ok-jobs-2.ensures in
     let ks = c.in_ok-jobs-2.jobs.items in
     let has = subst (λ zs. HasRunJobs (shared_by_scan s) (record { jobs = zs; first = fs }) ks) c.in_ok-jobs.ensures (has-run s fs c.in_ok-jobs.jobs.items ks ran.ran ran.ready ran.turns) in
-    subst (HasRunJobs (shared_by_scan s) (record { jobs = js; first = fs })) (sym c.in_ok-jobs-3.ensures) has
+    let load : Workload ScanState = record { jobs = js; first = fs } in
+    IfOk-weaker c.unwrap.result (λ out. out.items ≡ ks) (λ out. HasRunJobs (shared_by_scan s) load out.items) (λ out is. subst (HasRunJobs (shared_by_scan s) load) (sym is) has) c.unwrap.ensures
