@@ -58,7 +58,7 @@ def main(words: Optional[List[str]] = None) -> int:
                 return growth.main(_dumps(asked, folder))
             dump, trace = os.path.join(folder, "heap.hprof"), os.path.join(folder, "heap.jsonl")
             _dump(asked, dump)
-            return hprof_to_trace([dump, trace, *others]) or view.main([trace, *_view_words(asked)])
+            return hprof_to_trace([dump, trace, *others, *_large(asked)]) or view.main([trace, *_view_words(asked)])
 
     return command_line.run(PROGRAM, work)
 
@@ -68,10 +68,10 @@ def _need_question(asked: argparse.Namespace, others: List[str]) -> None:
     if asked.growth is not None:
         if asked.growth < 2:
             raise TraceError("--growth compares 2 heaps or more")
-        if others:
-            raise TraceError("--growth takes no %s" % others[0])
+        for word in (*others, *_large(asked)):
+            raise TraceError("--growth takes no %s" % word)
         return
-    words = parser_for(PROGRAM, "").parse_args(["dump", "trace", *others])
+    words = parser_for(PROGRAM, "").parse_args(["dump", "trace", *others, *_large(asked)])
     if words.snapshot:
         raise TraceError("a snapshot can't be audited; hprof_to_trace makes one of a dump")
     if not any(getattr(words, name) for name in _ASSERTING):
@@ -121,8 +121,13 @@ def _dumps(asked: argparse.Namespace, folder: str) -> List[str]:
     return dumps
 
 
+def _large(asked: argparse.Namespace) -> List[str]:
+    """The word for a large heap, which the converter and gcaudit both need."""
+    return ["--large"] if asked.large else []
+
+
 def _view_words(asked: argparse.Namespace) -> List[str]:
-    found = []
+    found = _large(asked)
     for name in ("html", "junit", "sarif", "gcaudit", "workers", "paths", "react"):
         if getattr(asked, name) is not None:
             found += ["--" + name, getattr(asked, name)]

@@ -19,7 +19,7 @@ def built(name):
     return os.environ.get(name.upper()) or (found if os.access(found, os.X_OK) else None)
 
 
-PROGRAM, SNAPSHOTS = built("gcaudit"), built("gcsnap")
+PROGRAM, LARGE, SNAPSHOTS = built("gcaudit"), built("gcheap"), built("gcsnap")
 needs_program = unittest.skipIf(PROGRAM is None, "gcaudit is not built")
 needs_snapshots = unittest.skipIf(PROGRAM is None or SNAPSHOTS is None, "gcaudit or gcsnap is not built")
 

@@ -20,6 +20,7 @@ from tests.support import PROGRAM, PROGRAMS, RECORDERS, SNAPSHOTS, InFolder, eve
 
 from gcaudit_trace import audit
 from gcaudit_trace.progress import Progress
+from gcaudit_trace.traces import limits
 from heapsnapshot_to_trace.__main__ import main as heapsnapshot_to_trace
 from hprof_to_trace.__main__ import main as hprof_to_trace
 from hprof_to_trace.convert import Heap
@@ -301,16 +302,16 @@ class Java(DumpTests, InFolder):
         os.unlink(dump)
 
     def test_more_objects_than_gcaudit_takes(self):
-        from gcaudit_trace.dumps import options
-
-        self.addCleanup(setattr, options, "MOST_OBJECTS", options.MOST_OBJECTS)
-        options.MOST_OBJECTS = 1000
+        self.addCleanup(setattr, limits, "MOST_OBJECTS", limits.MOST_OBJECTS)
+        limits.MOST_OBJECTS = 1000
         status, said = run(hprof_to_trace, self.leak, self.path("none.jsonl"))
         self.assertEqual(status, 2)
         self.assertRegex(
             said,
-            r"\d+ objects would be kept, and gcaudit takes 1000; leave some out .* Most are of: java\.lang\.String \d+",
+            r"\d+ objects would be kept, and gcaudit takes 1000; leave some out by --only or --without; --large writes a trace "
+            r"for gcaudit --large, which takes more\. Most are of: java\.lang\.String \d+",
         )
+        self.assertEqual(run(hprof_to_trace, self.leak, self.path("large.jsonl"), "--large")[0], 0)
 
 
 @needs_commands("node")

@@ -2,6 +2,7 @@
 import hashlib
 import json
 import os
+import re
 import subprocess
 import sys
 import unittest
@@ -28,6 +29,10 @@ OF_SNAPSHOT = (
     'heapsnap 1\nobject 1 2 A\\"]\nslot 0 2\nobject 2 1 %s~%s\nslot 0 3\nobject 3 0 é\u2028\U0001f600\\x0a\nroot 1 A\\"]\nend\n'
     % (LONG[:247], hashlib.sha256(LONG.encode()).hexdigest()[:8])
 )
+
+# What is said of a heap of three objects where there is room for two, and of one for which there is room in gcheap.
+OBJECTS_KEPT = "3 objects would be kept, and %s takes 2; leave some out by --only or --without"
+ADVICE = "; --large writes a trace for gcaudit --large, which takes more"
 
 
 class Snapshots(InFolder):
@@ -78,20 +83,72 @@ class Texts(Snapshots):
 
     def test_limits_are_those_of_a_trace(self):
         """What is refused as a trace is refused as a snapshot, by the same sentence, with the same status, and no file is left."""
-        for name, most, what in (
-            ("MOST_TYPES", 2, "2 types"),
-            ("MOST_OBJECTS", 2, "2 live objects"),
-            ("MOST_SLOTS", 2, "2 live slots"),
-            ("MOST_ROOTS", 0, "0 roots"),
+        for name, most, why in (
+            ("MOST_TYPES", 2, "the %s would have more than 2 types, which gcaudit doesn't take"),
+            ("MOST_OBJECTS", 2, OBJECTS_KEPT % "gcaudit"),
+            ("MOST_SLOTS", 2, "the %s would have more than 2 live slots, which gcaudit doesn't take"),
+            ("MOST_ROOTS", 0, "the %s would have more than 0 roots, which gcaudit doesn't take"),
         ):
-            said = []
-            for words in ([], ["--snapshot"]):
+            for words, kind in (([], "trace"), (["--snapshot"], "snapshot")):
                 self.write_dump(heapsnapshot_to_trace)
                 with mock.patch.object(limits, name, most):
-                    said.append(run(heapsnapshot_to_trace, self.path("dump"), self.path("none"), *words))
-                self.assertEqual(os.listdir(self.folder), ["dump"])
-            want = "heapsnapshot_to_trace: the %%s would have more than %s, which gcaudit doesn't take\n" % what
-            self.assertEqual(said, [(2, want % "trace"), (2, want % "snapshot")])
+                    status, said = run(heapsnapshot_to_trace, self.path("dump"), self.path("none"), *words)
+                self.assertEqual((status, os.listdir(self.folder)), (2, ["dump"]))
+                advice = "" if name == "MOST_TYPES" or words else ADVICE
+                want = "heapsnapshot_to_trace: " + why.replace("%s", kind) + advice
+                self.assertEqual(said.split(". Most are of: ")[0].rstrip("\n"), want)
+
+    def test_a_large_trace(self):
+        """With --large a trace has what gcheap takes, and no more."""
+        for name, large, most, why in (
+            ("MOST_OBJECTS", "LARGE_OBJECTS", 3, OBJECTS_KEPT % "gcheap"),
+            ("MOST_SLOTS", "LARGE_SLOTS", 3, "the trace would have more than 2 live slots, which gcheap doesn't take"),
+            ("MOST_ROOTS", "LARGE_ROOTS", 1, "the trace would have more than 0 roots, which gcheap doesn't take"),
+        ):
+            self.write_dump(heapsnapshot_to_trace)
+            self.assertEqual(run(heapsnapshot_to_trace, self.path("dump"), self.path("usual"))[0], 0)
+            with mock.patch.object(limits, name, most - 1):
+                self.assertEqual(run(heapsnapshot_to_trace, self.path("dump"), self.path("large"), "--large")[0], 0)
+                with mock.patch.object(limits, large, most):
+                    self.assertEqual(run(heapsnapshot_to_trace, self.path("dump"), self.path("large"), "--large")[0], 0)
+                with mock.patch.object(limits, large, most - 1):
+                    status, said = run(heapsnapshot_to_trace, self.path("dump"), self.path("none"), "--large")
+            self.assertEqual(status, 2)
+            self.assertEqual(said.split(". Most are of: ")[0].rstrip("\n"), "heapsnapshot_to_trace: " + why)
+            with open(self.path("usual")) as usual, open(self.path("large")) as file:
+                self.assertEqual(usual.read(), file.read())
+            for made in ("usual", "large"):
+                os.unlink(self.path(made))
+            self.assertEqual(os.listdir(self.folder), ["dump"])
+
+    def test_each_reader_of_dumps_says_who_takes_more(self):
+        """Where a class or two can be left out, the classes with most objects are named too."""
+        for convert in (hprof_to_trace, heapsnapshot_to_trace):
+            words = self.write_dump(convert)
+            with mock.patch.object(limits, "MOST_OBJECTS", 0):
+                status, said = run(convert, self.path("dump"), self.path("none"), *words)
+                self.assertEqual(status, 2)
+                self.assertIn(" takes 0; leave some out by --only or --without%s. Most are of: " % ADVICE, said)
+                self.assertEqual(run(convert, self.path("dump"), self.path("large"), "--large", *words)[0], 0)
+            os.unlink(self.path("large"))
+
+    def test_a_snapshot_is_never_large(self):
+        for convert in (hprof_to_trace, heapsnapshot_to_trace):
+            words = self.write_dump(convert)
+            status, said = run(convert, self.path("dump"), self.path("none"), "--snapshot", "--large", *words)
+            self.assertEqual((status, os.listdir(self.folder)), (2, ["dump"]))
+            self.assertRegex(said, r"^\w+: gcsnap takes no more than gcaudit; --large is for traces\n$")
+
+    def test_the_limits_are_those_of_the_programs(self):
+        """docs/TRACES.md has them too."""
+        with open(os.path.join(os.path.dirname(RECORDERS), "docs", "TRACES.md"), encoding="utf-8") as page:
+            rows = dict(re.findall(r"(?m)^\| ([a-z ]+) \| ([\d,]+ \| [\d,]+) \|$", page.read()))
+        for what, usual, large in (
+            ("live objects", limits.MOST_OBJECTS, limits.LARGE_OBJECTS),
+            ("slots of all live objects", limits.MOST_SLOTS, limits.LARGE_SLOTS),
+            ("roots at one time", limits.MOST_ROOTS, limits.LARGE_ROOTS),
+        ):
+            self.assertEqual(rows[what], "{:,} | {:,}".format(usual, large))
 
     def test_at_its_limits(self):
         for name, most in (

@@ -136,6 +136,11 @@ def add_gcaudit(parser: argparse.ArgumentParser, paths: int = 100) -> None:
         "--gcaudit", metavar="PROGRAM", help="the program gcaudit (default: the variable GCAUDIT, then the PATH)"
     )
     parser.add_argument(
+        "--large",
+        action="store_true",
+        help="run gcheap, which takes larger heaps, in place of gcaudit; --gcaudit and the variable GCHEAP say where it is",
+    )
+    parser.add_argument(
         "--workers", metavar="N", help="how many workers trace the heap, 1 to 16; the report is the same"
     )
     parser.add_argument(
@@ -159,7 +164,7 @@ def add_gcaudit(parser: argparse.ArgumentParser, paths: int = 100) -> None:
 
 def audited(trace: str, asked: argparse.Namespace, progress: Progress) -> Audit:
     """What gcaudit says of a trace by these words. A trace of which it can say nothing but that all is well is refused."""
-    done = audit(trace, asked.gcaudit, gcaudit_options(asked), progress)
+    done = audit(trace, asked.gcaudit, gcaudit_options(asked), progress, asked.large)
     if not done.verdicts and not asked.may_be_empty:
         need_assertions(trace, shown_name(asked.trace))
     return done

@@ -136,10 +136,10 @@ def _natural(path: str) -> List[Tuple[str, int]]:
 
 def _tasks(sources: Sequence[Source], asked: argparse.Namespace) -> List[Task]:
     """What is to be done for each heap; what is wrong with the command line is said before."""
-    wishes = argparse.Namespace(**{name: getattr(asked, name) for name in _OF_DUMPS + ("may_be_missing",)})
+    wishes = argparse.Namespace(**{name: getattr(asked, name) for name in _OF_DUMPS + ("may_be_missing", "large")})
     Wishes(argparse.Namespace(snapshot=False, **vars(wishes)))
     options = tuple(command_line.gcaudit_options(asked))
-    program = asked.gcaudit if asked.dask else find_program(asked.gcaudit)
+    program = asked.gcaudit if asked.dask else find_program(asked.gcaudit, asked.large)
     return [
         Task(
             place,

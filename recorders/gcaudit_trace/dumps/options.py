@@ -5,9 +5,10 @@ from typing import Dict, List, Set, Tuple
 
 from ..commands import command_line
 from ..errors import TraceError
-from ..traces.limits import MOST_INSTANCES, MOST_OBJECTS
+from ..traces.limits import MOST_INSTANCES, large_room, usual_room
 
 SHOWN_CLASSES = 8
+ADVICE = "; --large writes a trace for gcaudit --large, which takes more"
 PLUS = "+"  # behind the name of a class: its subclasses are meant too
 
 
@@ -23,6 +24,11 @@ def parser_for(program: str, about: str) -> argparse.ArgumentParser:
         action="store_true",
         help="write a heap snapshot instead of a trace; gcsnap to-trace makes a trace from it at any time, "
         "to which you can add assertions. The snapshot has none itself",
+    )
+    parser.add_argument(
+        "--large",
+        action="store_true",
+        help="write a trace for gcaudit --large, which takes up to 134217728 objects in place of 1048576, and more slots and roots",
     )
     add_wishes(parser)
     command_line.add_version(parser)
@@ -80,8 +86,12 @@ class Wishes:
     """What is written, what is asserted and what is kept, by the names of classes."""
 
     def __init__(self, asked: argparse.Namespace, limited: bool = True) -> None:
-        self.limited = limited  # no more is kept than gcaudit takes
+        self.limited = limited  # no more is kept than there is room for
         self.kind = kind_of(asked)
+        # What the program that reads the file takes.
+        self.room = large_room() if asked.large else usual_room("" if asked.snapshot else ADVICE)
+        if asked.large and asked.snapshot:
+            raise TraceError("gcsnap takes no more than gcaudit; --large is for traces")
         self._only = tuple(asked.only)
         self._without = tuple(asked.without)
         self.may_be_missing = asked.may_be_missing
@@ -144,11 +154,11 @@ class Wishes:
         return {one: count for one, count in self.counts.items() if count and name in self.superclasses.get(one, ())}
 
     def need_room(self, kept: int, counts: Dict[str, int]) -> None:
-        """Refuses more objects than gcaudit takes, and says which classes have most of them."""
-        if kept > MOST_OBJECTS and self.limited:
+        """Refuses more objects than there is room for, and says which classes have most of them."""
+        if kept > self.room.objects and self.limited:
             raise TraceError(
-                "%d objects would be kept, and gcaudit takes %d; leave some out by --only or --without. Most are of: %s"
-                % (kept, MOST_OBJECTS, most_of(counts))
+                "%d objects would be kept, and %s takes %d; leave some out by --only or --without%s. Most are of: %s"
+                % (kept, self.room.program, self.room.objects, self.room.advice, most_of(counts))
             )
 
     def need_known(self, known: Set[str]) -> None:

@@ -98,7 +98,7 @@ class DumpTrace(DumpFile):
             self._whole.give_up()
             raise self._whole.failed(error) from None
         self._stores = Batch(self._waiting.write)
-        self.trace = TraceWriter(self._lines.add, wishes.limited)
+        self.trace = TraceWriter(self._lines.add, wishes.limited, wishes.room)
         self._contents = TraceWriter(self._stores.add)
         self._wishes = wishes
         self._of_class: Dict[str, List[int]] = {name: [] for name in wishes.named}

@@ -12,6 +12,7 @@ from .report import Verdict, read_report
 
 _PASSED = {0: "no assertion was violated", 1: "some assertion was violated"}
 _LAST_LINES = ("end gcs ", "halt gc ")
+_TOO_LARGE = ("TooManyObjects", "TooManySlots", "TooManyRoots")
 _READ_AT_A_TIME = 1 << 20
 _LONGEST_OP = (
     64  # bytes of an operation's name with its key, which may stand at the end of one piece and the start of the next
@@ -34,31 +35,42 @@ class Audit(NamedTuple):
     errors: str
 
 
-def find_program(program: Optional[str] = None) -> str:
-    """Where gcaudit is: the argument, the variable GCAUDIT, this package, the PATH, or the script of the repository."""
-    asked = program or os.environ.get("GCAUDIT")
+def find_program(program: Optional[str] = None, large: bool = False) -> str:
+    """Where gcaudit is: the argument, the variable GCAUDIT, this package, the PATH, or the script of the repository.
+
+    For `large` heaps that is gcheap, and the variable GCHEAP.
+    """
+    name = "gcheap" if large else "gcaudit"
+    asked = program or os.environ.get(name.upper())
     if asked:
         found = shutil.which(asked)
         if found is None:
             raise TraceError("there is no program %s" % asked)
         return found
-    found = find_bundled("gcaudit") or shutil.which("gcaudit")
+    found = find_bundled(name) or shutil.which(name)
     if found is not None:
         return found
     top = os.path.abspath(__file__)
     for _ in range(4):  # reports, gcaudit_trace, recorders, and the top
         top = os.path.dirname(top)
-    script = os.path.join(top, "gcaudit")
+    script = os.path.join(top, name)
     if os.path.isfile(os.path.join(top, "crates.txt")) and os.access(script, os.X_OK):
         return script
-    raise TraceError("gcaudit was not found: put it on the PATH, or its place into the variable GCAUDIT")
+    raise TraceError("%s was not found: put it on the PATH, or its place into the variable %s" % (name, name.upper()))
 
 
 def audit(
-    trace: str, program: Optional[str] = None, options: Iterable[str] = (), progress: Optional[Progress] = None
+    trace: str,
+    program: Optional[str] = None,
+    options: Iterable[str] = (),
+    progress: Optional[Progress] = None,
+    large: bool = False,
 ) -> Audit:
-    """Runs gcaudit on a trace, with further words of its command line. Where it could not read the trace to its end, that is a TraceError."""
-    found = find_program(program)
+    """Runs gcaudit on a trace, with further words of its command line; for `large` heaps that is gcheap.
+
+    Where it could not read the trace to its end, that is a TraceError.
+    """
+    found = find_program(program, large)
     said = progress or Progress("gcaudit", 2.0)
     try:
         lines = open(trace, "rb")
@@ -80,6 +92,8 @@ def audit(
     last = report.rstrip("\n").split("\n")[-1]
     if process.returncode not in _PASSED or not last.startswith(_LAST_LINES):
         why = (last if last.startswith("fault ") else "") or errors.strip().split("\n")[-1] or "no report"
+        if why.endswith(_TOO_LARGE) and not large:
+            why += "; --large audits larger heaps"
         raise TraceError("gcaudit did not read %s to its end (status %d): %s" % (trace, process.returncode, why))
     named = read_report(report, trace, lambda done: said.at("naming the slots", done, size))
     return Audit(report, named.named, named.verdicts, process.returncode, errors)

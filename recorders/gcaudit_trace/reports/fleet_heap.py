@@ -22,7 +22,7 @@ class Task(NamedTuple):
     place: int  # in the fleet
     path: str
     shown: str  # the path as it is told
-    wishes: argparse.Namespace  # what is asserted of dumps, and kept of them
+    wishes: argparse.Namespace  # what is asserted of dumps, and kept of them; whether heaps are large
     program: Optional[str]
     options: Tuple[str, ...]  # for gcaudit
     may_be_empty: bool
@@ -79,7 +79,7 @@ def _as_trace(task: Task) -> Iterator[Tuple[str, bool]]:
 
 def _audited(task: Task, trace: str, is_dump: bool) -> Part:
     try:
-        done = audit(trace, task.program, task.options, _Silence(""))
+        done = audit(trace, task.program, task.options, _Silence(""), task.wishes.large)
         if not done.verdicts and not task.may_be_empty:
             need_assertions(trace, task.path)
         return part_of_view(task.place, view_of(done, trace, task.path), is_dump)

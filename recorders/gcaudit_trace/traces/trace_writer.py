@@ -2,20 +2,20 @@
 import json
 from typing import Any, Callable, Dict, Iterable, Optional, Set, Tuple
 
-from .limits import Counted
+from .limits import Counted, Room
 
 # The types and roots that a trace has, its last id, its objects and slots, and whether it asserts something.
 State = Tuple[Set[str], Set[str], int, int, int, bool]
 
 
 class TraceWriter(Counted):
-    """Writes the operations of a trace with `write`, and refuses what gcaudit would refuse by its limits.
+    """Writes the operations of a trace with `write`, and refuses what gcaudit, or a program with other `room`, would refuse by its limits.
 
     Names must be legal (see names.py). What is freed by a collection is told by `freed`.
     """
 
-    def __init__(self, write: Callable[[str], Any], limited: bool = True) -> None:
-        super().__init__("trace", limited)
+    def __init__(self, write: Callable[[str], Any], limited: bool = True, room: Optional[Room] = None) -> None:
+        super().__init__("trace", limited, room)
         self._write = write
         self._quoted: Dict[str, str] = {}
         self.asserts = False  # whether anything is asserted in the trace so far
