@@ -12,7 +12,8 @@ of bench/random_traces.py takes the operations. The whole report and the status 
 --first SEED      from this seed on (1)
 --workers N ..    each trace with each of these numbers of workers (1)
 --processes N     how many run at a time (one for each processor)
---program FILE    this program instead of the one that ./build built; --first-argument comes before its other arguments
+--program FILE    this program instead of the one that ./build built; --first-argument comes before its other arguments. `plain_rust` is the program of
+                  bench/plain_rust, which must say the same
 --show SEED       writes the trace of this seed and compares nothing
 gcaudit must be built, and cargo must be able to build bench/plain_rust. Nothing here is part of the gate.
 """
@@ -582,8 +583,11 @@ def main():
     if options.show is not None:
         sys.stdout.buffer.write(random_trace(options.show))
         return
+    plain_rust = need_plain_rust()
+    if options.program == "plain_rust":
+        options.program = plain_rust
     need_programs(options.program)
-    plain = os.path.join(os.path.dirname(need_plain_rust("nearest_float")), "plain_lines")
+    plain = os.path.join(os.path.dirname(plain_rust), "plain_lines")
     command = [options.program] if options.first_argument is None else [options.program, options.first_argument]
     past = options.first + options.count
     batches = [Work(first, min(BATCH, past - first), command, plain, options.workers) for first in range(options.first, past, BATCH)]

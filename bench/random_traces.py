@@ -4,8 +4,7 @@
 Usage: bench/random_traces.py [tests_programs|gcminor|gccheck|plain_rust] [COUNT] [FIRST_SEED]     (1,000 traces from seed 1 by default)
 With tests_programs it compares the auditor for which further workers cost nothing, instead of gcaudit. With gcminor it compares that
 program, on traces of what it takes. With gccheck it has that program check the reports of gcaudit, with one
-number of workers each, and once more with a byte changed, whose place must be named. With plain_rust it compares the program of bench/plain_rust, on
-traces without a refused line.
+number of workers each, and once more with a byte changed, whose place must be named. With plain_rust it compares the program of bench/plain_rust.
 Each trace is made from its seed alone, so a seed that is printed can be run again. It has about a hundred operations of
 all kinds and several collections. `report_of` below follows docs/DEFINITIONS.md and the specs it names, with sets and
 ids, and with no care for speed. Of three traces one is audited with each reaction, and of five one with few paths. The program
@@ -523,21 +522,18 @@ def check_main(count, first):
 
 
 def plain_main(count, first):
-    """Compares the plain Rust program, which says less of a refused line, on the other traces: read by derive and by `Value`, and by three workers."""
-    program, wrong, compared, seed = need_plain_rust(), 0, 0, first
-    while compared < count:
+    """Compares the plain Rust program: read in one pass and by `Value`, by three workers, and with larger limits."""
+    program, wrong = need_plain_rust(), 0
+    for seed in range(first, first + count):
         events, paths = random_trace(seed), PATHS if seed % 5 else seed % 7
         lines, status = report_of(events, paths)
-        if status != 2:
-            compared += 1
-            trace = as_lines(events)
-            for words in ((), ("--value",), ("--workers", "3")):
-                run = subprocess.run([program, "--paths", str(paths), *words], input=trace, capture_output=True, timeout=120)
-                if (run.stdout, run.returncode) != (("\n".join(lines) + "\n").encode(), status):
-                    wrong += 1
-                    print(f"seed {seed} {' '.join(words)}: status {run.returncode}, not {status}\n  got  {run.stdout.decode().splitlines()}\n  want {lines}")
-        seed += 1
-    print(f"{count} traces of plain_rust, in three ways each, from seed {first}: {wrong} wrong")
+        trace = as_lines(events)
+        for words in ((), ("--value",), ("--workers", "3"), ("--large",)):
+            run = subprocess.run([program, "--paths", str(paths), *words], input=trace, capture_output=True, timeout=120)
+            if (run.stdout, run.returncode) != (("\n".join(lines) + "\n").encode(), status):
+                wrong += 1
+                print(f"seed {seed} {' '.join(words)}: status {run.returncode}, not {status}\n  got  {run.stdout.decode().splitlines()}\n  want {lines}")
+    print(f"{count} traces of plain_rust, in four ways each, from seed {first}: {wrong} wrong")
     sys.exit(1 if wrong else 0)
 
 

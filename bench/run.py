@@ -225,20 +225,18 @@ def timed_at_once(command, path, copies):
     return runs[0]._replace(status=max(run.status for run in runs), **times)
 
 
-def build_plain_rust(feature=None):
-    """The plain Rust program, and nothing; or nothing, and why it can't be built. With a feature it stands in a folder of that name."""
+def build_plain_rust():
+    """The plain Rust program, and nothing; or nothing, and why it can't be built. The other programs of its folder stand beside it."""
     if shutil.which("cargo") is None:
         return None, "there is no cargo"
-    target = os.path.join("target", feature) if feature else "target"
-    command = ["cargo", "build", "--release", "--quiet", "--target-dir", target]
-    command += ["--features", feature] if feature else []
+    command = ["cargo", "build", "--release", "--quiet", "--target-dir", "target"]
     if os.path.isdir(DEBIAN_SOURCES):
         command += ["--offline", "--config", 'source.crates-io.replace-with="debian"']
         command += ["--config", f'source.debian.directory="{DEBIAN_SOURCES}"']
     built = subprocess.run(command, cwd=PLAIN_RUST, stdout=subprocess.DEVNULL, stderr=subprocess.PIPE, text=True)
     if built.returncode != 0:
         return None, f"cargo can't build it ({(built.stderr.strip().splitlines() or ['it says nothing'])[0]})"
-    return os.path.join(PLAIN_RUST, target, "release", "plain_rust"), None
+    return os.path.join(PLAIN_RUST, "target", "release", "plain_rust"), None
 
 
 def plain_rust():
@@ -246,9 +244,9 @@ def plain_rust():
     return build_plain_rust()[0]
 
 
-def need_plain_rust(feature=None):
+def need_plain_rust():
     """The same, and it ends the script with a sentence where it can't be built."""
-    built, why = build_plain_rust(feature)
+    built, why = build_plain_rust()
     if built is None:
         sys.exit(f"bench/plain_rust is not there: {why}")
     return built

@@ -1,8 +1,10 @@
 //! A collection: the heap is traced, the five assertions are checked, and what was not reached is freed.
 use crate::heap::Heap;
-use crate::reading::Operation;
+use crate::limits::Limits;
+use crate::reading::{Operation, Refusal};
+use crate::report::Report;
 use crate::shown_paths::ShownPaths;
-use crate::trace::{trace, Trace};
+use crate::trace::trace;
 use crate::verdicts::{self, Verdict};
 use std::io::{self, Write};
 
@@ -15,49 +17,48 @@ pub struct Auditor {
 }
 
 impl Auditor {
-    pub fn new(workers: usize, paths: usize) -> Auditor {
-        Auditor { heap: Heap::default(), workers, paths, collections: 0, violations: 0 }
+    pub fn new(workers: usize, paths: usize, limits: Limits) -> Auditor {
+        Auditor { heap: Heap::new(limits), workers, paths, collections: 0, violations: 0 }
     }
 
-    /// Applies an operation, and answers whether it was taken.
-    pub fn apply(&mut self, operation: &Operation, out: &mut impl Write) -> io::Result<bool> {
+    /// Applies an operation, or says why it is refused.
+    #[inline]
+    pub fn apply(&mut self, operation: &Operation, out: &mut Report<impl Write>) -> io::Result<Result<(), Refusal>> {
         if let Operation::Collect = operation {
             self.collect(out)?;
-            return Ok(true);
+            return Ok(Ok(()));
         }
-        Ok(self.heap.step(operation).is_some())
+        Ok(self.heap.step(operation))
     }
 
-    fn collect(&mut self, out: &mut impl Write) -> io::Result<()> {
+    fn collect(&mut self, out: &mut Report<impl Write>) -> io::Result<()> {
         let traced = trace(&self.heap, self.workers);
-        let verdicts = verdicts::list(&self.heap, &traced);
+        let verdicts = verdicts::list(&self.heap);
         self.collections += 1;
-        let live = self.heap.by_id.len();
-        writeln!(out, "gc {} live {live} traced {} freed {}", self.collections, traced.traced, live - traced.traced as usize)?;
-        self.write_verdicts(&traced, &verdicts, out)?;
+        let live = self.heap.live();
+        out.text("gc ").number(self.collections).text(" live ").number(u64::from(live)).text(" traced ").number(u64::from(traced));
+        out.text(" freed ").number(u64::from(live - traced)).end_line()?;
+        self.write_verdicts(&verdicts, out)?;
         self.violations += verdicts.len() as u64;
-        self.heap.sweep(|cell| traced.is_kept(cell));
-        out.flush()
-    }
-
-    fn write_verdicts(&self, traced: &Trace, verdicts: &[Verdict], out: &mut impl Write) -> io::Result<()> {
-        let (shown, others) = verdicts.split_at(verdicts.len().min(self.paths));
-        let paths = ShownPaths::find(&self.heap, traced, shown);
-        for verdict in shown {
-            self.write_head(traced, verdict, out)?;
-            paths.write(verdict, out)?;
-            writeln!(out)?;
-        }
-        for verdict in others {
-            self.write_head(traced, verdict, out)?;
-            writeln!(out, "path left out")?;
-        }
+        self.heap.sweep();
         Ok(())
     }
 
-    fn write_head(&self, traced: &Trace, verdict: &Verdict, out: &mut impl Write) -> io::Result<()> {
-        write!(out, "gc {} ", self.collections)?;
-        verdict.write_head(&self.heap, traced, out)?;
-        write!(out, ": ")
+    fn write_verdicts(&mut self, verdicts: &[Verdict], out: &mut Report<impl Write>) -> io::Result<()> {
+        let (shown, others) = verdicts.split_at(verdicts.len().min(self.paths));
+        let paths = ShownPaths::find(&mut self.heap, shown);
+        let heap = paths.heap();
+        for (number, verdict) in shown.iter().chain(others).enumerate() {
+            out.text("gc ").number(self.collections).text(" ");
+            verdict.write_head(heap, out);
+            out.text(": ");
+            if number < shown.len() {
+                paths.write(verdict, out);
+            } else {
+                out.text("path left out");
+            }
+            out.end_line()?;
+        }
+        Ok(())
     }
 }

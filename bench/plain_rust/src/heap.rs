@@ -1,233 +1,415 @@
 //! The heap of a trace: objects in cells that are used again, roots, types, and what is asserted.
-use crate::reading::Operation;
-use hashbrown::HashMap;
-use std::collections::BTreeMap;
+use crate::ids::Ids;
+use crate::limits::{Limits, MOST_REGIONS, MOST_THREADS};
+use crate::names::{Kinds, Roots};
+use crate::reading::{Operation, Refusal};
+use crate::slots::{edge, Slots, WEAK};
+use rustc_hash::FxHashMap;
+use std::sync::atomic::{AtomicU64, Ordering::Relaxed};
 
-/// A slot in four bytes: one more than the cell that it holds, or 0, and the highest bit where it is weak.
-const WEAK: u32 = 1 << 31;
-const MOST_REGIONS: usize = 64;
+const NO_CELL: u32 = u32::MAX;
 
-pub struct Object {
-    /// 0 where the cell is empty.
-    pub id: u32,
-    pub kind: u32,
-    pub slots: Box<[u32]>,
-    pub dead: bool,
-    pub unshared: bool,
+/// The bits of a header word: how often the object was met, its type, what is asserted of it, and what a collection finds.
+pub const COUNT: u64 = (1 << 32) - 1;
+const KIND: u32 = 32;
+pub const IS_LIVE: u64 = 1 << 48;
+pub const IS_DEAD: u64 = 1 << 49;
+pub const IS_UNSHARED: u64 = 1 << 50;
+pub const IS_OWNEE: u64 = 1 << 51;
+const HAS_WEAK: u64 = 1 << 52;
+/// What stays from one collection to the next.
+const STAYS: u64 = (1 << 53) - 1 - COUNT;
+pub const IS_OWNER: u64 = 1 << 53;
+pub const IS_UNDER: u64 = 1 << 54;
+pub const IS_MET_BY_ROOTS: u64 = 1 << 55;
+pub const IS_ASKED: u64 = 1 << 56;
+
+/// A cell. All that a trace looks at stands together, four cells in a line of the cache.
+#[repr(align(16))]
+pub struct Header {
+    pub word: AtomicU64,
+    /// Where its slots are; of an empty cell the next one.
+    begin: u32,
+    length: u32,
 }
 
-impl Object {
-    /// The slots that are edges, with the cells that they lead to.
-    pub fn edges(&self) -> impl Iterator<Item = (u32, u32)> + '_ {
-        self.slots.iter().enumerate().filter(|(_, word)| **word != 0 && **word < WEAK).map(|(slot, word)| (slot as u32, word - 1))
+impl Header {
+    #[inline]
+    pub fn word(&self) -> u64 {
+        self.word.load(Relaxed)
     }
+
+    /// Sets bits while no other thread is at the heap.
+    #[inline]
+    pub fn set(&self, bits: u64) {
+        self.word.store(self.word() | bits, Relaxed);
+    }
+
+    pub fn unset(&self, bits: u64) {
+        self.word.store(self.word() & !bits, Relaxed);
+    }
+
+    #[inline]
+    pub fn has(&self, bits: u64) -> bool {
+        self.word() & bits != 0
+    }
+
+    /// Whether it was met, so that it stays.
+    #[inline]
+    pub fn is_kept(&self) -> bool {
+        self.has(COUNT)
+    }
+
+    pub fn kind(&self) -> u32 {
+        (self.word() >> KIND) as u32 & 0xffff
+    }
+}
+
+pub struct Owner {
+    pub cell: u32,
+    pub id: u32,
 }
 
 /// The regions of a thread: where each begins in the list of what the thread allocated since the outermost began.
 #[derive(Default)]
 struct Regions {
     begins: Vec<usize>,
-    ids: Vec<u32>,
+    cells: Vec<u32>,
 }
 
-#[derive(Default)]
 pub struct Heap {
-    pub cells: Vec<Object>,
-    free: Vec<u32>,
-    pub by_id: HashMap<u32, u32>,
-    pub roots: BTreeMap<Box<str>, u32>,
-    kinds: HashMap<Box<str>, u32>,
-    pub kind_names: Vec<Box<str>>,
-    /// The limit of each type that has one, by its name.
-    pub limits: BTreeMap<Box<str>, (u32, u32)>,
-    /// The id of the owner of each ownee, by the ownee's id.
-    pub owners: BTreeMap<u32, u32>,
-    regions: HashMap<u32, Regions>,
+    limits: Limits,
+    pub headers: Vec<Header>,
+    /// The id of each cell, 0 where it is empty.
+    pub ids: Vec<u32>,
+    pub slots: Slots,
+    cells: Ids,
+    first_free: u32,
     greatest: u32,
+    live: u32,
+    all_slots: u32,
+    /// How many objects have had a weak slot.
+    weak: u32,
+    pub roots: Roots,
+    pub kinds: Kinds,
+    /// Whether some live object is asserted dead or unshared.
+    pub has_asserted: bool,
+    /// The types that have a limit, and the limit of each type, by its number.
+    pub limited: Vec<u32>,
+    pub instance_limits: Vec<Option<u32>>,
+    /// The owner of each ownee, by the ownee's cell.
+    pub owners: FxHashMap<u32, Owner>,
+    regions: Box<[Regions]>,
+    open_regions: u32,
 }
 
 impl Heap {
+    pub fn new(limits: Limits) -> Heap {
+        Heap {
+            limits,
+            headers: Vec::new(),
+            ids: Vec::new(),
+            slots: Slots::new(),
+            cells: Ids::new(),
+            first_free: NO_CELL,
+            greatest: 0,
+            live: 0,
+            all_slots: 0,
+            weak: 0,
+            roots: Roots::default(),
+            kinds: Kinds::default(),
+            has_asserted: false,
+            limited: Vec::new(),
+            instance_limits: Vec::new(),
+            owners: FxHashMap::default(),
+            regions: (0..MOST_THREADS).map(|_| Regions::default()).collect(),
+            open_regions: 0,
+        }
+    }
+
+    pub fn live(&self) -> u32 {
+        self.live
+    }
+
     pub fn id(&self, cell: u32) -> u32 {
-        self.cells[cell as usize].id
+        self.ids[cell as usize]
+    }
+
+    #[inline]
+    pub fn header(&self, cell: u32) -> &Header {
+        &self.headers[cell as usize]
     }
 
     /// The name of an object's type.
     pub fn name(&self, cell: u32) -> &str {
-        &self.kind_names[self.cells[cell as usize].kind as usize]
+        self.kinds.name(self.header(cell).kind())
     }
 
-    /// The cells of these objects, in the order of their ids.
-    pub fn in_order(&self, is_wanted: impl Fn(u32, &Object) -> bool) -> Vec<u32> {
-        let numbered = (0u32..).zip(&self.cells);
-        let mut cells: Vec<u32> =
-            numbered.filter(|(cell, object)| object.id != 0 && is_wanted(*cell, object)).map(|(cell, _)| cell).collect();
+    #[inline]
+    pub fn words(&self, cell: u32) -> &[u32] {
+        let header = self.header(cell);
+        &self.slots.words[header.begin as usize..][..header.length as usize]
+    }
+
+    /// The slots that are edges, with the cells that they lead to.
+    #[inline]
+    pub fn edges(&self, cell: u32) -> impl Iterator<Item = (u32, u32)> + '_ {
+        (0..).zip(self.words(cell)).filter_map(|(slot, word)| Some((slot, edge(*word)?)))
+    }
+
+    /// Whether an owner is still live: its cell may have another object.
+    pub fn is_live(&self, owner: &Owner) -> bool {
+        self.ids.get(owner.cell as usize) == Some(&owner.id)
+    }
+
+    /// Puts cells in the order of their ids.
+    pub fn sort(&self, cells: &mut Vec<u32>) {
         // (where no cell was used twice they are in order)
         if !cells.windows(2).all(|pair| self.id(pair[0]) < self.id(pair[1])) {
-            cells.sort_unstable_by_key(|cell| self.id(*cell));
+            let mut keyed: Vec<u64> = cells.iter().map(|cell| u64::from(self.id(*cell)) << 32 | u64::from(*cell)).collect();
+            keyed.sort_unstable();
+            cells.clear();
+            cells.extend(keyed.into_iter().map(|key| key as u32));
         }
-        cells
     }
 
-    fn kind_of(&mut self, name: &str) -> u32 {
-        if let Some(kind) = self.kinds.get(name) {
-            return *kind;
-        }
-        let kind = self.kind_names.len() as u32;
-        self.kinds.insert(name.into(), kind);
-        self.kind_names.push(name.into());
-        kind
+    #[inline]
+    fn cell(&self, id: u32) -> Result<u32, Refusal> {
+        self.cells.get(id).ok_or(Refusal::NotLive(id))
     }
 
-    pub fn cell(&self, id: u32) -> Option<u32> {
-        self.by_id.get(&id).copied()
+    fn kind_of(&mut self, name: &str) -> Result<u32, Refusal> {
+        self.kinds.number(name).ok_or(Refusal::TooManyTypes)
     }
 
-    fn alloc(&mut self, id: u32, kind: &str, slots: u32, thread: u32) -> Option<()> {
+    #[inline]
+    fn alloc(&mut self, id: u32, kind: &str, slots: u32, thread: u32) -> Result<(), Refusal> {
         if id <= self.greatest {
-            return None;
+            return Err(Refusal::IdNotRising(id));
         }
-        self.greatest = id;
-        let kind = self.kind_of(kind);
-        let object = Object { id, kind, slots: vec![0; slots as usize].into_boxed_slice(), dead: false, unshared: false };
-        let cell = match self.free.pop() {
-            Some(cell) => {
-                self.cells[cell as usize] = object;
-                cell
-            }
-            None => {
-                self.cells.push(object);
-                self.cells.len() as u32 - 1
-            }
+        if self.live == self.limits.objects {
+            return Err(Refusal::TooManyObjects);
+        }
+        if slots > self.limits.slots - self.all_slots {
+            return Err(Refusal::TooManySlots);
+        }
+        let kind = self.kind_of(kind)?;
+        let word = AtomicU64::new(IS_LIVE | u64::from(kind) << KIND);
+        let header = Header { word, begin: self.slots.take(slots), length: slots };
+        let cell = self.first_free;
+        let cell = if cell == NO_CELL {
+            self.headers.push(header);
+            self.ids.push(id);
+            self.ids.len() as u32 - 1
+        } else {
+            self.first_free = std::mem::replace(&mut self.headers[cell as usize], header).begin;
+            self.ids[cell as usize] = id;
+            cell
         };
-        self.by_id.insert(id, cell);
-        if let Some(regions) = self.regions.get_mut(&thread) {
-            regions.ids.push(id);
+        self.greatest = id;
+        self.live += 1;
+        self.all_slots += slots;
+        self.cells.insert(id, cell);
+        if self.open_regions > 0 {
+            let regions = &mut self.regions[thread as usize];
+            if !regions.begins.is_empty() {
+                regions.cells.push(cell);
+            }
         }
-        Some(())
+        Ok(())
     }
 
-    /// What a slot or a root holds for an id: one more than its cell, and 0 for none.
-    fn target(&self, to: Option<u32>) -> Option<u32> {
-        match to {
-            Some(id) => Some(self.cell(id)? + 1),
-            None => Some(0),
-        }
-    }
-
-    fn slot(&mut self, at: u32, slot: u32) -> Option<&mut u32> {
+    #[inline]
+    fn slot(&mut self, at: u32, slot: u32) -> Result<(u32, usize), Refusal> {
         let cell = self.cell(at)?;
-        self.cells[cell as usize].slots.get_mut(slot as usize)
-    }
-
-    fn store(&mut self, at: u32, slot: u32, to: Option<u32>) -> Option<()> {
-        let held = self.target(to)?;
-        let word = self.slot(at, slot)?;
-        *word = (*word & WEAK) | held;
-        Some(())
-    }
-
-    fn root(&mut self, name: &str, to: Option<u32>) -> Option<()> {
-        match self.target(to)? {
-            0 => {
-                self.roots.remove(name);
-            }
-            held => {
-                self.roots.insert(name.into(), held - 1);
-            }
+        let header = self.header(cell);
+        if slot >= header.length {
+            return Err(Refusal::BadSlot(slot));
         }
-        Some(())
+        Ok((cell, header.begin as usize + slot as usize))
     }
 
-    fn object(&mut self, id: u32) -> Option<&mut Object> {
+    #[inline]
+    fn store(&mut self, at: u32, slot: u32, to: Option<u32>) -> Result<(), Refusal> {
+        let (_, place) = self.slot(at, slot)?;
+        let held = match to {
+            Some(id) => self.cell(id)? + 1,
+            None => 0,
+        };
+        let word = &mut self.slots.words[place];
+        *word = (*word & WEAK) | held;
+        Ok(())
+    }
+
+    fn set_weak(&mut self, at: u32, slot: u32, weak: bool) -> Result<(), Refusal> {
+        let (cell, place) = self.slot(at, slot)?;
+        let word = &mut self.slots.words[place];
+        *word = if weak { *word | WEAK } else { *word & !WEAK };
+        let header = self.header(cell);
+        if weak && !header.has(HAS_WEAK) {
+            header.set(HAS_WEAK);
+            self.weak += 1;
+        }
+        Ok(())
+    }
+
+    fn root(&mut self, name: &str, to: Option<u32>) -> Result<(), Refusal> {
+        let Some(id) = to else {
+            self.roots.remove(name);
+            return Ok(());
+        };
         let cell = self.cell(id)?;
-        Some(&mut self.cells[cell as usize])
+        if !self.roots.set(name, cell) {
+            if self.roots.len() == self.limits.roots {
+                return Err(Refusal::TooManyRoots);
+            }
+            self.roots.add(name, cell);
+        }
+        Ok(())
     }
 
-    fn end_region(&mut self, thread: u32) -> Option<()> {
-        let regions = self.regions.get_mut(&thread)?;
-        let begin = regions.begins.pop()?;
+    fn assert(&mut self, id: u32, bits: u64) -> Result<(), Refusal> {
+        self.header(self.cell(id)?).set(bits);
+        self.has_asserted = true;
+        Ok(())
+    }
+
+    fn limit(&mut self, kind: &str, limit: u32) -> Result<(), Refusal> {
+        let kind = self.kind_of(kind)?;
+        if self.instance_limits.len() < self.kinds.len() {
+            self.instance_limits.resize(self.kinds.len(), None);
+        }
+        if self.instance_limits[kind as usize].replace(limit).is_none() {
+            self.limited.push(kind);
+        }
+        Ok(())
+    }
+
+    fn own(&mut self, owner: u32, ownee: u32) -> Result<(), Refusal> {
+        let cell = self.cell(owner)?;
+        let ownee_cell = self.cell(ownee)?;
+        if owner == ownee {
+            return Err(Refusal::SelfOwned(owner));
+        }
+        self.header(ownee_cell).set(IS_OWNEE);
+        self.owners.insert(ownee_cell, Owner { cell, id: owner });
+        Ok(())
+    }
+
+    fn start_region(&mut self, thread: u32) -> Result<(), Refusal> {
+        let regions = &mut self.regions[thread as usize];
+        if regions.begins.len() >= MOST_REGIONS {
+            return Err(Refusal::TooDeep(thread));
+        }
+        regions.begins.push(regions.cells.len());
+        self.open_regions += 1;
+        Ok(())
+    }
+
+    fn end_region(&mut self, thread: u32) -> Result<(), Refusal> {
+        let regions = &mut self.regions[thread as usize];
+        let begin = regions.begins.pop().ok_or(Refusal::NoRegion(thread))?;
         // What is asserted dead stays so: the regions around this one need not assert it again.
-        for id in regions.ids.drain(begin..) {
-            if let Some(cell) = self.by_id.get(&id) {
-                self.cells[*cell as usize].dead = true;
-            }
+        for cell in regions.cells.drain(begin..) {
+            self.headers[cell as usize].set(IS_DEAD);
+            self.has_asserted = true;
         }
         if regions.begins.is_empty() {
-            self.regions.remove(&thread);
+            regions.cells = Vec::new();
         }
-        Some(())
+        self.open_regions -= 1;
+        Ok(())
     }
 
-    fn start_region(&mut self, thread: u32) -> Option<()> {
-        let regions = self.regions.entry(thread).or_default();
-        if regions.begins.len() >= MOST_REGIONS {
-            return None;
-        }
-        regions.begins.push(regions.ids.len());
-        Some(())
-    }
-
-    /// Applies an operation that is no collection; none where it is refused.
-    pub fn step(&mut self, operation: &Operation) -> Option<()> {
+    /// Applies an operation that is no collection.
+    #[inline]
+    pub fn step(&mut self, operation: &Operation) -> Result<(), Refusal> {
         match operation {
             Operation::Alloc { id, kind, slots, thread } => self.alloc(*id, kind, *slots, *thread),
             Operation::Store { at, slot, to } => self.store(*at, *slot, *to),
-            Operation::SetWeak { at, slot, weak } => {
-                let word = self.slot(*at, *slot)?;
-                *word = if *weak { *word | WEAK } else { *word & !WEAK };
-                Some(())
-            }
+            Operation::SetWeak { at, slot, weak } => self.set_weak(*at, *slot, *weak),
             Operation::Root { name, to } => self.root(name, *to),
-            Operation::AssertDead { id } => {
-                self.object(*id)?.dead = true;
-                Some(())
-            }
-            Operation::AssertUnshared { id } => {
-                self.object(*id)?.unshared = true;
-                Some(())
-            }
-            Operation::AssertInstances { kind, limit } => {
-                let number = self.kind_of(kind);
-                self.limits.insert(self.kind_names[number as usize].clone(), (number, *limit));
-                Some(())
-            }
-            Operation::AssertOwnedBy { owner, ownee } => {
-                self.cell(*owner)?;
-                self.cell(*ownee)?;
-                if owner == ownee {
-                    return None;
-                }
-                self.owners.insert(*ownee, *owner);
-                Some(())
-            }
+            Operation::AssertDead { id } => self.assert(*id, IS_DEAD),
+            Operation::AssertUnshared { id } => self.assert(*id, IS_UNSHARED),
+            Operation::AssertInstances { kind, limit } => self.limit(kind, *limit),
+            Operation::AssertOwnedBy { owner, ownee } => self.own(*owner, *ownee),
             Operation::StartRegion { thread } => self.start_region(*thread),
             Operation::AssertAllDead { thread } => self.end_region(*thread),
-            Operation::Collect => Some(()),
+            Operation::Collect => Ok(()),
         }
     }
 
-    /// Frees each object whose cell is not kept. Empty cells behind the last object go.
-    pub fn sweep(&mut self, is_kept: impl Fn(u32) -> bool) {
-        for cell in 0..self.cells.len() as u32 {
-            let object = &mut self.cells[cell as usize];
-            if object.id == 0 {
+    /// Frees each object that was not met, and takes the marks off the others. Empty cells behind the last object go.
+    pub fn sweep(&mut self) {
+        self.forget_freed();
+        self.first_free = NO_CELL;
+        self.has_asserted = false;
+        let mut used = None;
+        // From the last cell to the first, so that the first empty one is used again first.
+        for cell in (0..self.headers.len()).rev() {
+            let header = &mut self.headers[cell];
+            let word = *header.word.get_mut();
+            if word & COUNT != 0 {
+                used.get_or_insert(cell + 1);
+                *header.word.get_mut() = word & STAYS;
+                self.has_asserted |= word & (IS_DEAD | IS_UNSHARED) != 0;
                 continue;
             }
-            if is_kept(cell) {
-                for word in object.slots.iter_mut() {
-                    if *word > WEAK && !is_kept((*word & !WEAK) - 1) {
+            if word & IS_LIVE != 0 {
+                self.live -= 1;
+                self.all_slots -= header.length;
+                self.weak -= u32::from(word & HAS_WEAK != 0);
+                self.slots.give(header.begin, header.length);
+                self.cells.remove(std::mem::take(&mut self.ids[cell]));
+            }
+            if used.is_some() {
+                *header = Header { word: AtomicU64::new(0), begin: self.first_free, length: 0 };
+                self.first_free = cell as u32;
+            }
+        }
+        self.headers.truncate(used.unwrap_or(0));
+        self.ids.truncate(used.unwrap_or(0));
+        if self.slots.are_sparse() {
+            self.slots.compact(self.headers.iter_mut().filter(|header| header.length > 0).map(|header| (&mut header.begin, header.length)));
+        }
+    }
+
+    /// Takes what is about to be freed out of weak slots, ownerships and regions.
+    fn forget_freed(&mut self) {
+        if self.weak > 0 {
+            for header in self.headers.iter().filter(|header| header.is_kept() && header.has(HAS_WEAK)) {
+                for word in &mut self.slots.words[header.begin as usize..][..header.length as usize] {
+                    if *word > WEAK && !self.headers[(*word & !WEAK) as usize - 1].is_kept() {
                         *word = WEAK;
                     }
                 }
-            } else {
-                self.by_id.remove(&object.id);
-                self.owners.remove(&object.id);
-                *object = Object { id: 0, kind: 0, slots: Box::default(), dead: false, unshared: false };
-                self.free.push(cell);
             }
         }
-        let used = self.cells.iter().rposition(|object| object.id != 0).map_or(0, |last| last + 1);
-        self.cells.truncate(used);
-        self.free.retain(|cell| (*cell as usize) < used);
+        let headers = &self.headers;
+        self.owners.retain(|ownee, _| headers[*ownee as usize].is_kept());
+        if self.open_regions > 0 {
+            for regions in self.regions.iter_mut().filter(|regions| !regions.cells.is_empty()) {
+                regions.retain(|cell| headers[cell as usize].is_kept());
+            }
+        }
+    }
+}
+
+impl Regions {
+    fn retain(&mut self, is_kept: impl Fn(u32) -> bool) {
+        let (mut kept, mut region) = (0, 0);
+        for place in 0..self.cells.len() {
+            while region < self.begins.len() && self.begins[region] <= place {
+                self.begins[region] = kept;
+                region += 1;
+            }
+            let cell = self.cells[place];
+            if is_kept(cell) {
+                self.cells[kept] = cell;
+                kept += 1;
+            }
+        }
+        self.begins[region..].fill(kept);
+        self.cells.truncate(kept);
     }
 }

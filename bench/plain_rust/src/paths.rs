@@ -1,14 +1,15 @@
 //! Shortest paths: levels from roots or from owners, each cell with the first edge that reached it.
-use crate::heap::Heap;
-use std::io::{self, Write};
+use crate::heap::{Heap, IS_ASKED};
+use crate::report::Report;
+use std::io::Write;
 
 /// So many steps of a long path are shown at either end.
 const SHOWN: u32 = 32;
-const NONE: u32 = u32::MAX;
 
+/// What reached a cell. (All numbers are 0 where nothing did, so that memory for all cells comes from the system as it is.)
 #[derive(Clone, Copy)]
 struct Reached {
-    /// The cell before it and the slot there; at the first level from the roots `NONE` and the number of the root.
+    /// One more than the cell before it, and the slot there; at the first level from the roots 0 and the number of the root.
     from: u32,
     slot: u32,
     /// The number of its level, 0 where it is on none.
@@ -17,61 +18,76 @@ struct Reached {
     begin: u32,
 }
 
-const UNREACHED: Reached = Reached { from: NONE, slot: 0, level: 0, begin: NONE };
-
 pub struct Levels {
-    reached: Vec<Reached>,
+    reached: Vec<[u32; 4]>,
     by_roots: bool,
 }
 
+/// Cells of a level with their ids, the ids in the higher half.
+type Level = Vec<u64>;
+
 impl Levels {
-    /// Levels up to that with the last of the asked cells; no path goes on from what is shut.
-    pub fn find(heap: &Heap, by_roots: bool, owners: &[u32], is_shut: impl Fn(u32) -> bool, asked: &[u32]) -> Levels {
-        let mut levels = Levels { reached: vec![UNREACHED; heap.cells.len()], by_roots };
-        let mut is_asked = vec![false; heap.cells.len()];
+    /// Levels up to that with the last of the asked cells; no path goes on from cells that have a mark of `shut`.
+    pub fn find(heap: &Heap, by_roots: bool, owners: &[u32], shut: u64, asked: &[u32]) -> Levels {
+        let mut levels = Levels { reached: vec![[0; 4]; heap.headers.len()], by_roots };
         let mut left = 0;
         for cell in asked {
-            left += u32::from(!std::mem::replace(&mut is_asked[*cell as usize], true));
+            left += u32::from(!heap.header(*cell).has(IS_ASKED));
+            heap.header(*cell).set(IS_ASKED);
         }
-        let mut now = Vec::new();
-        if by_roots {
-            for (number, cell) in heap.roots.values().enumerate() {
-                levels.reach(*cell, Reached { from: NONE, slot: number as u32, level: 1, begin: *cell }, &mut now);
-            }
-        } else {
-            for owner in owners {
-                for (slot, to) in heap.cells[*owner as usize].edges() {
-                    levels.reach(to, Reached { from: *owner, slot, level: 1, begin: to }, &mut now);
-                }
-            }
-        }
-        let mut level = 1;
+        let mut now = levels.first(heap, owners);
+        let (mut level, mut later) = (1, Vec::new());
         while !now.is_empty() {
-            left -= now.iter().filter(|cell| is_asked[**cell as usize]).count() as u32;
+            left -= now.iter().filter(|key| heap.header(**key as u32).has(IS_ASKED)).count() as u32;
             if left == 0 {
                 break;
             }
             level += 1;
-            now.sort_unstable_by_key(|cell| heap.cells[*cell as usize].id);
-            let mut later = Vec::new();
-            for cell in now.iter().filter(|cell| !is_shut(**cell)) {
-                let before = levels.reached[*cell as usize].begin;
-                for (slot, to) in heap.cells[*cell as usize].edges() {
+            if !now.windows(2).all(|pair| pair[0] < pair[1]) {
+                now.sort_unstable();
+            }
+            for cell in now.iter().map(|key| *key as u32).filter(|cell| !heap.header(*cell).has(shut)) {
+                let before = levels.at(cell).begin;
+                for (slot, to) in heap.edges(cell) {
                     let begin = if level <= levels.first_part() { to } else { before };
-                    levels.reach(to, Reached { from: *cell, slot, level, begin }, &mut later);
+                    levels.reach(heap, to, Reached { from: cell + 1, slot, level, begin }, &mut later);
                 }
             }
-            now = later;
+            std::mem::swap(&mut now, &mut later);
+            later.clear();
         }
+        asked.iter().for_each(|cell| heap.header(*cell).unset(IS_ASKED));
         levels
     }
 
-    fn reach(&mut self, cell: u32, by: Reached, level: &mut Vec<u32>) {
-        let reached = &mut self.reached[cell as usize];
-        if reached.level == 0 {
-            *reached = by;
-            level.push(cell);
+    fn first(&mut self, heap: &Heap, owners: &[u32]) -> Level {
+        let mut level = Vec::new();
+        if self.by_roots {
+            for (number, cell) in (0..).zip(heap.roots.cells()) {
+                self.reach(heap, cell, Reached { from: 0, slot: number, level: 1, begin: cell }, &mut level);
+            }
         }
+        for owner in owners {
+            for (slot, to) in heap.edges(*owner) {
+                self.reach(heap, to, Reached { from: *owner + 1, slot, level: 1, begin: to }, &mut level);
+            }
+        }
+        level
+    }
+
+    #[inline]
+    fn reach(&mut self, heap: &Heap, cell: u32, by: Reached, level: &mut Level) {
+        let reached = &mut self.reached[cell as usize];
+        if reached[2] == 0 {
+            *reached = [by.from, by.slot, by.level, by.begin];
+            level.push(u64::from(heap.id(cell)) << 32 | u64::from(cell));
+        }
+    }
+
+    #[inline]
+    fn at(&self, cell: u32) -> Reached {
+        let [from, slot, level, begin] = self.reached[cell as usize];
+        Reached { from, slot, level, begin }
     }
 
     /// How many levels the first part of a long path has: a root is shown with the object that it names.
@@ -80,53 +96,55 @@ impl Levels {
     }
 
     pub fn has(&self, cell: u32) -> bool {
-        self.reached[cell as usize].level > 0
+        self.at(cell).level > 0
     }
 
     /// So many of the cells on the way to a cell, the last ones, in order.
     fn last(&self, cell: u32, most: u32) -> Vec<u32> {
         let mut way = Vec::new();
         let mut at = cell;
-        for _ in 0..most.min(self.reached[cell as usize].level) {
+        for number in 0..most.min(self.at(cell).level) {
+            if number > 0 {
+                at = self.at(at).from - 1;
+            }
             way.push(at);
-            at = self.reached[at as usize].from;
         }
         way.reverse();
         way
     }
 
-    fn write_cells(&self, heap: &Heap, out: &mut impl Write, cells: &[u32]) -> io::Result<()> {
+    fn write_cells(&self, heap: &Heap, out: &mut Report<impl Write>, cells: &[u32]) {
         for cell in cells {
-            let reached = self.reached[*cell as usize];
-            let object = &heap.cells[*cell as usize];
-            let kind = &heap.kind_names[object.kind as usize];
-            if reached.from == NONE {
-                let name = heap.roots.keys().nth(reached.slot as usize).expect("a root of this number");
-                write!(out, "root {name} -> {} {kind}", object.id)?;
-                continue;
+            let reached = self.at(*cell);
+            if reached.from == 0 {
+                out.text("root ").text(heap.roots.name(reached.slot));
+            } else {
+                if reached.level == 1 {
+                    write_owner(heap, out, reached.from - 1);
+                }
+                out.text(" [").number(u64::from(reached.slot)).text("]");
             }
-            if reached.level == 1 {
-                write_owner(heap, out, reached.from)?;
-            }
-            write!(out, " [{}] -> {} {kind}", reached.slot, object.id)?;
+            write_arrow(heap, out, *cell);
         }
-        Ok(())
     }
 
     /// The path to a cell, shortened as one of `more` further steps, which the caller writes.
-    pub fn write(&self, heap: &Heap, out: &mut impl Write, cell: u32, more: u32) -> io::Result<()> {
-        let reached = self.reached[cell as usize];
+    pub fn write(&self, heap: &Heap, out: &mut Report<impl Write>, cell: u32, more: u32) {
+        let reached = self.at(cell);
         let steps = reached.level + more - u32::from(self.by_roots);
         if steps <= 2 * SHOWN {
             return self.write_cells(heap, out, &self.last(cell, reached.level));
         }
-        self.write_cells(heap, out, &self.last(reached.begin, self.first_part()))?;
-        write!(out, " ... {} steps ...", steps - 2 * SHOWN)?;
-        self.write_cells(heap, out, &self.last(cell, SHOWN - more))
+        self.write_cells(heap, out, &self.last(reached.begin, self.first_part()));
+        out.text(" ... ").number(u64::from(steps - 2 * SHOWN)).text(" steps ...");
+        self.write_cells(heap, out, &self.last(cell, SHOWN - more));
     }
 }
 
-pub fn write_owner(heap: &Heap, out: &mut impl Write, owner: u32) -> io::Result<()> {
-    let object = &heap.cells[owner as usize];
-    write!(out, "owner {} {}", object.id, heap.kind_names[object.kind as usize])
+pub fn write_arrow(heap: &Heap, out: &mut Report<impl Write>, cell: u32) {
+    out.text(" -> ").number(u64::from(heap.id(cell))).text(" ").text(heap.name(cell));
+}
+
+pub fn write_owner(heap: &Heap, out: &mut Report<impl Write>, owner: u32) {
+    out.text("owner ").number(u64::from(heap.id(owner))).text(" ").text(heap.name(owner));
 }

@@ -1,148 +1,96 @@
-//! The trace of a heap: from the owners, and then from the roots, over one atomic word for each cell.
-use crate::heap::Heap;
+//! The trace of a heap: from the owners, and then from the roots, over the header words.
+use crate::heap::{Heap, COUNT, IS_MET_BY_ROOTS, IS_OWNER, IS_UNDER};
+use crate::slots::edge;
 use crossbeam_deque::{Stealer, Worker};
-use std::sync::atomic::{AtomicU64, AtomicUsize, Ordering::Relaxed, Ordering::SeqCst};
+use std::sync::atomic::{AtomicUsize, Ordering::Relaxed, Ordering::SeqCst};
 
-/// The low bits of a word count how often its cell was met.
-const COUNT: u64 = (1 << 56) - 1;
-const UNDER: u64 = 1 << 56;
-const MET_BY_ROOTS: u64 = 1 << 57;
-const KEPT: u64 = 1 << 58;
 /// A thread pays where a phase has so many cells for it.
 const CELLS_OF_A_THREAD: usize = 8_192;
+/// A worker with more cells gives so many of them to be stolen, while few are.
+const GIVEN: usize = 32;
 
-#[derive(Clone, Copy, PartialEq)]
-enum Phase {
-    Owners,
-    Roots,
+/// Meets a cell with one worker, and answers its word before.
+#[inline]
+fn meet_alone(heap: &Heap, marks: u64, cell: u32) -> u64 {
+    let word = &heap.header(cell).word;
+    let before = word.load(Relaxed);
+    word.store((before | marks) + 1, Relaxed);
+    before
 }
 
-pub struct Trace {
-    words: Vec<AtomicU64>,
-    pub is_owner: Vec<bool>,
-    pub traced: u32,
-    /// How many objects of each type are traced.
-    pub instances: Vec<u32>,
+#[inline]
+fn meet_shared(heap: &Heap, marks: u64, cell: u32) -> u64 {
+    let word = &heap.header(cell).word;
+    let before = word.fetch_add(1, Relaxed);
+    if marks & !before != 0 {
+        word.fetch_or(marks, Relaxed);
+    }
+    before
 }
 
-/// What one worker found.
-struct Found {
-    traced: u32,
-    instances: Vec<u32>,
-}
-
-impl Trace {
-    fn word(&self, cell: u32) -> u64 {
-        self.words[cell as usize].load(Relaxed)
-    }
-
-    pub fn is_kept(&self, cell: u32) -> bool {
-        self.word(cell) & KEPT != 0
-    }
-
-    pub fn is_under(&self, cell: u32) -> bool {
-        self.word(cell) & UNDER != 0
-    }
-
-    pub fn is_met_by_roots(&self, cell: u32) -> bool {
-        self.word(cell) & MET_BY_ROOTS != 0
-    }
-
-    pub fn references(&self, cell: u32) -> u64 {
-        self.word(cell) & COUNT
-    }
-
-    /// Meets a cell, and says whether it is the first meeting.
-    fn meet(&self, phase: Phase, cell: u32) -> bool {
-        let word = &self.words[cell as usize];
-        let before = word.fetch_add(1, Relaxed);
-        let is_first = before & COUNT == 0;
-        let marks = match phase {
-            Phase::Owners if is_first => UNDER | KEPT,
-            Phase::Owners => 0,
-            Phase::Roots if is_first => MET_BY_ROOTS | KEPT,
-            Phase::Roots => MET_BY_ROOTS,
-        };
-        if marks & !before != 0 {
-            word.fetch_or(marks, Relaxed);
-        }
-        is_first
-    }
-
-    /// Scans an object: meets what its edges lead to, and puts what is met first.
-    fn scan(&self, heap: &Heap, phase: Phase, cell: u32, found: &mut Found, mut put: impl FnMut(u32)) {
-        for (_, to) in heap.cells[cell as usize].edges() {
-            if self.meet(phase, to) {
-                self.win(heap, to, found, &mut put);
+/// Scans an object: meets what its edges lead to, puts what is met first, and answers how many that are.
+#[inline]
+fn scan(heap: &Heap, cell: u32, meet: impl Fn(u32) -> u64, mut put: impl FnMut(u32)) -> u32 {
+    let mut firsts = 0;
+    for to in heap.words(cell).iter().filter_map(|word| edge(*word)) {
+        let before = meet(to);
+        if before & COUNT == 0 {
+            firsts += 1;
+            if before & IS_OWNER == 0 {
+                put(to);
             }
         }
     }
+    firsts
+}
 
-    fn win(&self, heap: &Heap, cell: u32, found: &mut Found, put: &mut impl FnMut(u32)) {
-        found.traced += 1;
-        found.instances[heap.cells[cell as usize].kind as usize] += 1;
-        if !self.is_owner[cell as usize] {
-            put(cell);
-        }
+fn run_alone(heap: &Heap, marks: u64, mut work: Vec<u32>) -> u32 {
+    let mut firsts = 0;
+    while let Some(cell) = work.pop() {
+        firsts += scan(heap, cell, |to| meet_alone(heap, marks, to), |to| work.push(to));
     }
+    firsts
+}
 
-    fn found(heap: &Heap) -> Found {
-        Found { traced: 0, instances: vec![0; heap.kind_names.len()] }
+fn run_many(heap: &Heap, marks: u64, work: Vec<u32>, threads: usize) -> u32 {
+    let queues: Vec<Worker<u32>> = (0..threads).map(|_| Worker::new_lifo()).collect();
+    for (place, cell) in work.iter().enumerate() {
+        queues[place % threads].push(*cell);
     }
+    let crew = Crew { stealers: queues.iter().map(Worker::stealer).collect(), idle: AtomicUsize::new(0) };
+    std::thread::scope(|scope| {
+        let crew = &crew;
+        let running: Vec<_> = queues.into_iter().map(|queue| scope.spawn(move || crew.work(heap, marks, queue))).collect();
+        running.into_iter().map(|thread| thread.join().expect("a worker ends")).sum()
+    })
+}
 
-    /// Scans these cells and all that comes of them.
-    fn run(&mut self, heap: &Heap, phase: Phase, firsts: Vec<u32>, workers: usize) {
-        let threads = workers.min(heap.cells.len() / CELLS_OF_A_THREAD).max(1);
-        let found = if threads == 1 { vec![self.run_alone(heap, phase, firsts)] } else { self.run_many(heap, phase, firsts, threads) };
-        for part in found {
-            self.add(part);
-        }
-    }
-
-    fn add(&mut self, part: Found) {
-        self.traced += part.traced;
-        for (sum, more) in self.instances.iter_mut().zip(part.instances) {
-            *sum += more;
-        }
-    }
-
-    fn run_alone(&self, heap: &Heap, phase: Phase, firsts: Vec<u32>) -> Found {
-        let mut found = Self::found(heap);
-        let mut work = firsts;
-        while let Some(cell) = work.pop() {
-            self.scan(heap, phase, cell, &mut found, |cell| work.push(cell));
-        }
-        found
-    }
-
-    fn run_many(&self, heap: &Heap, phase: Phase, firsts: Vec<u32>, threads: usize) -> Vec<Found> {
-        let queues: Vec<Worker<u32>> = (0..threads).map(|_| Worker::new_lifo()).collect();
-        for (place, cell) in firsts.iter().enumerate() {
-            queues[place % threads].push(*cell);
-        }
-        let crew = Crew { stealers: queues.iter().map(Worker::stealer).collect(), idle: AtomicUsize::new(0) };
-        std::thread::scope(|scope| {
-            let running: Vec<_> = queues.into_iter().map(|queue| scope.spawn(|| self.work(heap, phase, queue, &crew))).collect();
-            running.into_iter().map(|thread| thread.join().expect("a worker ends")).collect()
-        })
-    }
-
-    fn work(&self, heap: &Heap, phase: Phase, queue: Worker<u32>, crew: &Crew) -> Found {
-        let mut found = Self::found(heap);
-        while let Some(cell) = queue.pop().or_else(|| crew.steal(&queue)) {
-            self.scan(heap, phase, cell, &mut found, |cell| queue.push(cell));
-        }
-        found
+/// Scans these cells and all that comes of them, and answers how many objects were met first.
+fn run(heap: &Heap, marks: u64, work: Vec<u32>, workers: usize) -> u32 {
+    match workers.min(heap.headers.len() / CELLS_OF_A_THREAD) {
+        0 | 1 => run_alone(heap, marks, work),
+        threads => run_many(heap, marks, work, threads),
     }
 }
 
-/// The queues of all workers of a phase, and how many of the workers have nothing to do.
+/// The queues of all workers of a phase, from which others steal, and how many of the workers have nothing to do.
 struct Crew {
     stealers: Vec<Stealer<u32>>,
     idle: AtomicUsize,
 }
 
 impl Crew {
+    fn work(&self, heap: &Heap, marks: u64, queue: Worker<u32>) -> u32 {
+        let (mut firsts, mut work) = (0, Vec::new());
+        while let Some(cell) = work.pop().or_else(|| queue.pop()).or_else(|| self.steal(&queue)) {
+            firsts += scan(heap, cell, |to| meet_shared(heap, marks, to), |to| work.push(to));
+            if work.len() > 2 * GIVEN && queue.is_empty() {
+                work.drain(..GIVEN).for_each(|cell| queue.push(cell));
+            }
+        }
+        firsts
+    }
+
     fn try_steal(&self, queue: &Worker<u32>) -> Option<u32> {
         self.stealers.iter().find_map(|stealer| stealer.steal_batch_and_pop(queue).success())
     }
@@ -165,30 +113,34 @@ impl Crew {
     }
 }
 
-pub fn trace(heap: &Heap, workers: usize) -> Trace {
-    let mut trace = Trace {
-        words: (0..heap.cells.len()).map(|_| AtomicU64::new(0)).collect(),
-        is_owner: vec![false; heap.cells.len()],
-        traced: 0,
-        instances: vec![0; heap.kind_names.len()],
-    };
+/// The cells of the owners of live ownees, each marked as one.
+fn owners(heap: &Heap) -> Vec<u32> {
     let mut owners = Vec::new();
-    for owner in heap.owners.values() {
-        if let Some(cell) = heap.cell(*owner) {
-            if !std::mem::replace(&mut trace.is_owner[cell as usize], true) {
-                owners.push(cell);
+    for owner in heap.owners.values().filter(|owner| heap.is_live(owner)) {
+        let header = heap.header(owner.cell);
+        if !header.has(IS_OWNER) {
+            header.set(IS_OWNER);
+            owners.push(owner.cell);
+        }
+    }
+    owners
+}
+
+/// Traces the heap, and answers how many objects are traced.
+pub fn trace(heap: &Heap, workers: usize) -> u32 {
+    let owners = owners(heap);
+    // (only an ownee may not be met by roots)
+    let marks = if heap.owners.is_empty() { 0 } else { IS_MET_BY_ROOTS };
+    let mut traced = run(heap, IS_UNDER, owners, workers);
+    let mut work = Vec::new();
+    for cell in heap.roots.cells() {
+        let before = meet_alone(heap, marks, cell);
+        if before & COUNT == 0 {
+            traced += 1;
+            if before & IS_OWNER == 0 {
+                work.push(cell);
             }
         }
     }
-    trace.run(heap, Phase::Owners, owners, workers);
-    let mut firsts = Vec::new();
-    let mut found = Trace::found(heap);
-    for cell in heap.roots.values() {
-        if trace.meet(Phase::Roots, *cell) {
-            trace.win(heap, *cell, &mut found, &mut |cell| firsts.push(cell));
-        }
-    }
-    trace.add(found);
-    trace.run(heap, Phase::Roots, firsts, workers);
-    trace
+    traced + run(heap, marks, work, workers)
 }
