@@ -364,8 +364,8 @@ SHORT = [
     "1 worker, s",
     "/ plain Rust",
     "without reading",
-    "2 workers",
-    "4 workers",
+    "2 workers / 1",
+    "4 workers / 1",
     "4 / plain Rust's 4",
     "Peak MB",
     "/ plain Rust's",
@@ -374,7 +374,7 @@ SHORT = [
 
 def compare(traces, plain, options):
     """The table of workers, and a shorter one behind it."""
-    head(["Trace", "Workers", "Clock, s", "Processors, s", *BESIDE, "Peak MB", "of plain Rust"])
+    head(["Trace", "Workers", "Clock, s", "Processors, s", *BESIDE, "Peak MB", "of plain Rust"], "TABLES.md: Large heaps")
     short, plotted = [], []
     with tempfile.TemporaryDirectory() as folder:
         files = [os.path.join(folder, name) for name in ("trace", "still")]
@@ -389,7 +389,7 @@ def compare(traces, plain, options):
                 row("the same" if number else label, str(workers), *times, f"{ours.peak:.1f}", f"{its.peak:.1f}")
             short.append(short_row(name, lines, found))
             plotted.append((name, [ours.clock / its.clock for ours, its in zip(found.ours, found.its)]))
-    head(SHORT)
+    head(SHORT, "README.md: Large heaps")
     for cells in short:
         row(*cells)
     if options.plot:
@@ -408,7 +408,7 @@ def short_row(name, lines, found):
 
 def grow(traces, plain, options):
     """The table of growth."""
-    head(["Trace", "Size", "Clock, s", "Processors, s", "/ half the size", *BESIDE, "Peak MB", "of plain Rust"])
+    head(["Trace", "Size", "Clock, s", "Processors, s", "/ half the size", *BESIDE, "Peak MB", "of plain Rust"], "TABLES.md: Growth of large heaps")
     plotted = []
     with tempfile.TemporaryDirectory() as folder:
         files = [os.path.join(folder, name) for name in ("trace", "still")]

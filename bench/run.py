@@ -3,23 +3,29 @@
 
 Usage: bench/run.py [--small] [--turns N] [--before PROGRAM] [--plot FILE] [--plot-growth FILE] [--plot-memory FILE]
        bench/run.py --reading [--full] [--small] [--turns N] [--plot FILE]
+       bench/run.py --shape jvm [--objects N ..] [--classes N ..] [--turns N] [--before PROGRAM]
 
 The first prints lines and megabytes a second and peaks of memory. Each trace is run at one size and at twice that size, so that the ratio
 of the two times can be read. `wc -l` over the same file, in the same run, is the yardstick for the machine. If cargo can build it, the
 plain Rust program in bench/plain_rust runs over the same file as well, and must write the same report. Once more it only reads the lines with
-serde's derive into a struct that borrows, and once it builds serde_json's `Value` for each.
+serde into a struct that borrows, and once it builds serde_json's `Value` for each. The tables of README.md and TABLES.md come after that, in
+Markdown.
 --reading             lines of some kinds that change next to nothing: gcaudit with 1, 2 and 4 workers, against plain Rust that only reads them
                       and `wc -l`, which have one each; by the clock, and the time of all processors with it. Ratios are the median of
                       those of each turn
 --full                as many copies of each program at once as fill the processors, half as many with two workers; its time is the mean of theirs.
                       If processors are hyperthreads, two to a core, one is up to twice as fast while the other idles. Then a program alone
                       can't be compared with four threads
+--shape jvm           the heap that is like a JVM's of bench/plain_rust (`jvm_like`), with one worker: gcaudit, if it is built and the heap is within
+                      its limits, and plain Rust with `--large`. Ratios are the median of those of each turn
+--objects N ..        each heap of that shape with so many objects (1,000,000)
+--classes N ..        and of so many classes (2,000)
 --small               a tenth of the sizes
 --turns N             the number of turns; the fastest time counts (5)
 --before PROGRAM      another program, for example an earlier build, over the same traces in turn: the last columns say how many times as
                       long it took, and its peak of memory
 --plot FILE           a picture of the times relative to plain Rust, as SVG; with --reading, relative to both ways of plain Rust with one
-                      worker, and to derive with four
+                      worker, and to plain Rust in one pass with four
 --plot-growth FILE    a picture of the time of each trace relative to half of it
 --plot-memory FILE    a picture of the peaks of memory
 gcaudit must be built: ./build gcaudit builds it. Nothing here is part of the gate.
@@ -300,9 +306,22 @@ SHAPES = [
     (lone_roots, 130_000),
     (service, 100_000),
 ]
+# What README and TABLES call them, where it isn't their name.
+CALLED = {"sparse": "sparse ids", "names": "many types"}
+SAID = {
+    "chain": "chain: objects in a row",
+    "sparse": "sparse: the tree, with ids that rise by 4,096",
+    "collections": "collections: 100 objects between two",
+    "roots": "roots: names set, replaced and taken away",
+    "names": "names: many types",
+    "long names": "long names of 250 bytes",
+    "service": "service: large heaps, some collections",
+}
+# The objects that gcaudit takes.
+MOST_OBJECTS = 1_048_576
 # Of the table of reading.
 WORKERS_THAT_READ = (1, 2, 4)
-BESIDE_READING = ["/ plain Rust by `Value`", "/ by derive", "/ `wc -l`"]
+BESIDE_READING = ["/ plain Rust by `Value`", "/ in one pass", "/ `wc -l`"]
 # The columns of the first table, with their widths; negative where the words are on the left.
 COLUMNS = {
     "trace": -12,
@@ -373,6 +392,36 @@ def peaks_in_megabytes(*runs):
     return [run.peak / 1024 for run in runs]
 
 
+def parts_of_plain(found):
+    """Our time beside plain Rust, beside it when it only reads, and beside it when it reads by `Value`."""
+    return [f"{found.ours.seconds / plain.seconds:.2f}" for plain in found.plains] or ["", "", ""]
+
+
+def show_tables(whole):
+    """The tables of the documents."""
+    head(["Trace", "Lines", "Time / plain Rust", "Time / only reading", "Time / reading by `Value`"], "README.md: Beside plain Rust")
+    for found, _ in whole:
+        row(CALLED.get(found.name, found.name), f"{found.lines:,}", *parts_of_plain(found))
+    head(["Trace", "Times as long"], "README.md: Growth")
+    for found, half in whole:
+        row(CALLED.get(found.name, found.name), f"{found.ours.seconds / half.ours.seconds:.2f}")
+    head(["Trace", "Lines", "Peak MB", "/ plain Rust's"], "README.md: Memory")
+    for found, _ in whole:
+        its = share_of_peak(found.ours, found.plains[0]) if found.plains else ""
+        row(CALLED.get(found.name, found.name), f"{found.lines:,}", f"{found.ours.peak / 1024:.1f}", its)
+    long = ["Trace", "Lines", "Peak MB", "Time / `wc -l`", "Time / plain Rust", "Time / only reading", "Time / reading by `Value`", "Twice"]
+    head(long, "TABLES.md: Beside plain Rust")
+    for pair in whole:
+        for found, half in ((pair[1], None), pair):
+            name, twice = SAID.get(found.name, found.name), f"{found.ours.seconds / half.ours.seconds:.2f}" if half else ""
+            of_machine = f"{found.ours.seconds / found.counted.seconds:.1f}"
+            row(name, f"{found.lines:,}", f"{found.ours.peak / 1024:.1f}", of_machine, *parts_of_plain(found), twice)
+
+
+def share_of_peak(ours, its):
+    return f"{ours.peak / its.peak:.2f}"
+
+
 def draw(whole, options):
     """The pictures, of pairs of the times of a trace and of half of it."""
     if options.plot:
@@ -397,6 +446,7 @@ def time_traces(plain, options):
             show_row(half, None)
             whole.append((time_trace(shape, 2 * size // options.scale, path, plain, options), half))
             show_row(*whole[-1])
+    show_tables(whole)
     draw(whole, options)
 
 
@@ -434,8 +484,10 @@ def time_lines(name, lines, path, plain, options):
     return Reading(name, os.path.getsize(path) / 1e6, ours, others)
 
 
-def head(columns):
-    print(f"\n| {' | '.join(columns)} |\n| --- |{' ---: |' * (len(columns) - 1)}", flush=True)
+def head(columns, place=None):
+    """The first lines of a table, and before them where in the documents it stands, for bench/tables.py."""
+    print(f"\n<!-- {place} -->" if place else "")
+    print(f"| {' | '.join(columns)} |\n| --- |{' ---: |' * (len(columns) - 1)}", flush=True)
 
 
 def row(*cells):
@@ -464,20 +516,63 @@ def short_cells(found):
 
 def time_reading(plain, options):
     """The table of reading with each number of workers, in Markdown, and a shorter one behind it."""
-    head(["Lines", "Workers", "Clock, s", "Processors, s", "MB/s", *BESIDE_READING])
+    head(["Lines", "Workers", "Clock, s", "Processors, s", "MB/s", *BESIDE_READING], "TABLES.md: Reading by more workers")
     readings = []
     with tempfile.TemporaryDirectory() as folder:
         path = os.path.join(folder, "trace.jsonl")
         for name, lines in LINES.items():
             readings.append(time_lines(name, lines, path, plain, options))
             show_workers(readings[-1])
-    head(["Lines", "MB", "gcaudit, s", "MB/s", *BESIDE_READING, *(f"{workers} workers: clock, processors" for workers in WORKERS_THAT_READ[1:])])
+    more = (f"{workers} workers / 1: clock, processors" for workers in WORKERS_THAT_READ[1:])
+    head(["Lines", "MB", "gcaudit, s", "MB/s", *BESIDE_READING, *more], "README.md: Reading alone")
     for found in readings:
         row(*short_cells(found))
     if options.plot:
         rows = [(found.name, [*found.beside(0)[:2], found.beside(-1)[1]]) for found in readings]
-        columns = ("by Value", "by derive", f"by derive, with {WORKERS_THAT_READ[-1]} workers")
+        columns = ("by Value", "in one pass", f"in one pass, with {WORKERS_THAT_READ[-1]} workers")
         bars(options.plot, "Time of reading lines, relative to plain Rust", columns, rows, mark=1)
+
+
+# ---- a heap like a JVM's
+
+JVM_COLUMNS = ["Objects", "Classes", "Lines", "MB", "Program", "Clock, s", "Processors, s", "MB/s", "Peak MB", "Bytes an object", "Processors / plain Rust"]
+
+
+def jvm_programs(objects, plain, options):
+    """The names and commands of the programs that can audit so many objects; plain Rust is the last."""
+    programs = []
+    if objects <= MOST_OBJECTS and os.access(PROGRAM, os.X_OK):
+        programs.append(("gcaudit", [PROGRAM]))
+    if options.before:
+        programs.append((os.path.basename(options.before), [options.before]))
+    return [*programs, ("plain Rust", [plain, "--large"])]
+
+
+def time_jvm(plain, options):
+    """The table of heaps like a JVM's."""
+    head(JVM_COLUMNS, "README.md: A heap like a JVM's")
+    generator = os.path.join(os.path.dirname(plain), "jvm_like")
+    with tempfile.TemporaryDirectory() as folder:
+        path = os.path.join(folder, "trace.jsonl")
+        for objects in (number // options.scale for number in options.objects):
+            for classes in options.classes:
+                with open(path, "wb") as trace:
+                    subprocess.run([generator, "--objects", str(objects), "--classes", str(classes)], stdout=trace, check=True)
+                show_jvm(objects, classes, path, jvm_programs(objects, plain, options), options.turns)
+
+
+def show_jvm(objects, classes, path, programs, turns):
+    """The rows of one heap, one for each program. All must write the same report."""
+    (counted,) = best([["wc", "-l"]], path, 1)
+    lines, megabytes = int(counted.output.split()[0]), os.path.getsize(path) / 1e6
+    runs = in_turns([command for _, command in programs], path, turns)
+    if len({run.output for tries in runs for run in tries}) > 1:
+        sys.exit(f"the reports on {objects:,} objects of {classes:,} classes differ")
+    for (name, _), tries in zip(programs, runs):
+        run, peak = least(tries), max(run.peak for run in tries)
+        part = f"{median_part(tries, runs[-1], processors):.2f}" if tries is not runs[-1] else ""
+        times = (f"{run.seconds:.2f}", f"{min(run.processors for run in tries):.2f}", f"{megabytes / run.seconds:.0f}")
+        row(f"{objects:,}", f"{classes:,}", f"{lines:,}", f"{megabytes:.0f}", name, *times, f"{peak / 1024:.0f}", f"{peak * 1024 / objects:.0f}", part)
 
 
 def read_words():
@@ -487,6 +582,9 @@ def read_words():
     parser = argparse.ArgumentParser(usage="bench/run.py [options], as bench/run.py --help says", add_help=False)
     parser.add_argument("--reading", action="store_true")
     parser.add_argument("--full", action="store_true")
+    parser.add_argument("--shape", choices=["jvm"])
+    parser.add_argument("--objects", type=int, nargs="+", default=[1_000_000])
+    parser.add_argument("--classes", type=int, nargs="+", default=[2_000])
     parser.add_argument("--small", dest="scale", action="store_const", const=10, default=1)
     parser.add_argument("--turns", type=int, default=TRIES)
     for word in ("--before", "--plot", "--plot-growth", "--plot-memory"):
@@ -496,6 +594,9 @@ def read_words():
 
 def main():
     options = read_words()
+    if options.shape:
+        time_jvm(need_plain_rust(), options)
+        return
     need_programs(PROGRAM)
     if options.reading:
         time_reading(need_plain_rust(), options)
