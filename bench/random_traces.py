@@ -521,11 +521,42 @@ def check_main(count, first):
     sys.exit(1 if wrong else 0)
 
 
+def churning_trace(seed):
+    """Objects that come and go by hundreds, with up to 200 slots, and with ids that rise by one for a while and by thousands later."""
+    rng, model, events, greatest = random.Random(seed), Heap(), [], 0
+
+    def add(event):
+        model.step(event)
+        events.append(event)
+
+    for _ in range(rng.randint(3, 6)):
+        step, kept = rng.choice((1, 1, 1, 3, 60, 5_000)), rng.choice((0.02, 0.3, 0.9))
+        for _ in range(rng.randint(100, 900)):
+            greatest += rng.randint(1, step)
+            add({"op": "alloc", "id": greatest, "type": f"K{greatest % 7}", "slots": rng.choice((0, 1, 2, 3, 64, 65, rng.randint(0, 200)))})
+            if rng.random() < kept:
+                add({"op": "root", "name": f"r{rng.randrange(900)}", "to": greatest})
+        live = list(model.kind)
+        for at in rng.sample(live, len(live) // 2):
+            if model.slots[at]:
+                slot = rng.randrange(len(model.slots[at]))
+                add({"op": "store", "at": at, "slot": slot, "to": rng.choice(live)})
+                add({"op": "set-weak", "at": at, "slot": slot, "weak": rng.random() < 0.1})
+        for name in [name for name in model.roots if rng.random() > kept]:
+            add({"op": "root", "name": name, "to": None})
+        for number, id in enumerate(rng.sample(live, min(len(live), 20))):
+            add({"op": ("assert-dead", "assert-unshared")[number % 2], "id": id})
+        events.append({"op": "collect"})
+        model.collect(1, paths=0)
+    return events
+
+
 def plain_main(count, first):
-    """Compares the plain Rust program: read in one pass and by `Value`, by three workers, and with larger limits."""
+    """Compares the plain Rust program: read in one pass and by `Value`, by three workers, and with larger limits. Of 50 traces one is larger."""
     program, wrong = need_plain_rust(), 0
     for seed in range(first, first + count):
-        events, paths = random_trace(seed), PATHS if seed % 5 else seed % 7
+        events = random_trace(seed) if seed % 50 else churning_trace(seed)
+        paths = PATHS if seed % 5 else seed % 7
         lines, status = report_of(events, paths)
         trace = as_lines(events)
         for words in ((), ("--value",), ("--workers", "3"), ("--large",)):
